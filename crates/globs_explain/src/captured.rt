@@ -18,10 +18,6 @@ struct Place {
 }
 
 /// Adds whether the glob matches the path, and its captures.
-///
-/// # Errors
-///
-/// Returns `NoMemory` if allocation fails for the match.
 pub fn add_match(
     alloc: Global,
     glob: &Glob<'_>,

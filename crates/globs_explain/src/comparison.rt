@@ -16,10 +16,6 @@ pub enum Question {
 
 /// Adds the answer for plain paths: `none`, `unknown`, or a shortest path with what each glob captures
 /// of it.
-///
-/// # Errors
-///
-/// Returns `NoMemory` if allocation fails.
 pub fn add_answer(
     alloc: Global,
     question: Question,

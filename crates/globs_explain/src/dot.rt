@@ -8,10 +8,6 @@ use wax::NoMemory;
 use wax::token::{ExpressionMetadata, Token};
 
 /// Adds the graph: the expression above its tokens, and each token above those in it.
-///
-/// # Errors
-///
-/// Returns `NoMemory` if allocation fails for the list of tokens.
 pub fn add_graph(
     alloc: Global,
     expression: &str,

@@ -6,10 +6,6 @@ use wax::query::{DepthVariance, When};
 use wax::{Glob, NoMemory, Program};
 
 /// Adds the depth, the only text, the root and the exhaustiveness, each on a line.
-///
-/// # Errors
-///
-/// Returns `NoMemory` if allocation fails for the text.
 pub fn add_facts(alloc: Global, glob: &Glob<'_>, page: &mut Page) -> Result<(), NoMemory> {
     add_depth(glob.depth(), page);
     page.add("text        ");

@@ -7,10 +7,6 @@ use wax::NoMemory;
 use wax::token::{Evaluation, ExpressionMetadata, LeafKind, Token, Topology, Wildcard};
 
 /// Adds a line for each token: its span, its text, what it is, and the number of its capture.
-///
-/// # Errors
-///
-/// Returns `NoMemory` if allocation fails for the list of tokens.
 pub fn add_tree(
     alloc: Global,
     expression: &str,

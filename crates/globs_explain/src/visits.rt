@@ -17,10 +17,6 @@ pub struct Visit<'v, 't> {
 
 /// Lists each token before those in it, from left to right. The whole isn't among them if it is a
 /// sequence.
-///
-/// # Errors
-///
-/// Returns `AllocError` if allocation fails.
 pub fn visits<'v, 't>(
     alloc: Global,
     whole: &'v Token<'t, ExpressionMetadata>,

@@ -10,13 +10,13 @@ use Rattle.wax_exclude.specs.GlobRequests.{IsRuleOf}
 use Rattle.wax_exclude.specs.Marks.{not_mark}
 use Rattle.wax_exclude.specs.Walked.{ExcludesBelow}
 use Rattle.wax_exclude.specs.Wanted.{Filter, excludes}
-use Rattle.wax_glob_walk.specs.Programs.{any_mark}
+use Rattle.wax_tree.specs.Programs.{any_mark}
 use Rattle.wax_walk.specs.Candidates.{Candidate}
 use Rattle.wax_query.specs.Below.{IsBelow}
 use Rattle.wax_walk.proofs.Collecting.{map_ok}
 use Rattle.wax_walk.specs.Given.{Mark, with_tree}
 use Rattle.wax_set.specs.Patterns.{SpellEach}
-use Rattle.wax_error.specs.declared.build_error.BuildError.{BuildError}
+use Rattle.wax_set.specs.declared.error.build_error.BuildError.{BuildError}
 use Rattle.wax.specs.Exclusions.{FitsAlone, IsAnyExclusionOf, IsExclusionOf, NoAnyExclusion, NoExclusion}
 
 -- the first of those that are left is taken

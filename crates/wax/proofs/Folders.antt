@@ -1,6 +1,6 @@
 -- Globs that match a folder and everything below it.
 use Rattle.std.proofs.Common.{◌≡◌, ◌↔◌, ℕ, false, List, Option, None, Some, IfSome, Bor, chars, subst}
-use Rattle.wax_alternatives.proofs.Means.{as_members, of_members}
+use Rattle.wax_facts.proofs.Means.{as_members, of_members}
 use Rattle.wax_prefilter.specs.Within.{IsInFolder}
 use Rattle.wax_token.specs.Meaning.{Means, MeansEach}
 use Rattle.wax_token.specs.Reads.{Span}

@@ -6,7 +6,7 @@ use Rattle.wax_exclude.proofs.BeginsLeast.{comes_so as comes_in_range}
 use Rattle.wax_exclude.proofs.SplitPrefixes.{same_split}
 use Rattle.wax_exclude.proofs.StackingRequests.{any_alone}
 use Rattle.wax_exclude.proofs.Telling.{ruled_takes}
-use Rattle.wax_glob_walk.specs.Programs.{leading_mark, leads, means_mark}
+use Rattle.wax_tree.specs.Programs.{leading_mark, leads, means_mark}
 use Rattle.wax_components.specs.Depth.{Depth}
 use Rattle.wax_directory.specs.Law.{Law}
 use Rattle.wax_directory.specs.Shown.{Shown}

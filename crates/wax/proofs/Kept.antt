@@ -2,7 +2,7 @@
 use Rattle.std.proofs.Common.{◌≡◌, ◌∙◌, ℕ, ◌+◌, ◌≤◌, false, List, [], ◌∷◌, ◌++◌, filter, refl, ap, subst, arith, inl, inr}
 use Rattle.wax_directory.specs.Counting.{grown}
 use Rattle.wax_directory.specs.Law.{Law}
-use Rattle.wax_walk.specs.Collected.{GaveAll, whole, lacks_memory, over_budget, Took, all_fault_counts, all_items_lost, count_to_open}
+use Rattle.wax_walk.specs.Collected.{Yielded, whole, lacks_memory, over_budget, Took, all_fault_counts, all_items_lost, count_to_open}
 use Rattle.wax_walk.specs.Forest.{nothing, pending}
 use Rattle.wax_walk.specs.Candidates.{Candidate}
 use Rattle.wax_walk.specs.Given.{Mark, Given, is_kept, no_memory}
@@ -88,7 +88,7 @@ all_listed [] = refl
 all_listed (x ∷ listed) = ap (λ l. x ∷ l) (all_listed listed)
 
 pub keeps_nothing : (tells : List (List ℕ) → Type 0) (budget : ℕ) (listed : List (List ℕ)) (xs ys : List Given)
-    → GaveAll tells (budget + 1) (pending nothing nothing listed 0) xs → ys ≡ filter is_kept xs
+    → Yielded tells (budget + 1) (pending nothing nothing listed 0) xs → ys ≡ filter is_kept xs
     → KeepsNothing tells listed ys
 keeps_nothing tells budget listed xs ys (whole e told) same =
     none_kept (same ∙ ap (filter is_kept) e) (subst tells (all_listed listed) told)

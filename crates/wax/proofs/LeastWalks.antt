@@ -1,6 +1,6 @@
 -- What is to come of a glob's walk that opens only folders below which something is matched.
 use Rattle.std.proofs.Common.{◌≡◌, ◌∙◌, ◌≤◌, ◌<◌, ◌+◌, ◌&&◌, ℕ, Bool, false, List, [], length, refl, sym, ap, subst, inl, inr, arith}
-use Rattle.wax_compiled.specs.Below.{goes_test}
+use Rattle.wax_prefilter.specs.Below.{goes_test}
 use Rattle.wax_components.specs.Depth.{Depth}
 use Rattle.wax_directory.specs.Law.{Law}
 use Rattle.wax_exclude.proofs.BeginsLeast.{begins_least, fails_ended, lacks_selected, least_beyond, least_shown}
@@ -10,7 +10,7 @@ use Rattle.wax_exclude.specs.Prefix.{HasEmptyName, PrefixSplitsInto}
 use Rattle.wax_exclude.specs.Pruned.{CanWalkLeast, by_matches, opens_where}
 use Rattle.wax_exclude.specs.Wanted.{Filter}
 use Rattle.wax_facts.specs.Prefix.{Prefix}
-use Rattle.wax_glob_walk.specs.Programs.{matches_below, matches_from}
+use Rattle.wax_tree.specs.Programs.{matches_below, matches_from}
 use Rattle.wax_query.specs.Ranges.{Bounds}
 use Rattle.wax_token.specs.Reads.{Span}
 use Rattle.wax_token.specs.Syntax.{Tree}

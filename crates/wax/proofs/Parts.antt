@@ -6,7 +6,7 @@ use Rattle.wax_token.specs.Cost.{program_length}
 use Rattle.wax_token.specs.Reads.{Reads, Span}
 use Rattle.wax_token.specs.Syntax.{Tree, none, more}
 use Rattle.wax_token.specs.declared.token.Tokenized.{Tokenized}
-use Rattle.wax_break.specs.Rules.{broken}
+use Rattle.wax_facts.specs.Rules.{broken}
 use Rattle.wax_facts.specs.Orderly.{Flat, Full, Orderly}
 use Rattle.wax_facts.specs.Partition.{rest_end}
 use Rattle.wax_facts.specs.Prefix.{Cut, Prefix, or_nothing, taken}

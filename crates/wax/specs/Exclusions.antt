@@ -1,4 +1,4 @@
--- Patterns that are left out of walks.
+-- Patterns that are excluded from walks.
 use Rattle.std.specs.Prelude.{◌≡◌, ◌<◌, ◌≤◌, ◌⊎◌, false, List, map}
 use Rattle.wax_exclude.specs.GlobRequests.{IsRuleOf}
 use Rattle.wax_token.specs.Cost.{program_length}
@@ -10,10 +10,10 @@ use Rattle.wax_walk.specs.Ruled.{ruled_view}
 use Rattle.wax_walk.specs.View.{IsSeenAs, WalkView}
 use Rattle.wax_exclude.specs.Marks.{not_mark}
 use Rattle.wax_exclude.specs.Wanted.{not_meant}
-use Rattle.wax_glob_walk.specs.Programs.{any_mark}
+use Rattle.wax_tree.specs.Programs.{any_mark}
 use Rattle.wax_set.specs.Patterns.{IsFirstRefused, IsOnly, SpellEach, WhyNotBuilt}
-use Rattle.wax_error.specs.declared.build_error.BuildError.{BuildError}
-use Rattle.wax_error.specs.declared.build_error.BuildError.TheVariants.{Memory}
+use Rattle.wax_set.specs.declared.error.build_error.BuildError.{BuildError}
+use Rattle.wax_set.specs.declared.error.build_error.BuildError.TheVariants.{Memory}
 use Rattle.wax.specs.declared.ignoring.IgnoreList.{IgnoreList}
 use Rattle.wax.specs.declared.walk_filter.WalkFilter.{WalkFilter}
 use Rattle.wax.specs.declared.walk_filter.WalkFilter.TheVariants.{Not, Ignore}
@@ -28,7 +28,7 @@ pub record FitsAlone (SpellsTree : Tree Span → Type 0) (t : Tree Span) : Type 
 abbrev pub IsExclusionOf : (Tree Span → Type 0) → (Candidate → Mark) → Type 0
 IsExclusionOf SpellsTree rule = (t : Tree Span) × FitsAlone SpellsTree t × (rule ≡ not_mark t)
 
--- why nothing is left out: the pattern is refused, or its tree would cost too much
+-- why nothing is excluded: the pattern has an error, or its tree would cost too much
 abbrev pub NoExclusion : (Tree Span → Type 0) → (BuildError → Type 0) → BuildError → Type 0
 NoExclusion SpellsTree RefusesAs =
     WhyNotBuilt RefusesAs ((t : Tree Span) × IsOnly SpellsTree t × (1048576 < program_length t))
@@ -40,7 +40,7 @@ abbrev pub IsAnyExclusionOf : {P : Type 0} → (P → Tree Span → Type 0) → 
 IsAnyExclusionOf SpellsTree patterns rule = (ts : List (Tree Span))
     × SpellEach (λ p. FitsAlone (SpellsTree p)) patterns ts × (rule ≡ any_mark (map not_mark ts))
 
--- why nothing is left out: the reason of the first pattern that has one, or want of memory
+-- why nothing is excluded: the reason of the first pattern that has one, or memory ran out
 abbrev pub NoAnyExclusion : {P : Type 0} → (P → Tree Span → Type 0) → (P → BuildError → Type 0) → List P
     → BuildError → Type 0
 NoAnyExclusion SpellsTree RefusesAs patterns error = (error ≡ Memory) ⊎ IsFirstRefused
@@ -48,7 +48,7 @@ NoAnyExclusion SpellsTree RefusesAs patterns error = (error ≡ Memory) ⊎ IsFi
 
 -- ---- walks
 
--- one walk is seen as the other less what the tree that is spelled means
+-- one walk is seen as the other without what the spelled tree matches
 abbrev pub IsWalkExcluding : {D : Type 0} → (Tree Span → Type 0) → WalkView D → WalkView D → Type 0
 IsWalkExcluding SpellsTree inner outer = (t : Tree Span) × FitsAlone SpellsTree t
     × IsSeenAs (ruled_view inner (not_mark t) false) outer

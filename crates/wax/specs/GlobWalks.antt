@@ -45,11 +45,11 @@ pub record Beginning (t : Tree Span) : Type 0 where
   pub names : List (List ℕ)
   pub names_are : PrefixSplitsInto prefix rooted names
 
--- what the glob wants, less what these filters leave out
+-- what the glob wants, without what these filters exclude
 abbrev pub wants : (t : Tree Span) → Beginning t → List (Filter Span) → Wanted Span
 wants t b filters = record { rooted = b.rooted; glob = t; filters = filters }
 
--- what is wanted of the walk of a glob, less what these filters leave out
+-- what is wanted of the walk of a glob, without what these filters exclude
 abbrev pub request_by : {t : Tree Span} → Pruning → List ℕ → DepthRange → Bounds → Beginning t
     → List (Filter Span) → GlobRequest
 request_by {t} pruning start asked depth b filters =
@@ -148,7 +148,7 @@ pub record GaveBy (pruning : Pruning) {D C : Type 0} (t : Tree Span) (law : Law 
   pub refused : ℕ
   pub refuses : refused ≤ (all_fault_counts xs).failures
   pub begun : ℕ
-  -- the walk began, or it leads nowhere, or it was only told that memory ran out
+  -- the walk began, or it leads nowhere, or its only item is that memory ran out
   pub begun_is : (begun ≡ 1) ⊎ ((begun ≡ 0) × (new ≡ d)
       × (((depth : Bounds) × Depth t depth × ((b : Beginning t) → up_to asked.max depth.1 < length b.names))
       ⊎ ¬ (NoMemoryError xs)))
@@ -172,7 +172,7 @@ FailsAtFolders t start asked xs = (b : Beginning t) → (depth : Bounds) × Dept
     × AreOfFolders (IsPassed asked.min (origin_from start b.rooted b.names).path b.names)
     (is_above (up_to asked.max depth.1)) xs
 
--- nothing was kept, and no folder was listed; or it was only told that memory was refused
+-- nothing was kept, and no folder was listed; or the only item is that memory ran out
 pub data KeepsNothing (tells : List (List ℕ) → Type 0) (listed : List (List ℕ)) (ys : List Given) : Type 0
   where
     none_kept : ys ≡ [] → tells listed → KeepsNothing tells listed ys

@@ -1,8 +1,8 @@
 -- What is proved of globs, on one page: which expressions are accepted, which texts match, and what a walk
 -- yields. The contracts of `Glob` are written in these words.
 use Rattle.std.specs.Prelude.{◌≡◌, ◌<◌, ◌≤◌, ℕ, List, [], Result, Ok, Err, ⊤}
-use Rattle.wax_error.specs.declared.build_error.BuildError.{BuildError}
-use Rattle.wax_error.specs.declared.build_error.BuildError.TheVariants.{Parse, Rule, Compile, Memory}
+use Rattle.wax_set.specs.declared.error.build_error.BuildError.{BuildError}
+use Rattle.wax_set.specs.declared.error.build_error.BuildError.TheVariants.{Parse, Rule, Compile, Memory}
 use Rattle.wax_parse.specs.Accepted.{IsPlace}
 use Rattle.wax_rule.specs.FirstBreak.{TellsFirst}
 use Rattle.wax_token.specs.Syntax.{Tree}
@@ -37,7 +37,7 @@ pub use Rattle.wax.specs.GlobView.{GlobView, HasCaptures, IsMeant}
 pub use Rattle.wax_token.specs.Meaning.{Means}
 -- ---- Expressions (`Glob::new`): accepted are exactly those that spell a tree (`Reads`) which breaks no rule
 -- (`broken`) and fits (`program_length`).
-pub use Rattle.wax_break.specs.Rules.{broken}
+pub use Rattle.wax_facts.specs.Rules.{broken}
 pub use Rattle.wax_token.specs.Cost.{program_length}
 pub use Rattle.wax_token.specs.Reads.{Reads, Span}
 

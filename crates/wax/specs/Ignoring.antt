@@ -8,9 +8,9 @@ use Rattle.wax_token.specs.Reads.{Span}
 use Rattle.wax_walk.specs.Ruled.{ruled_view}
 use Rattle.wax_walk.specs.View.{IsSeenAs, WalkView}
 use Rattle.wax.specs.Exclusions.{FitsAlone, NoExclusion}
-use Rattle.wax_error.specs.Expressions.{Refuses, Spells}
-use Rattle.wax_error.specs.declared.build_error.BuildError.{BuildError}
-use Rattle.wax_error.specs.declared.build_error.BuildError.TheVariants as build
+use Rattle.wax_set.specs.Expressions.{Refuses, Spells}
+use Rattle.wax_set.specs.declared.error.build_error.BuildError.{BuildError}
+use Rattle.wax_set.specs.declared.error.build_error.BuildError.TheVariants as build
 use Rattle.wax.specs.declared.ignoring.IgnoreError.{IgnoreError}
 use Rattle.wax.specs.declared.ignoring.IgnoreError.TheVariants.{BadLine, Memory}
 use Rattle.wax.specs.declared.ignoring.IgnoreList.{IgnoreList}
@@ -76,11 +76,11 @@ abbrev pub refusal_number : IgnoreError → ℕ
 refusal_number (BadLine number error) = 21
 refusal_number Memory = 10
 
--- how a line is refused
+-- the error of a line
 abbrev pub refused_at : ℕ → BuildError → IgnoreError
 refused_at number build.Memory = Memory
 refused_at number error = BadLine number error
 
--- one walk is seen as the other less what these lines ignore
+-- one walk is seen as the other without what these lines ignore
 abbrev pub IsWalkIgnoring : {D : Type 0} → List (Line Span) → WalkView D → WalkView D → Type 0
 IsWalkIgnoring lines inner outer = IsSeenAs (ruled_view inner (ignore_mark lines) false) outer

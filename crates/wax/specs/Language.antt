@@ -1,13 +1,13 @@
 -- Words of contracts on the language: what expressions spell, what breaks the rules, and what trees mean.
-pub use Rattle.wax_alternatives.specs.Alternatives.{MeansOneOf, alternatives, levels, levels_each}
-pub use Rattle.wax_break.specs.Rules.{broken}
-pub use Rattle.wax_break.specs.Sizes.{saturated_size}
-pub use Rattle.wax_error.specs.Drawn.{label_lines, picture}
-pub use Rattle.wax_error.specs.Locations.{error_labels, location_of}
-pub use Rattle.wax_error.specs.Numbers.{build_number}
-pub use Rattle.wax_error.specs.Refusals.{IsRuleRefusal}
-pub use Rattle.wax_error.specs.declared.build_error.BuildError.{BuildError}
-pub use Rattle.wax_error.specs.declared.build_error.BuildError.TheVariants.{Memory}
+pub use Rattle.wax_facts.specs.Alternatives.{MeansOneOf, alternatives, levels, levels_each}
+pub use Rattle.wax_facts.specs.Rules.{broken}
+pub use Rattle.wax_facts.specs.Sizes.{saturated_size}
+pub use Rattle.wax_set.specs.Drawn.{label_lines, picture}
+pub use Rattle.wax_set.specs.Locations.{error_labels, location_of}
+pub use Rattle.wax_set.specs.Numbers.{build_number}
+pub use Rattle.wax_set.specs.Refusals.{IsRuleRefusal}
+pub use Rattle.wax_set.specs.declared.error.build_error.BuildError.{BuildError}
+pub use Rattle.wax_set.specs.declared.error.build_error.BuildError.TheVariants.{Memory}
 pub use Rattle.wax_fold.specs.Bare.{bare}
 pub use Rattle.wax_fold.specs.Branches.{Branch, branch_of, composed, picked, tokens_in}
 pub use Rattle.wax_fold.specs.Folded.{Folding, folded, folded_each, listed_term}

@@ -1,12 +1,12 @@
 -- Words of contracts on matching texts and lines, and programs that accept what a glob means.
 use Rattle.std.specs.Prelude.{◌↔◌, ℕ, List}
 use Rattle.wax.specs.GlobView.{GlobView, IsMeant}
-pub use Rattle.wax_candidate.specs.Matched.{IsMatchOf, MatchedView, cube_visits, texts}
-pub use Rattle.wax_candidate.specs.Parts.{IsPart, NoLineEndsBefore, cut}
+pub use Rattle.wax_query.specs.Matched.{IsMatchOf, MatchedView, cube_visits, texts}
+pub use Rattle.wax_query.specs.Parts.{IsPart, NoLineEndsBefore, cut}
 pub use Rattle.wax_capture.specs.Captures.{Captured, First}
 pub use Rattle.wax_capture.specs.Matched.{AreOnly, IsMatched, square_visits}
 pub use Rattle.wax_capture.specs.Pieces.{ArePieces}
-pub use Rattle.wax_compiled.specs.Below.{MeansBelow, goes_test, goes_tested}
+pub use Rattle.wax_prefilter.specs.Below.{MeansBelow, goes_test, goes_tested}
 pub use Rattle.wax_lazy.specs.Numbers.{AreNumbers, AreNumbersFrom}
 pub use Rattle.wax_lazy.specs.Numbers.{IsLastNumber, IsLastNumberFrom, IsLastWhere}
 pub use Rattle.wax_lazy.specs.Verdict.{AcceptsBelow, IsVerdict}

@@ -49,7 +49,7 @@ pub record HasParts (g : GlobView) (p : List ℕ) (rest : Option GlobView) : Typ
   pub taken : ℕ
   pub prefix : Prefix g.tree taken p
   pub rest_is : rest ≡ glob_after g taken
-  -- each meant text begins with it
+  -- each text that matches begins with it
   pub front : (s : List ℕ) → IsMeant g s → BeginsAtSeam p s
   -- what the rest means; without one the prefix is all
   pub means : MatchOption rest (MeansAlone g p) (IsRest g p)

@@ -1,12 +1,12 @@
 -- Words of contracts on walks: directories, their listings, filters, and what is kept.
 pub use Rattle.wax_directory.specs.Answers.{KindIs, ListIs}
-pub use Rattle.wax_directory.specs.Calls.{Nexts, OpensAt, TellsOpened}
+pub use Rattle.wax_directory.specs.Calls.{Nexts, OpensAt, ReportsOpened}
 pub use Rattle.wax_directory.specs.Copies.{IsCopy}
 pub use Rattle.wax_directory.specs.Counting.{Counts, after_counting, end_counts, item_counts, kind_counts}
 pub use Rattle.wax_directory.specs.Counting.{next_counts, no_counts, opening_counts}
 pub use Rattle.wax_directory.specs.History.{kind_answers, next_answers, opening_answers}
 pub use Rattle.wax_directory.specs.Law.{HoldsLast, HoldsSame, Law, ShowsSame}
-pub use Rattle.wax_directory.specs.Listing.{CountsListed, HeldWhereShown, TellsListed}
+pub use Rattle.wax_directory.specs.Listing.{CountsListed, HeldWhereShown, ReportsListed}
 pub use Rattle.wax_directory.specs.Names.{is_plain, is_rooted}
 pub use Rattle.wax_directory.specs.Nodes.{HasDistinctNames, HasDuplicateName}
 pub use Rattle.wax_directory.specs.PathTails.{HoldsBy, PathTail, StandsBy, leads_on, listing_by, tails_to}
@@ -55,11 +55,11 @@ pub use Rattle.wax_filter.specs.declared.filter.separation.Separation.{Separatio
 pub use Rattle.wax_filter.specs.declared.filter.separation.Separation.TheVariants.{Filtrate, Residue}
 pub use Rattle.wax_filter.specs.declared.filter.tree_residue.TreeResidue.TheVariants.{Node, Tree}
 pub use Rattle.wax_filter.specs.Separating.{separated_entry}
-pub use Rattle.wax_glob_walk.specs.Laws.{leading_cancelling}
-pub use Rattle.wax_glob_walk.specs.Matches.{IsMatchedEntry, glob_facts, match_of, tree_entry}
-pub use Rattle.wax_glob_walk.specs.Programs.{any_mark, leading_mark}
-pub use Rattle.wax_glob_walk.specs.declared.entry.GlobEntry.{GlobEntry}
-pub use Rattle.wax_glob_walk.specs.declared.filter_any.FilterAny.{FilterAny}
+pub use Rattle.wax_tree.specs.Laws.{leading_cancelling}
+pub use Rattle.wax_tree.specs.Matches.{IsMatchedEntry, glob_facts, match_of, tree_entry}
+pub use Rattle.wax_tree.specs.Programs.{any_mark, leading_mark}
+pub use Rattle.wax_tree.specs.declared.glob_walk.entry.GlobEntry.{GlobEntry}
+pub use Rattle.wax_tree.specs.declared.glob_walk.filter_any.FilterAny.{FilterAny}
 pub use Rattle.wax_tree.specs.Begins.{Begins, BeginsAt, EndsWithin, FailsFrom, FailsNowhere, HasEnded}
 pub use Rattle.wax_tree.specs.Begins.{IsPassed, LacksMemory, Origin, behavior_range}
 pub use Rattle.wax_tree.specs.Depths.{HasBounds, IsUnbounded, IsUnboundedAt, behavior_at, greatest, least}
@@ -73,7 +73,7 @@ pub use Rattle.wax_tree.specs.declared.behavior.WalkBehavior.{WalkBehavior}
 pub use Rattle.wax_tree.specs.declared.steps.DepthRange.{DepthRange}
 pub use Rattle.wax_walk.specs.Candidates.{Candidate, candidate_of, candidate_with, in_characters}
 pub use Rattle.wax_walk.specs.Candidates.{of_candidate}
-pub use Rattle.wax_walk.specs.Collected.{AreOfFolders, GaveAll, HasFolder, IsCutShort, NoneLast, Took}
+pub use Rattle.wax_walk.specs.Collected.{AreOfFolders, Yielded, HasFolder, IsCutShort, NoneLast, Took}
 pub use Rattle.wax_walk.specs.Collected.{count_to_open}
 pub use Rattle.wax_walk.specs.Entries.{answer_of, error_depth, error_kind, error_path, facts_of, given_of}
 pub use Rattle.wax_walk.specs.Entries.{given_outcome, kind_of_fault}

@@ -1,4 +1,4 @@
 //! What a match captures.
 
-pub use wax_candidate::MatchedText;
 pub use wax_capture::Pieces;
+pub use wax_query::matching::MatchedText;

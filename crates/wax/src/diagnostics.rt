@@ -1,7 +1,7 @@
 //! Places in an expression, pictures of them, and errors of a build.
 
 pub use wax_components::{SemanticLiteralWarning, TerminatingSeparatorWarning, Warning};
-pub use wax_error::picture;
 pub use wax_query::diagnostics::{
     CompositeSpan, CorrelatedSpan, LocatedError, NoMemory, Refusal, Span, SpanExt, Spanned,
 };
+pub use wax_set::picture;

@@ -14,12 +14,11 @@ ghost use Rattle.wax.specs.Ignoring.{HoldsLines, IsWalkIgnoring};
 
 use crate::ignoring::IgnoreList;
 use std::alloc::Global;
-use wax_error::BuildError;
 use wax_exclude::Exclusion;
 use wax_filter::filter::SeparatingFilter;
-use wax_glob_walk::FilterAny;
 use wax_query::diagnostics::Refusal;
-use wax_set::Pattern;
+use wax_set::{BuildError, Pattern};
+use wax_tree::FilterAny;
 use wax_walk::{Exclude, Excluding, FileIterator};
 
 /// A walk without what a pattern matches.

@@ -2,8 +2,8 @@
 ghost use Rattle.std.specs.Prelude.{◌≡◌, ◌<◌, ◌≤◌, ◌↔◌, ◌+◌, ◌*◌, ◌++◌, ◌∷◌, [], ℕ, List, IsTrue, IfOk};
 ghost use Rattle.std.specs.Prelude.{IfSome, MatchOption, Some, chars, encode_utf8_all, length, false, min};
 ghost use Rattle.wax_program.specs.Meter.{most_ticks};
-ghost use Rattle.wax_candidate.specs.Parts.{NoLineEndsBefore};
-ghost use Rattle.wax_compiled.specs.Below.{MeansBelow, goes_test};
+ghost use Rattle.wax_query.specs.Parts.{NoLineEndsBefore};
+ghost use Rattle.wax_prefilter.specs.Below.{MeansBelow, goes_test};
 ghost use Rattle.wax_components.specs.Capturing.{captures};
 ghost use Rattle.wax_components.specs.Warnings.{has_semantic_literals, warnings};
 ghost use Rattle.wax_components.specs.Depth.{Depth};
@@ -33,18 +33,18 @@ use std::borrow::CowStr;
 use std::fmt;
 use std::marker::Model;
 pub use walking::{GlobWalk, UncapturedWalk};
-use wax_candidate::{CandidatePath, MatchedText, Program};
 use wax_capture::Pieces;
 use wax_compare::Compared;
-use wax_compiled::CompiledTokens;
 use wax_components::{Warning, captures, depth, diagnose, has_semantic_literals};
-use wax_error::{BuildError, parse_and_check};
 use wax_facts::{has_root, is_exhaustive, text};
 use wax_lazy::HasProgram;
 use wax_match::encode::{CompileError, CompiledProgram, Meter};
+use wax_prefilter::CompiledTokens;
 use wax_query::diagnostics::{NoMemory, Refusal};
+use wax_query::matching::{CandidatePath, MatchedText, Program};
 use wax_query::query::{CapturingToken, DepthVariance, TextVariance, Variance, When};
 use wax_rule::rule::Checked;
+use wax_set::{BuildError, parse_and_check};
 use wax_token::token::{ExpressionMetadata, LeafKind, Token, Tokenized};
 
 /// A glob, built from an expression by `Glob::new`. It implements `Program`, which has the calls
@@ -142,10 +142,6 @@ impl<'t> Glob<'t> {
     }
 
     /// Builds the glob of the empty expression, which matches only the empty text.
-    ///
-    /// # Errors
-    ///
-    /// Returns `NoMemory` if allocation fails.
     pub fn empty(alloc: Global) -> Result<Glob<'t>, NoMemory>
         ensures { IfOk result IsEmptyGlob }
     {
@@ -156,10 +152,6 @@ impl<'t> Glob<'t> {
     }
 
     /// Builds the glob of `**`, which matches every text.
-    ///
-    /// # Errors
-    ///
-    /// Returns `NoMemory` if allocation fails.
     pub fn tree(alloc: Global) -> Result<Glob<'t>, NoMemory>
         ensures { IfOk result IsTreeGlob }
     {
@@ -190,10 +182,6 @@ impl<'t> Glob<'t> {
 
     /// Returns the tokens that capture: each class, wildcard, alternation and repetition that isn't
     /// inside another token, numbered from 1, with its span in bytes.
-    ///
-    /// # Errors
-    ///
-    /// Returns `NoMemory` if allocation fails.
     pub fn captures(&self, alloc: Global) -> Result<Vec<CapturingToken>, NoMemory>
         ensures { IfOk result (λ tokens. tokens.items ≡ captures self.now.tree) }
     {
@@ -202,10 +190,6 @@ impl<'t> Glob<'t> {
 
     /// Returns the warnings: one for each component whose text is `.` or `..`, of the glob and then
     /// of its sub-globs, level by level, and a last one if the glob ends with a `/`.
-    ///
-    /// # Errors
-    ///
-    /// Returns `NoMemory` if allocation fails.
     pub fn diagnose(&self, alloc: Global) -> Result<Vec<Warning<'_>>, NoMemory>
         ensures { IfOk result (λ ws. ws.items ≡ warnings self.now.expression self.now.tree) }
     {
@@ -213,10 +197,6 @@ impl<'t> Glob<'t> {
     }
 
     /// Returns whether the text of a component is `.` or `..`.
-    ///
-    /// # Errors
-    ///
-    /// Returns `NoMemory` if allocation fails.
     pub fn has_semantic_literals(&self, alloc: Global) -> Result<bool, NoMemory>
         ensures { IfOk result (λ answer. answer ≡ has_semantic_literals self.now.tree) }
     {
@@ -227,10 +207,6 @@ impl<'t> Glob<'t> {
     /// that its program visits: at most its length for each character and once more at the end. If the
     /// path matches, it is at least the number of characters. Most paths that don't match are rejected
     /// before the program is run, and move the meter by nothing.
-    ///
-    /// # Errors
-    ///
-    /// Returns `NoMemory` if allocation fails.
     pub fn is_match_metered(
         &self,
         alloc: Global,
@@ -260,10 +236,6 @@ impl<'t> Glob<'t> {
     ///
     /// Takes time linear in the program, and as much again for each of the loops that lie within one
     /// another. For many folders `GlobMatcher::goes_on` is faster.
-    ///
-    /// # Errors
-    ///
-    /// Returns `NoMemory` if allocation fails.
     pub fn goes_on(&self, alloc: Global, path: &CandidatePath<'_>) -> Result<bool, NoMemory>
         ensures { IfOk result (λ answer. IsTrue answer ↔ MeansBelow self.now.tree path.now) }
     {
@@ -363,10 +335,6 @@ impl Program for Glob<'_> {
     }
 
     /// Returns the only text that can match, if the expression is written as one text.
-    ///
-    /// # Errors
-    ///
-    /// Returns `NoMemory` if allocation fails.
     fn text(&self, alloc: Global) -> Result<TextVariance<'static>, NoMemory>
         ensures exact { IfOk result (λ text. MatchOption (text_of text) (Variant self.now.tree) (λ t.
             Text self.now.tree (chars t))) }

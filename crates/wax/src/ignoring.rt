@@ -17,14 +17,13 @@ ghost use Rattle.wax.specs.Ignoring.{refusal_number, refused_at};
 
 use std::alloc::{AllocFailed, Global};
 use thiserror::Error;
-use wax_candidate::CandidatePath;
 use wax_directory::directory::Directory;
-use wax_error::BuildError;
 use wax_exclude::{
     IdleLine, IgnoreLine, IgnoreRule, WrittenLine, collect_unignored, written_lines,
 };
 use wax_query::diagnostics::NoMemory;
-use wax_set::Pattern;
+use wax_query::matching::CandidatePath;
+use wax_set::{BuildError, Pattern};
 use wax_tree::{PathExt, WalkBehavior};
 use wax_walk::{Candidate, Entry, EntryResidue, Exclude, TreeEntry, WalkError};
 
@@ -118,10 +117,6 @@ impl IgnoreList {
     /// A quick test for the literals of all lines comes first, if they are at most 256 and no line is
     /// without one: it rejects most paths that no line matches. Otherwise the call takes time in
     /// proportion to the number of lines. For many paths, use `is_ignored_cached`.
-    ///
-    /// # Errors
-    ///
-    /// Returns `NoMemory` if allocation fails.
     pub fn is_ignored(&self, alloc: Global, path: &CandidatePath<'_>) -> Result<bool, NoMemory>
         ensures { IfOk result (λ answer. (lines : List (Line Span)) → HoldsLines self.now lines
             → answer ≡ is_ignored lines path.now) }
@@ -170,10 +165,6 @@ impl IgnoreList {
     ///     println!(rt; "{is_ignored}")?; // true; true; false; false
     /// }
     /// ```
-    ///
-    /// # Errors
-    ///
-    /// Returns `NoMemory` if allocation fails.
     pub fn ignores_below(&self, alloc: Global, path: &CandidatePath<'_>) -> Result<bool, NoMemory>
         ensures says { IfOk result (λ answer. IsTrue answer
             ↔ (⟦<IgnoreList as Exclude>⟧.rule self.now (folder_at path.now) ≡ with_tree)) }
@@ -202,10 +193,6 @@ impl IgnoreList {
     ///     println!(rt; "{}: {:?}", line.index, line.reason)?; // 0: Covered([2]); 1: TakesNothingBack
     /// }
     /// ```
-    ///
-    /// # Errors
-    ///
-    /// Returns `NoMemory` if allocation fails.
     pub fn idle_lines(&self, alloc: Global, most_states: usize) -> Result<Vec<IdleLine>, NoMemory>
         ensures { IfOk result (λ idle. (lines : List (Line Span)) → HoldsLines self.now lines
             → AreIdle lines idle.items) }

@@ -39,14 +39,13 @@ mod walk_filter;
 
 pub use glob::{Glob, GlobMatcher};
 pub use unignored::filter_unignored;
-pub use wax_candidate::{
-    BuildMatcher, CandidatePath, MatchedText, PathMatcher, Program, ProgramMatcher,
-};
 pub use wax_compare::{
     Compared, Comparison, MOST_STATES, Texts, difference, law_of_plain_paths, overlap,
 };
-pub use wax_error::{BuildError, ErrorLocation, GlobError};
 pub use wax_lines::{Counted, LinesError, capture_lines, filter_lines};
 pub use wax_parse::{escape, is_contextual_meta_character, is_meta_character};
 pub use wax_query::diagnostics::{NoMemory, Refusal};
-pub use wax_set::{Any, AnyMatcher, Pattern, any};
+pub use wax_query::matching::{
+    BuildMatcher, CandidatePath, MatchedText, PathMatcher, Program, ProgramMatcher,
+};
+pub use wax_set::{Any, AnyMatcher, BuildError, ErrorLocation, GlobError, Pattern, any};

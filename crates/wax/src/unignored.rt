@@ -9,9 +9,9 @@ ghost use Rattle.wax.specs.Ignoring.{HoldsLines, IsUnignored};
 use crate::ignoring::IgnoreList;
 use std::alloc::Global;
 use std::io::{Read, Write};
-use wax_candidate::CandidatePath;
 use wax_lines::{Counted, LineWriter, LinesError, filter_lines_by, push_line};
 use wax_query::diagnostics::NoMemory;
+use wax_query::matching::CandidatePath;
 
 /// Writes each line of the input that the ignore list doesn't ignore, with a line feed, and returns
 /// the number of lines that aren't UTF-8, at most `u64::MAX`. Nothing is written for these. A line

@@ -14,11 +14,10 @@ ghost use Rattle.wax.specs.Ignoring.{HoldsLines};
 use crate::exclusions::exclusion_of;
 use crate::ignoring::IgnoreList;
 use std::alloc::Global;
-use wax_candidate::CandidatePath;
-use wax_error::BuildError;
 use wax_exclude::Exclusion;
 use wax_query::diagnostics::NoMemory;
-use wax_set::Pattern;
+use wax_query::matching::CandidatePath;
+use wax_set::{BuildError, Pattern};
 use wax_walk::{Candidate, EntryResidue, Exclude};
 
 /// A filter of a walk: it excludes what a pattern matches, or what an ignore list ignores.
@@ -65,10 +64,6 @@ impl WalkFilter {
     /// println!(rt; "{}", filter.excludes_below(alloc, &CandidatePath::from("out"))?)?; // true
     /// println!(rt; "{}", filter.excludes_below(alloc, &CandidatePath::from("src"))?)?; // false
     /// ```
-    ///
-    /// # Errors
-    ///
-    /// Returns `NoMemory` if allocation fails.
     pub fn excludes_below(&self, alloc: Global, path: &CandidatePath<'_>) -> Result<bool, NoMemory>
         ensures says { IfOk result (λ answer. IsTrue answer
             ↔ (⟦<WalkFilter as Exclude>⟧.rule self.now (folder_at path.now) ≡ with_tree)) }

@@ -28,7 +28,7 @@ Decides g path (Err (Build error)) = error ≡ Memory
 Decides g path (Err NotText) = IsUtf8 path → ⊥
 Decides g path (Err NoRoom) = ⊥
 
--- what a call gives of an expression: why it builds no glob, or what the call gives of the glob
+-- what a call returns of an expression: why it builds no glob, or what the call returns of the glob
 pub data OfExpression {A : Type 0} (e : List ℕ) (OfGlob : GlobView → Result A CallError → Type 0)
     (outcome : Result A CallError) : Type 0 where
   built : (g : GlobView) → IsGlobOf e g → OfGlob g outcome → OfExpression e OfGlob outcome

@@ -10,7 +10,7 @@ use Rattle.std.proofs.lemmas.Str.{encodes-append, encodes-chars, encodes_same, l
 use Rattle.std.proofs.lemmas.Str.{IsCharBoundary-at_seam, IsUtf8-between, IsUtf8-past_char}
 use Rattle.std.specs.Char.{len_utf8}
 use Rattle.wax_token.specs.Reads.{utf8_len}
-use Rattle.wax_candidate.specs.Parts.{IsPart, cut}
+use Rattle.wax_query.specs.Parts.{IsPart, cut}
 use Rattle.wax_capture.specs.inner.Bytes.{byte_at, in_bytes}
 use Rattle.wax_capture.specs.inner.Parts.{IsWithin, part_between, parts}
 

@@ -9,7 +9,7 @@ use Rattle.wax_lengths.specs.Prefers.{Prefers}
 use Rattle.wax_capture.specs.Pieces.{ArePieces, IsPiece}
 use Rattle.wax_capture.specs.inner.Splits.{CapturedBy, FitsBy, IsChosenBy, Splits}
 use Rattle.std.specs.Global.{Vec}
-use Rattle.wax_candidate.specs.Matched.{MatchedView}
+use Rattle.wax_query.specs.Matched.{MatchedView}
 use Rattle.wax_capture.specs.Matched.{AreOnly, IsMatched}
 use Rattle.wax_capture.proofs.Unique.{captured_unique}
 use Rattle.wax_capture.specs.declared.piece.Piece.{Piece}

@@ -10,7 +10,7 @@ use Rattle.wax_token.specs.Syntax.{Tree, leaf, alternation, concatenation, repet
 -- ---- what is captured of a piece
 
 -- What a tree wildcard captures of its piece: after something all but the leading `/`, with which each such
--- piece begins that isn't empty; at the front, where no `/` is written in it, nothing of a `/` alone.
+-- piece begins that isn't empty; at the front, where no `/` is written in it, nothing of a lone `/`.
 abbrev pub tree_capture : Bool → Bool → List ℕ → List ℕ
 tree_capture true rooted s = drop 1 s
 tree_capture false true s = s

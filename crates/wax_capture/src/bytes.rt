@@ -63,10 +63,6 @@ fn count_bytes(
 
 /// Converts the places of parts of a text to bytes. If each of its characters is one byte, the
 /// parts are returned as they are.
-///
-/// # Errors
-///
-/// Returns `AllocError` if allocation fails.
 pub fn to_bytes(
     alloc: Global,
     text: &str,

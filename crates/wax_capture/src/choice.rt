@@ -42,10 +42,6 @@ fn choose_by(
 
 /// Returns how many characters the piece takes from `at` on. `next` is the row of the pieces after
 /// it.
-///
-/// # Errors
-///
-/// Returns `AllocError` if allocation fails.
 pub fn choose(
     alloc: Global,
     piece: &Piece,

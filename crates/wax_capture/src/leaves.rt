@@ -68,10 +68,6 @@ fn test_of_class(alloc: Global, class: &Class) -> Result<Test, AllocError>
 }
 
 /// Builds the test of a class, `?` or `/`, or returns `None` for any other leaf.
-///
-/// # Errors
-///
-/// Returns `AllocError` if allocation fails.
 pub fn test_of_leaf(alloc: Global, leaf: &LeafKind<'_>) -> Result<Option<Test>, AllocError>
     ensures { IfOk result (λ r. IfSome r (λ test. (before after : Bool) (x : List ℕ)
         → PassesOne test x ↔ LeafMeans (leaf_of leaf.now) before after x)) }
@@ -85,10 +81,6 @@ pub fn test_of_leaf(alloc: Global, leaf: &LeafKind<'_>) -> Result<Option<Test>, 
 }
 
 /// Builds the form of a leaf, by what is around it.
-///
-/// # Errors
-///
-/// Returns `AllocError` if allocation fails.
 pub fn form_of_leaf(alloc: Global, leaf: &LeafKind<'_>, sides: Sides) -> Result<Form, AllocError>
     ensures means { IfOk result (λ form. (x : List ℕ)
         → TakenBy form x ↔ LeafMeans (leaf_of leaf.now) sides.before sides.after x) }

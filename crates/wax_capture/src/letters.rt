@@ -87,10 +87,6 @@ impl ByLetter {
 
 /// Links the forms if there are many, each with a letter at its beginning, and all of them in one
 /// case, or all in any case.
-///
-/// # Errors
-///
-/// Returns `AllocError` if allocation fails.
 pub fn linked(alloc: Global, forms: Vec<Form>) -> Result<Ways, AllocError>
     ensures { IfOk result (λ ways. forms_of ways ≡ forms.items) }
 {

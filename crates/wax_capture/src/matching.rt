@@ -5,7 +5,7 @@ ghost use Rattle.wax_token.specs.Cost.{costs};
 ghost use Rattle.wax_token.specs.Reads.{Span};
 ghost use Rattle.wax_token.specs.Syntax.{Trees};
 ghost use Rattle.wax_token.specs.Words.{trees};
-ghost use Rattle.wax_candidate.specs.Matched.{cube_visits};
+ghost use Rattle.wax_query.specs.Matched.{cube_visits};
 ghost use Rattle.wax_capture.specs.Matched.{AreOnly, IsMatched, square_visits};
 ghost use Rattle.wax_capture.specs.Pieces.{ArePieces};
 
@@ -16,10 +16,10 @@ use crate::size::size_of_all;
 use crate::split::split;
 use std::alloc::Global;
 use std::marker::Model;
-use wax_candidate::MatchedText;
 use wax_lengths::{Text, Visits};
 use wax_match::encode::CompileError;
 use wax_query::diagnostics::{NoMemory, Refusal};
+use wax_query::matching::MatchedText;
 use wax_token::token::Token;
 
 /// What is known of each top-level token of a glob for matching with captures: which pieces of a
@@ -93,10 +93,6 @@ impl Pieces {
     /// Returns the text with its captures, or `None` if the tokens don't match it, and the number
     /// of visits, which is at least the number of characters if the tokens match. Takes memory
     /// proportional to the number of tokens times that of characters.
-    ///
-    /// # Errors
-    ///
-    /// Returns `NoMemory` if allocation fails.
     #[inline(never)]
     pub fn matched_counted<'p>(
         &self,

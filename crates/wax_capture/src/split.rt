@@ -98,10 +98,6 @@ fn chosen_split(
 
 /// Returns the captures of the pieces by the chosen split, each as its beginning and its end, in
 /// characters. Returns `None` if the pieces don't split the text.
-///
-/// # Errors
-///
-/// Returns `AllocError` if allocation fails.
 pub fn split(
     alloc: Global,
     pieces: &[Piece],

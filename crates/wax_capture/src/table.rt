@@ -74,10 +74,6 @@ fn table(
 
 /// Returns the pieces by the chosen split, or `None` if they don't split the text. Takes time
 /// proportional to the sizes of the pieces and the square of the text's length.
-///
-/// # Errors
-///
-/// Returns `AllocError` if allocation fails.
 pub fn split_by_table(
     alloc: Global,
     pieces: &[Piece],

@@ -159,10 +159,6 @@ fn may_begin(piece: &Piece, text: &Text<'_>, at: usize, has_others: bool) -> boo
 /// Finds the lengths of the pieces by the chosen split. Each piece in turn takes the best length
 /// that wasn't tried; if there is none, the piece before it has to take another. Gives up after
 /// about `limit` visits.
-///
-/// # Errors
-///
-/// Returns `AllocError` if allocation fails.
 pub fn split_by_trial(
     alloc: Global,
     pieces: &[Piece],

@@ -6,10 +6,6 @@ use std::env::FillError;
 use std::rt::Env;
 
 /// Returns the arguments after the program's name, each `None` if it isn't UTF-8.
-///
-/// # Errors
-///
-/// Returns `AllocError` if allocation fails.
 pub fn words(rt: &impl Env, alloc: Global) -> Result<Vec<Option<String>>, AllocError> {
     let mut words = Vec::new(alloc);
     for i in 1..usize::MAX {

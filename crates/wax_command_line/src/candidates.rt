@@ -14,8 +14,8 @@ use std::alloc::Global;
 use std::io::Write;
 use wax_exclude::law_of_walks;
 use wax_filter::filter::{Feed, Separation, TreeResidue};
-use wax_glob_walk::FilterAny;
 use wax_lines::{Counted, LinesError, push_line, write_whole};
+use wax_tree::FilterAny;
 use wax_walk::{Entry, Exclude, FileIterator, WalkError};
 
 /// Lines are written once that many bytes of them wait.

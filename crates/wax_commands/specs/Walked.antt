@@ -8,7 +8,7 @@ use Rattle.wax.specs.GlobView.{GlobView}
 use Rattle.wax.specs.GlobWalks.{Beginning, GaveBy, request_by, origin_from}
 use Rattle.wax_exclude.specs.Pruned.{by_matches}
 use Rattle.wax.specs.Patterns.{Refuses, Spells}
-use Rattle.wax_error.specs.declared.build_error.BuildError.{BuildError}
+use Rattle.wax_set.specs.declared.error.build_error.BuildError.{BuildError}
 use Rattle.wax_exclude.specs.GlobRequests.{KeepsWanted, GlobRequest, request_walk}
 use Rattle.wax_components.specs.Depth.{Depth}
 use Rattle.wax_directory.specs.Law.{Law}

@@ -7,10 +7,6 @@ use wax::{Glob, NoMemory, Program};
 
 /// Writes what is known of a glob as lines: its depth, text, root, exhaustiveness, prefix and rest,
 /// the number of tokens that capture, and its warnings.
-///
-/// # Errors
-///
-/// Returns `NoMemory` if allocation fails.
 pub fn query_lines(alloc: Global, glob: Glob<'_>) -> Result<String, NoMemory> {
     let mut lines = fact_lines(alloc, &glob)?;
     let token_lines = token_lines(alloc, &glob)?;
@@ -62,10 +58,6 @@ fn push_warning(
 }
 
 /// Writes a depth: one number, or the lower bound, two dots, and the upper bound if there is one.
-///
-/// # Errors
-///
-/// Returns `AllocError` if allocation fails.
 pub fn depth_text(alloc: Global, depth: DepthVariance) -> Result<String, AllocError> {
     let lower = depth.lower();
     match depth.upper() {

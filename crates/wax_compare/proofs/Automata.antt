@@ -5,7 +5,7 @@ use Rattle.std.proofs.lemmas.List.{get_or_default, get_or-replicate, length-repl
 use Rattle.wax_program.specs.Threads.{AnyAmong}
 use Rattle.std.proofs.lemmas.Option.{slice_get_within}
 use Rattle.wax_program.specs.declared.instruction.Instruction.{Instruction}
-use Rattle.wax_stepper.specs.Reached.{AreReached, taken_if}
+use Rattle.wax_states.specs.Reached.{AreReached, taken_if}
 use Rattle.wax_program.specs.Machine.{Accepts}
 use Rattle.wax_compare.specs.declared.automaton.Automaton.{Automaton}
 use Rattle.wax_compare.specs.declared.automaton.ProgramState.{ProgramState}

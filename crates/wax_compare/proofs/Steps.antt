@@ -8,7 +8,7 @@ use Rattle.wax_compare.proofs.Blocks.{same_bits}
 use Rattle.wax_program.specs.declared.instruction.Instruction.{Instruction}
 use Rattle.wax_program.specs.Machine.{Accepts}
 use Rattle.wax_program.specs.Threads.{AnyAmong}
-use Rattle.wax_stepper.specs.Reached.{AreReached}
+use Rattle.wax_states.specs.Reached.{AreReached}
 use Rattle.wax_compare.specs.declared.wanted.Texts.{Texts}
 use Rattle.wax_compare.specs.declared.wanted.Texts.TheVariants.{All, Paths}
 use Rattle.wax_compare.specs.declared.wanted.Wanted.{Wanted}

@@ -8,7 +8,7 @@ use Rattle.wax_compare.specs.declared.wanted.Comparison.{Comparison}
 use Rattle.wax_compare.specs.declared.wanted.Comparison.TheVariants.{Nothing, Text, Unknown}
 use Rattle.wax_compare.specs.Texts.{IsAmongTexts}
 
--- what is asked of the second set
+-- what has to hold of the second set
 abbrev pub AsWanted : Wanted → Type 0 → Type 0
 AsWanted Both P = P
 AsWanted FirstOnly P = P → ⊥

@@ -16,7 +16,7 @@ SameBlock cuts c d = (p : ℕ) → Contains cuts p → (p ≤ c) ↔ (p ≤ d)
 abbrev pub CutApart : List Instruction → List ℕ → Type 0
 CutApart code cuts = (c d : ℕ) → c < 1114112 → d < 1114112 → SameBlock cuts c d → AreAlike code c d
 
--- neither program tells the two characters apart, and both are `/` or neither is
+-- the two characters pass the same tests of both programs, and both are `/` or neither is
 pub record StandsFor (code other : List Instruction) (letter c : ℕ) : Type 0 where
   pub first : AreAlike code c letter
   pub second : AreAlike other c letter
@@ -26,6 +26,6 @@ pub record StandsFor (code other : List Instruction) (letter c : ℕ) : Type 0 w
 abbrev pub HasStandIn : List Instruction → List Instruction → List ℕ → ℕ → Type 0
 HasStandIn code other letters c = (d : ℕ) × Contains letters d × StandsFor code other d c
 
--- the same of every character
+-- this holds of every character
 abbrev pub AreLetters : List Instruction → List Instruction → List ℕ → Type 0
 AreLetters code other letters = (c : ℕ) → IsScalar c → HasStandIn code other letters c

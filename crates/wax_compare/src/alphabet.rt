@@ -23,10 +23,6 @@ const END: u32 = 0x11_0000;
 
 /// Returns characters such that for each character one of them passes the same tests of the two
 /// programs, and is `/` only if it is. The preferred ones come first.
-///
-/// # Errors
-///
-/// Returns `AllocError` if allocation fails.
 pub fn alphabet(
     alloc: Global,
     first: &CompiledProgram,

@@ -8,7 +8,7 @@ ghost use Rattle.wax_compare.specs.inner.Automata.{KeepsPlaces, state_places};
 use crate::slots::{Slots, hash_of};
 use std::alloc::{AllocError, Global};
 use wax_program::{CompiledProgram, Meter};
-use wax_stepper::Stepper;
+use wax_states::Stepper;
 
 /// A state: places of the program that a text leads to.
 #[derive(Drop)]
@@ -40,10 +40,6 @@ pub struct Automaton {
 
 impl Automaton {
     /// Creates an automaton with one state, that of the program's beginning.
-    ///
-    /// # Errors
-    ///
-    /// Returns `AllocError` if allocation fails.
     pub fn new(
         alloc: Global,
         program: &CompiledProgram,
@@ -68,10 +64,6 @@ impl Automaton {
     }
 
     /// Returns the number of the state to which the letter with a number leads.
-    ///
-    /// # Errors
-    ///
-    /// Returns `AllocError` if allocation fails.
     pub fn follow(
         &mut self,
         program: &CompiledProgram,

@@ -39,10 +39,6 @@ pub enum Followed {
 /// state of each program; each pair of states that texts lead to is followed once by each letter of an
 /// alphabet. Returns `Unknown` if letters are left to follow when the pairs and the states of both
 /// programs are more than `most_states`, or take more than 384 bytes for each of so many.
-///
-/// # Errors
-///
-/// Returns `AllocError` if allocation fails.
 pub fn find_text(
     alloc: Global,
     first: &CompiledProgram,

@@ -7,9 +7,9 @@ ghost use Rattle.wax_program.specs.Machine.{Accepts};
 use crate::compare::find_text;
 use crate::wanted::{Comparison, Texts, Wanted};
 use std::alloc::Global;
-use wax_candidate::Program;
 use wax_program::CompiledProgram;
 use wax_query::diagnostics::NoMemory;
+use wax_query::matching::Program;
 
 /// A glob or a set, which can be compared with another one by [`overlap`] and [`difference`].
 pub trait Compared: Program {
@@ -32,10 +32,6 @@ pub trait Compared: Program {
 ///     println!(rt; "{path}")?; // src/test_.go
 /// }
 /// ```
-///
-/// # Errors
-///
-/// Returns `NoMemory` if allocation fails.
 pub fn overlap<A: Compared, B: Compared>(
     alloc: Global,
     first: &A,
@@ -62,10 +58,6 @@ pub fn overlap<A: Compared, B: Compared>(
 /// let left = difference(alloc, &go, &sources, Texts::Paths, MOST_STATES)?;
 /// println!(rt; "{}", matches!(left, Comparison::Nothing))?; // true
 /// ```
-///
-/// # Errors
-///
-/// Returns `NoMemory` if allocation fails.
 pub fn difference<A: Compared, B: Compared>(
     alloc: Global,
     first: &A,

@@ -12,12 +12,8 @@ use wax_token::token::{Archetype, Class};
 /// The first character after the surrogates.
 pub const AFTER_SURROGATES: u32 = 0xE000;
 
-/// Returns the cuts of two programs, ascending. The characters from a cut up to the next one pass
-/// the same tests of the two programs.
-///
-/// # Errors
-///
-/// Returns `AllocError` if allocation fails.
+/// Returns the cuts of two programs, ascending. All characters from a cut up to the next one pass
+/// the same tests, in either program.
 pub fn cuts(
     alloc: Global,
     first: &CompiledProgram,

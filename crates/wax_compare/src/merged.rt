@@ -11,10 +11,6 @@ use wax_program::{CompiledProgram, Meter, test_at};
 
 /// Keeps the first of letters that pass the same tests of the two programs. Runs each test about
 /// twice for each letter.
-///
-/// # Errors
-///
-/// Returns `AllocError` if allocation fails.
 pub fn merge(
     alloc: Global,
     first: &CompiledProgram,

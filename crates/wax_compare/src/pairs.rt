@@ -39,10 +39,6 @@ pub struct Pairs {
 
 impl Pairs {
     /// Creates an empty list.
-    ///
-    /// # Errors
-    ///
-    /// Returns `AllocError` if allocation fails.
     pub fn new(alloc: Global) -> Result<Pairs, AllocError>
         ensures { IfOk result (λ p. p.reached.items ≡ []) }
     {
@@ -76,10 +72,6 @@ impl Pairs {
     }
 
     /// Adds a pair.
-    ///
-    /// # Errors
-    ///
-    /// Returns `AllocError` if allocation fails.
     pub fn push(&mut self, reached: Reached) -> Result<(), AllocError>
         ensures { IfOk result (λ _. self.new.reached.items ≡ self.old.reached.items ++ reached ∷ []) }
     {

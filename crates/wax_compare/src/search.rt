@@ -23,10 +23,6 @@ pub struct Search {
 
 impl Search {
     /// Returns the pair to which a letter leads, unless no wanted text goes on with it.
-    ///
-    /// # Errors
-    ///
-    /// Returns `AllocError` if allocation fails.
     pub fn step(
         &mut self,
         first: &CompiledProgram,

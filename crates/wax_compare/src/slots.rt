@@ -14,10 +14,6 @@ pub struct Slots {
 
 impl Slots {
     /// Creates slots without numbers.
-    ///
-    /// # Errors
-    ///
-    /// Returns `AllocError` if allocation fails.
     pub fn new(alloc: Global) -> Result<Slots, AllocError> {
         Ok(Slots {
             alloc,
@@ -40,10 +36,6 @@ impl Slots {
     }
 
     /// Adds a number, of which at most half of the slots are filled then.
-    ///
-    /// # Errors
-    ///
-    /// Returns `AllocError` if allocation fails.
     pub fn enter(&mut self, hash: usize, number: usize) -> Result<(), AllocError> {
         if self.slots.len() / 2 <= self.filled {
             self.grow()?;

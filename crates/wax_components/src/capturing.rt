@@ -11,10 +11,6 @@ use wax_token::token::{Annotation, ExpressionMetadata, Token};
 /// Returns the capturing tokens of a glob from left to right, each with its index, from 1 on, and
 /// its span. These are the classes, wildcards, alternations and repetitions that aren't inside
 /// another token. Allocates the list.
-///
-/// # Errors
-///
-/// Returns `NoMemory` if allocation fails.
 pub fn captures<'t>(
     alloc: Global,
     token: &Token<'t, ExpressionMetadata>,

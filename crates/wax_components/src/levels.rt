@@ -34,7 +34,7 @@ type Level<'i, 't, A> = Vec<Glob<'i, 't, A>>;
 
 /// Appends the sub-globs in a top-level token.
 #[tactic(auto, using(crate::proofs::TopLevels::listed_trees))]
-fn push_globs_in<'i, 't, A>(
+fn push_sub_globs_in<'i, 't, A>(
     level: &mut Level<'i, 't, A>,
     token: &'i Token<'t, A>,
 ) -> Result<(), AllocError>
@@ -80,7 +80,7 @@ fn push_sub_globs<'i, 't, A: Annotation>(
     ensures { OnOk result (level.new.items ≡ level.old.items ++ sub_globs glob.now) }
 {
     for token in kinds::top_level(glob) {
-        push_globs_in(level, token)?;
+        push_sub_globs_in(level, token)?;
     }
     Ok(())
 }
@@ -119,7 +119,7 @@ fn push_literals<'i, 't, A: Annotation>(
     Ok(())
 }
 
-fn push_literals_of<'i, 't, A: Annotation>(
+fn push_literals_of_level<'i, 't, A: Annotation>(
     alloc: Global,
     found: &mut Literals<'i, 't, A>,
     globs: &[Glob<'i, 't, A>],
@@ -132,7 +132,7 @@ fn push_literals_of<'i, 't, A: Annotation>(
     Ok(())
 }
 
-fn all_literals<'i, 't, A: Annotation>(
+fn literals_by_level<'i, 't, A: Annotation>(
     alloc: Global,
     token: &'i Token<'t, A>,
 ) -> Result<Literals<'i, 't, A>, AllocError>
@@ -142,7 +142,7 @@ fn all_literals<'i, 't, A: Annotation>(
     let mut level = Vec::new(alloc);
     push_glob(&mut level, token)?;
     while !level.is_empty() {
-        push_literals_of(alloc, &mut found, level.as_slice())?;
+        push_literals_of_level(alloc, &mut found, level.as_slice())?;
         level = next_level(alloc, level.as_slice())?;
     }
     Ok(found)
@@ -152,10 +152,6 @@ fn all_literals<'i, 't, A: Annotation>(
 /// level by level, and in each from left to right. For `a/{b,c*}` they are `a` and `b`.
 ///
 /// Allocates the list and two levels of sub-globs. Takes time linear in the tokens.
-///
-/// # Errors
-///
-/// Returns `NoMemory` if allocation fails.
 #[tactic(auto, using(crate::proofs::Globs::no_deeper))]
 pub fn literals<'i, 't, A: Annotation>(
     alloc: Global,
@@ -165,15 +161,11 @@ pub fn literals<'i, 't, A: Annotation>(
     // no sub-glob is missing
     ensures deepest { (n : ℕ) → tree_size token.now < n → globs_at n token.now ≡ [] }
 {
-    Ok(all_literals(alloc, token)?)
+    Ok(literals_by_level(alloc, token)?)
 }
 
 /// Returns whether a component of the glob or of one of its sub-globs is `.` or `..`. Takes the
 /// time and memory of `literals`.
-///
-/// # Errors
-///
-/// Returns `NoMemory` if allocation fails.
 pub fn has_semantic_literals<'t, A: Annotation>(
     alloc: Global,
     token: &Token<'t, A>,

@@ -12,9 +12,8 @@ ghost use Rattle.wax_token.specs.Words.{trees};
 use crate::kinds;
 use std::alloc::{AllocError, Global};
 use std::marker::Model;
-use wax_fold::ConcatenationTree;
 use wax_query::diagnostics::{NoMemory, Span, SpanExt};
-use wax_token::token::{Annotation, ExpressionMetadata, Literal, Token};
+use wax_token::token::{Annotation, ConcatenationTree, ExpressionMetadata, Literal, Token};
 
 /// A component of a glob: the tokens between two boundaries, or a single `**`. Contracts see the
 /// tokens.
@@ -109,10 +108,6 @@ impl<'i, 't, A> Model for LiteralSequence<'i, 't, A> {
 
 impl<'i, 't, A> LiteralSequence<'i, 't, A> {
     /// Returns the literals from left to right.
-    ///
-    /// # Errors
-    ///
-    /// Returns `NoMemory` if allocation fails.
     pub fn literals(&self, alloc: Global) -> Result<Vec<&'i Literal<'t>>, NoMemory>
         ensures { IfOk result (λ literals. flat_map (λ literal. literal.now.1) literals.items ≡ self.now) }
     {
@@ -126,10 +121,6 @@ impl<'i, 't, A> LiteralSequence<'i, 't, A> {
     }
 
     /// Returns the joined texts of the literals.
-    ///
-    /// # Errors
-    ///
-    /// Returns `NoMemory` if allocation fails.
     pub fn text(&self, alloc: Global) -> Result<String, NoMemory>
         ensures { IfOk result (λ s. chars (string_bytes s) ≡ self.now) }
     {
@@ -218,10 +209,6 @@ pub(crate) fn components_in<'i, 't, A>(
 /// alternations and repetitions don't count.
 ///
 /// Allocates the list. Takes time linear in the top-level tokens.
-///
-/// # Errors
-///
-/// Returns `NoMemory` if allocation fails.
 pub fn components<'i, 't, A: Annotation>(
     alloc: Global,
     token: &'i Token<'t, A>,

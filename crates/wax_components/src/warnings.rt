@@ -185,10 +185,6 @@ fn semantic_literals<'t>(
 /// end of the glob. For `../a/` it returns two.
 ///
 /// Allocates the list, and another of all literals.
-///
-/// # Errors
-///
-/// Returns `NoMemory` if allocation fails.
 pub fn diagnose<'t>(
     alloc: Global,
     expression: &'t str,

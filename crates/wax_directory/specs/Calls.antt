@@ -13,10 +13,10 @@ use Rattle.wax_directory.specs.Shown.{Items, Shown}
 
 -- the reported list of opened folders after this result of `open`: the path was appended; if allocation
 -- failed, it was appended or not
-abbrev pub TellsOpened : {A : Type 0} → (List (List ℕ) → Type 0) → List ℕ → Result A DirectoryFault
+abbrev pub ReportsOpened : {A : Type 0} → (List (List ℕ) → Type 0) → List ℕ → Result A DirectoryFault
     → List (List ℕ) → Type 0
-TellsOpened tells path (Err Memory) told = tells told ⊎ tells (told ++ path ∷ [])
-TellsOpened tells path r told = tells (told ++ path ∷ [])
+ReportsOpened tells path (Err Memory) told = tells told ⊎ tells (told ++ path ∷ [])
+ReportsOpened tells path r told = tells (told ++ path ∷ [])
 
 module _ {D C : Type 0} (law : Law D C) where
   -- `open` at the path returned r; a returned cursor is the last open one, and the others have what they had
@@ -42,7 +42,7 @@ module _ {D C : Type 0} (law : Law D C) where
     pub opens : OpensAt old path r new
     pub shown : ShowsSame law old new
     pub held : HoldsSame law old new
-    pub told : (t : List (List ℕ)) → law.tells old t → TellsOpened (law.tells new) path r t
+    pub told : (t : List (List ℕ)) → law.tells old t → ReportsOpened (law.tells new) path r t
     pub counted : Counts (opening_counts r) (law.tally old) (law.tally new)
     pub answered : law.answered new ≡ law.answered old ++ opening_answers path r
 

@@ -15,10 +15,10 @@ module _ {D C : Type 0} (law : Law D C) where
       → law.holds old cursors ls → law.holds new cursors ls
 
 -- the path was appended to the reported list of opened folders; if allocation failed, it was appended or not
-abbrev pub TellsListed : {Z : Type 0} → (List (List ℕ) → Type 0) → List ℕ
+abbrev pub ReportsListed : {Z : Type 0} → (List (List ℕ) → Type 0) → List ℕ
     → Result (Vec ListItem Z) DirectoryFault → List (List ℕ) → Type 0
-TellsListed tells path (Err Memory) t = tells t ⊎ tells (t ++ path ∷ [])
-TellsListed tells path r t = tells (t ++ path ∷ [])
+ReportsListed tells path (Err Memory) t = tells t ⊎ tells (t ++ path ∷ [])
+ReportsListed tells path r t = tells (t ++ path ∷ [])
 
 -- what a listing adds of which these items were taken, if `opened` folders were opened and `ended` listings
 -- came to their end

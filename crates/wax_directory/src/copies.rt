@@ -10,10 +10,6 @@ use wax_query::diagnostics::NoMemory;
 impl Node {
     /// Copies the node with everything below it, names in the same order. It takes time and memory
     /// in proportion to the number of items, and stack for each level.
-    ///
-    /// # Errors
-    ///
-    /// Returns `NoMemory` if allocation fails.
     pub fn try_clone(&self, alloc: Global) -> Result<Node, NoMemory>
         ensures { IfOk result (λ copy. IsCopy self.now copy) }
     {

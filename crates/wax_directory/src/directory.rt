@@ -52,11 +52,11 @@ pub enum ListItem {
 /// together.
 pub trait Directory: Drop {
     ghost use Rattle.wax_directory.specs.Answers.{KindIs, ListIs};
-    ghost use Rattle.wax_directory.specs.Calls.{OpensAt, Nexts, TellsOpened};
+    ghost use Rattle.wax_directory.specs.Calls.{OpensAt, Nexts, ReportsOpened};
     ghost use Rattle.wax_directory.specs.Counting.{Counts, kind_counts, opening_counts, next_counts};
     ghost use Rattle.wax_directory.specs.History.{kind_answers, opening_answers, next_answers};
     ghost use Rattle.wax_directory.specs.Law.{Law, ShowsSame, HoldsSame, HoldsLast};
-    ghost use Rattle.wax_directory.specs.Listing.{HeldWhereShown, TellsListed, CountsListed};
+    ghost use Rattle.wax_directory.specs.Listing.{HeldWhereShown, ReportsListed, CountsListed};
 
     /// A folder that is being listed.
     type Cursor: Drop;
@@ -88,7 +88,7 @@ pub trait Directory: Drop {
         ensures shown { ShowsSame law self.old self.new }
         ensures held { HoldsSame law self.old self.new }
         ensures told { (t : List (List ℕ)) → law.tells self.old t
-            → TellsOpened (law.tells self.new) path.now result t }
+            → ReportsOpened (law.tells self.new) path.now result t }
         ensures counted { Counts (opening_counts result) (law.tally self.old) (law.tally self.new) }
         ensures answered { law.answered self.new ≡ law.answered self.old ++ opening_answers path.now result };
 
@@ -130,7 +130,7 @@ pub trait Directory: Drop {
         ensures shown { ShowsSame law self.old self.new }
         ensures held { HeldWhereShown law path.now self.old self.new }
         ensures told { (t : List (List ℕ)) → law.tells self.old t
-            → TellsListed (law.tells self.new) path.now result t }
+            → ReportsListed (law.tells self.new) path.now result t }
         ensures counted { CountsListed most result (law.tally self.old) (law.tally self.new) }
     {
         let mut cursor = self.open(alloc, path)?;

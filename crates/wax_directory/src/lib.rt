@@ -4,6 +4,7 @@
 mod copies;
 pub mod directory;
 pub mod failing;
+pub mod folders;
 pub mod history;
 pub mod independent;
 pub mod path;

@@ -37,10 +37,6 @@ pub fn is_open(path: &str) -> bool
 }
 
 /// Splits a path into its names, without empty parts.
-///
-/// # Errors
-///
-/// Returns `AllocError` if allocation fails.
 pub(crate) fn names_in(alloc: Global, path: &str) -> Result<Vec<&str>, AllocError>
     ensures { IfOk result (λ v. map (λ x. x.now) v.items ≡ names_in_path path.now) }
 {
@@ -50,10 +46,6 @@ pub(crate) fn names_in(alloc: Global, path: &str) -> Result<Vec<&str>, AllocErro
 }
 
 /// Joins a folder's path and a name, with a `/` if one is needed. It allocates once.
-///
-/// # Errors
-///
-/// Returns `AllocError` if allocation fails.
 pub fn join(alloc: Global, folder: &str, name: &str) -> Result<String, AllocError>
     ensures { IfOk result (λ path. string_bytes path ≡ join_path folder.now name.now) }
 {
@@ -68,10 +60,6 @@ pub fn join(alloc: Global, folder: &str, name: &str) -> Result<String, AllocErro
 
 /// Converts the name of an item into its path in a folder, as `join` does. It allocates only if the
 /// text has no room for it.
-///
-/// # Errors
-///
-/// Returns `AllocError` if allocation fails.
 pub fn into_path(name: String, folder: &str) -> Result<String, AllocError>
     ensures { IfOk result (λ path. string_bytes path ≡ join_path folder.now (string_bytes name)) }
 {

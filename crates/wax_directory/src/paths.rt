@@ -27,10 +27,6 @@ impl Tree {
     ///
     /// A folder takes time for its items times the paths that lead into it; a tree takes stack for
     /// each level.
-    ///
-    /// # Errors
-    ///
-    /// Returns `NoMemory` if allocation fails.
     pub fn from_paths(alloc: Global, paths: &[&str]) -> Result<Tree, NoMemory>
         ensures shows { IfOk result (λ t. (path : List ℕ) → (s : Shown) × tree_law.shows t path s
             × StandsBy (tails_to path (map (λ x. x.now) paths.now)) s) }

@@ -8,7 +8,7 @@ use Rattle.wax_tree.specs.Begins.{scope_in}
 use Rattle.wax_walk.specs.Candidates.{candidate_of, of_candidate}
 use Rattle.wax_walk.specs.Forest.{Forest, listings}
 use Rattle.wax_walk.specs.Given.{Facts, Given, kept}
-use Rattle.wax_glob_walk.proofs.Combining.{ruled}
+use Rattle.wax_tree.proofs.Combining.{ruled}
 use Rattle.wax_exclude.proofs.Headline.{lists_few}
 use Rattle.wax_exclude.proofs.StackingRequests.{unruled}
 use Rattle.wax_exclude.specs.Kept.{ListsAllowed, PlainRequest, unignored_request}

@@ -1,10 +1,10 @@
 -- What is to come of a walk that opens only folders below which something is matched.
 use Rattle.std.proofs.Common.{◌≡◌, ◌∙◌, ◌≤◌, ◌<◌, ◌+◌, ◌&&◌, ℕ, Bool, true, false, if◌then◌else◌, List, [], ◌∷◌, length, refl, sym, ap, subst, inl, inr}
 use Rattle.std.proofs.lemmas.Bool.{ltb-false, ltb-true}
-use Rattle.wax_compiled.specs.Below.{goes_test}
+use Rattle.wax_prefilter.specs.Below.{goes_test}
 use Rattle.wax_directory.specs.Law.{Law}
 use Rattle.wax_directory.specs.Shown.{Shown}
-use Rattle.wax_glob_walk.specs.Programs.{matches_below, matches_from}
+use Rattle.wax_tree.specs.Programs.{matches_below, matches_from}
 use Rattle.wax_query.specs.Ranges.{Bounds}
 use Rattle.wax_token.specs.Decided.{means_test}
 use Rattle.wax_token.specs.Reads.{Span}

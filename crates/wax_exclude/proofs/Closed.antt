@@ -6,7 +6,7 @@ use Rattle.std.specs.List.{Contains}
 use Rattle.std.specs.Prelude.{All, nat_lt}
 use Rattle.std.proofs.lemmas.List.{map-append}
 use Rattle.std.proofs.lemmas.List.Elements.{All-contains, All-weaker}
-use Rattle.wax_alternatives.specs.Alternatives.{alternatives}
+use Rattle.wax_facts.specs.Alternatives.{alternatives}
 use Rattle.wax_directory.specs.Shown.{Shown, a_leaf, a_folder, a_sealed, missing, failing, child_in}
 use Rattle.wax_token.specs.Decided.{means_test}
 use Rattle.wax_tree.specs.Begins.{Origin, scope_in}

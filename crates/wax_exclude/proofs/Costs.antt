@@ -3,7 +3,7 @@ use Rattle.std.proofs.Common.{◌≡◌, ◌≤◌, ◌<◌, ◌+◌, ◌*◌, �
 use Rattle.std.specs.List.{All}
 use Rattle.std.proofs.lemmas.Bool.{and_parts, eqb-true}
 use Rattle.std.proofs.lemmas.List.Elements.{All-nil, All-cons, All-append, All-weaker}
-use Rattle.wax_alternatives.specs.Alternatives.{alternatives, beside, is_exactly_one, joined, levels, levels_each}
+use Rattle.wax_facts.specs.Alternatives.{alternatives, beside, is_exactly_one, joined, levels, levels_each}
 use Rattle.wax_components.specs.Parts.{IsComponent}
 use Rattle.wax_components.specs.TopLevel.{tokens_of}
 use Rattle.wax_token.specs.Cost.{branches_cost, copies_of, cost, costs, holds_tree, program_length}

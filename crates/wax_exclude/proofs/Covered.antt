@@ -5,8 +5,8 @@ use Rattle.std.specs.Prelude.{filter}
 use mir.Val.{bool_byte}
 use Rattle.std.specs.List.{list_any, onto_first, slice_split}
 use Rattle.std.proofs.lemmas.Bool.{lt-ltb}
-use Rattle.wax_alternatives.proofs.Means.{as_members, means_one_of, of_members}
-use Rattle.wax_alternatives.specs.Alternatives.{alternatives}
+use Rattle.wax_facts.proofs.Means.{as_members, means_one_of, of_members}
+use Rattle.wax_facts.specs.Alternatives.{alternatives}
 use Rattle.wax_directory.specs.Names.{is_some_name, names_in_path}
 use Rattle.wax_query.specs.Below.{IsBelow, ends_open}
 use Rattle.wax_token.specs.Decided.{means_test, means_tested}

@@ -1,8 +1,8 @@
 -- What is below an entry that is excluded with everything below it is excluded too; and what the marks keep.
 use Rattle.std.proofs.Common.{◌≡◌, ℕ, Bool, IsTrue, true, false, not, ◌⊎◌, cond, List, [], ◌∷◌, ◌++◌, refl}
 use Rattle.std.proofs.Common.{sym, ap, subst, ◌∙◌, inl, inr, arith, append_assoc, append-nil}
-use Rattle.wax_alternatives.proofs.Means.{as_members, means_one_of, of_members}
-use Rattle.wax_alternatives.specs.Alternatives.{alternatives}
+use Rattle.wax_facts.proofs.Means.{as_members, means_one_of, of_members}
+use Rattle.wax_facts.specs.Alternatives.{alternatives}
 use Rattle.wax_components.specs.TopLevel.{tokens_of}
 use Rattle.wax_token.specs.Decided.{means_test, means_tested}
 use Rattle.wax_query.specs.Components.{BeginsWithSlash}

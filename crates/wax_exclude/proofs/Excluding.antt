@@ -4,7 +4,7 @@ use Rattle.std.specs.Prelude.{IsTrue, nat_lt}
 use Rattle.std.specs.List.{AllZip}
 use Rattle.std.proofs.lemmas.Bool.{and_from, and_parts, and_right, false≢true, or_cases, or_left, or_right}
 use Rattle.std.proofs.lemmas.List.Elements.{filter-append}
-use Rattle.wax_alternatives.specs.Alternatives.{alternatives, MeansOneOf}
+use Rattle.wax_facts.specs.Alternatives.{alternatives, MeansOneOf}
 use Rattle.wax_program.specs.Machine.{Accepts}
 use Rattle.wax_program.specs.declared.instruction.Instruction.{Instruction}
 use Rattle.wax_token.specs.Decided.{holds_truly, means_test, means_tested, some_decided}
@@ -16,7 +16,7 @@ use Rattle.wax_walk.specs.Candidates.{Candidate}
 use Rattle.wax_walk.specs.Given.{kept, alone, with_tree}
 use Rattle.wax_exclude.specs.Covers.{covers_test, ends_wild, some_everything, wild_test}
 use Rattle.wax_exclude.specs.Marks.{covered_mark, not_mark}
-use Rattle.wax_compiled.specs.Compiled.{Instructions}
+use Rattle.wax_prefilter.specs.Compiled.{Instructions}
 use Rattle.wax_exclude.specs.Compiled.{AcceptsTree, CoverAll, IsExclusion, SomeAccepts, wild}
 use Rattle.wax_exclude.specs.Excluded.{excluded_mark, some_test}
 

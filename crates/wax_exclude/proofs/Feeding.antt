@@ -3,13 +3,13 @@ use Rattle.std.proofs.Common.{◌≡◌, ◌∙◌, ℕ, ◌+◌, ◌<◌, ◌�
 use Rattle.std.specs.Prelude.{if◌then◌else◌}
 use Rattle.std.proofs.lemmas.Bool.{ltb-false}
 use Rattle.wax_directory.specs.Shown.{Shown}
-use Rattle.wax_glob_walk.specs.Programs.{any_mark}
+use Rattle.wax_tree.specs.Programs.{any_mark}
 use Rattle.wax_tree.proofs.InRange.{along_yielded}
 use Rattle.wax_tree.proofs.Levelled.{levelled_along}
 use Rattle.wax_tree.specs.Begins.{scope_in}
 use Rattle.wax_tree.specs.Plain.{count_shown}
 use Rattle.wax_walk.proofs.Leaving.{leaves_list, levelled_opened, opens_list}
-use Rattle.wax_walk.specs.Collected.{GaveAll, IsCutShort}
+use Rattle.wax_walk.specs.Collected.{Yielded, IsCutShort}
 use Rattle.wax_walk.specs.Collected as given
 use Rattle.wax_walk.specs.declared.error.FaultKind.TheVariants.{Budget}
 use Rattle.wax_walk.specs.Forest.{nothing, preorder}
@@ -48,7 +48,7 @@ items_shown budget shown false l = omega (arith, l)
 
 -- what a walk gave is its feed
 pub feeds_ruled : (tells : List (List ℕ) → Type 0) (walk : RuledWalk) (s : Shown) (listed : List (List ℕ))
-    (xs : List Given) → GaveAll tells (walk.walked.budget + 1) (ruled_pending walk s listed) xs
+    (xs : List Given) → Yielded tells (walk.walked.budget + 1) (ruled_pending walk s listed) xs
     → FeedsRuled walk s xs
 feeds_ruled tells walk s listed xs (given.whole e t) = gives (e ∙ feeds_by_walk walk s)
 feeds_ruled tells walk s listed xs (given.lacks_memory c) =

@@ -1,6 +1,6 @@
 -- What filters say of candidates.
 use Rattle.std.proofs.Common.{◌≡◌, Bool, false, ◌&&◌, not, List, [], ◌∷◌, refl, ap, ◌∙◌, chars}
-use Rattle.wax_alternatives.specs.Alternatives.{alternatives}
+use Rattle.wax_facts.specs.Alternatives.{alternatives}
 use Rattle.wax_token.specs.Decided.{means_test}
 use Rattle.wax_walk.specs.Candidates.{Candidate, candidate_of}
 use Rattle.wax_walk.specs.Given.{Facts, with_tree}

@@ -1,7 +1,7 @@
 -- Whether something below a folder is meant, by its text and by its names.
 use Rattle.std.proofs.Common.{◌≡◌, ◌↔◌, ℕ, Bool, true, false, if◌then◌else◌, List, [], ◌∷◌, ◌++◌, refl, sym, ap}
 use Rattle.std.proofs.Common.{subst, ◌∙◌, append_assoc}
-use Rattle.wax_compiled.specs.Below.{MeansBelow, goes_test, goes_tested}
+use Rattle.wax_prefilter.specs.Below.{MeansBelow, goes_test, goes_tested}
 use Rattle.wax_directory.specs.Shown.{is_open}
 use Rattle.wax_query.specs.Below.{AreNames, ends_open, folder_text, joined_names, slashed}
 use Rattle.wax_token.specs.Meaning.{Means}

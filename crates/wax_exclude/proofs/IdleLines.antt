@@ -1,13 +1,13 @@
 -- Lines that decide nothing, and how they are found.
-use Rattle.std.proofs.Common.{◌≡◌, ◌↔◌, ◌⊎◌, ◌∙◌, ◌<◌, ◌≤◌, ◌+◌, ◌++◌, ◌∷◌, [], ℕ, zero, suc, Bool, true, false, cond, List, Option, Some, None, Contains, IsPermutation, ap, arith, inl, inr, length, map, refl, slice_get, subst, sym}
+use Rattle.std.proofs.Common.{◌≡◌, ◌↔◌, ◌⊎◌, ◌∙◌, ◌<◌, ◌≤◌, ◌+◌, ◌++◌, ◌∷◌, [], ℕ, zero, suc, Bool, true, false, cond, List, Option, Some, None, Contains, IsPermutation, ap, arith, inl, inr, length, length-append, map, refl, slice_get, subst, sym}
 use Rattle.std.proofs.lemmas.Bool.{cases_eq, cases_lt, false≢true}
 use Rattle.std.proofs.lemmas.List.Elements.{Contains-append_left, Contains-append_right, Contains-push, Contains-push_cases}
 use Rattle.std.proofs.lemmas.List.Sorted.{Contains-permutation}
 use Rattle.std.proofs.lemmas.Map.Made.{Contains-tail}
 use Rattle.std.proofs.lemmas.Option.{none-some, same_Some, slice_get_within}
 use Rattle.std.specs.Prelude.{IfOk, Result, Ok, Err}
-use Rattle.wax_alternatives.proofs.Means.{means_one_of}
-use Rattle.wax_alternatives.specs.Alternatives.{alternatives}
+use Rattle.wax_facts.proofs.Means.{means_one_of}
+use Rattle.wax_facts.specs.Alternatives.{alternatives}
 use Rattle.wax_compare.specs.Comparison.{IsWanted}
 use Rattle.wax_compare.specs.declared.wanted.Texts.TheVariants.{Paths}
 use Rattle.wax_compare.specs.declared.wanted.Wanted.TheVariants.{Both, FirstOnly}
@@ -108,6 +108,8 @@ module _ (lines : List (Line Span)) where
 
   idle_as : (idle : List IdleLine) → AreIdleAmong (HeldIgnores held) (HeldMeans held) (length held) idle → AreIdle lines idle
   idle_as idle a = record {
+    within = λ k x is. subst (λ n. x.index < n) (length_held lines) (a.within k x is);
+    ascending = a.ascending;
     each = λ k x is. reason_as x.index x.reason (a.each k x is);
     others = λ i lt none. decides_as i (a.others i (subst (λ n. i < n) (sym (length_held lines)) lt) none);
   }
@@ -319,12 +321,16 @@ both_ok (Err e) p q f = tt
 module _ (Ignores : ℕ → Type 0) (Matches : ℕ → List ℕ → Type 0) where
   pub none_idle : (idle : List IdleLine) → idle ≡ [] → AreIdleAmong Ignores Matches 0 idle
   none_idle idle e = record {
+    within = λ k x is. absurd (none-some x (sym (ap (λ xs. slice_get xs k) e) ∙ is));
+    ascending = λ j k x y lt here there. absurd (none-some y (sym (ap (λ xs. slice_get xs k) e) ∙ there));
     each = λ k x is. absurd (none-some x (sym (ap (λ xs. slice_get xs k) e) ∙ is));
     others = λ i lt none. absurd (omega (arith, lt));
   }
 
   pub one_decides : (count : ℕ) (idle : List IdleLine) → DecidesSome Ignores Matches count → AreIdleAmong Ignores Matches count idle → AreIdleAmong Ignores Matches (count + 1) idle
   one_decides count idle d a = record {
+    within = λ k x is. omega (arith, a.within k x is);
+    ascending = a.ascending;
     each = a.each;
     others = λ i lt none. elim (cases_lt i count) [
       | inl before ↦ a.others i before none
@@ -335,6 +341,18 @@ module _ (Ignores : ℕ → Type 0) (Matches : ℕ → List ℕ → Type 0) wher
   pub one_idle : (count : ℕ) (old new : List IdleLine) (x : IdleLine) → new ≡ old ++ x ∷ [] → x.index ≡ count → IsReason Ignores Matches count x.reason
       → AreIdleAmong Ignores Matches count old → AreIdleAmong Ignores Matches (count + 1) new
   one_idle count old new x grown at reason a = record {
+    within = λ k y is. elim (pushed old x k y (sym (ap (λ xs. slice_get xs k) grown) ∙ is)) [
+      | inl was ↦ omega (arith, a.within k y was)
+      | inr same ↦ subst (λ z. z.index < count + 1) same (omega (arith, at))
+    ];
+    ascending = λ j k y z lt here there.
+        let bound : k < length new = slice_get_within new k z there in
+        let low : j < length old = omega (arith, lt, bound, ap length grown, length-append old (x ∷ [])) in
+        let early : slice_get old j ≡ Some y = sym (front old x j low) ∙ (sym (ap (λ xs. slice_get xs j) grown) ∙ here) in
+        elim (pushed old x k z (sym (ap (λ xs. slice_get xs k) grown) ∙ there)) [
+          | inl was ↦ a.ascending j k y z lt early was
+          | inr same ↦ subst (λ w. y.index < w.index) same (omega (arith, a.within j y early, at))
+        ];
     each = λ k y is. elim (pushed old x k y (sym (ap (λ xs. slice_get xs k) grown) ∙ is)) [
       | inl was ↦ a.each k y was
       | inr same ↦ subst (λ z. IsReason Ignores Matches z.index z.reason) same (subst (λ i. IsReason Ignores Matches i x.reason) (sym at) reason)
@@ -354,6 +372,11 @@ module _ (Ignores : ℕ → Type 0) (Matches : ℕ → List ℕ → Type 0) wher
       kept [] y k z e = absurd (none-some z e)
       kept (w ∷ xs) y zero z e = e
       kept (w ∷ xs) y (suc k) z e = kept xs y k z e
+
+      front : (xs : List IdleLine) (y : IdleLine) (j : ℕ) → j < length xs → slice_get (xs ++ y ∷ []) j ≡ slice_get xs j
+      front [] y j low = absurd (omega (arith, low))
+      front (w ∷ xs) y zero low = refl
+      front (w ∷ xs) y (suc j) low = front xs y j (omega (arith, low))
 
       pushed : (xs : List IdleLine) (y : IdleLine) (k : ℕ) (z : IdleLine) → slice_get (xs ++ y ∷ []) k ≡ Some z → (slice_get xs k ≡ Some z) ⊎ (y ≡ z)
       pushed [] y zero z e = inr (same_Some y z e)

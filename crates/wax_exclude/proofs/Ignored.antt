@@ -2,8 +2,8 @@
 use Rattle.std.proofs.Common.{◌≡◌, ℕ, Bool, true, false, ◌&&◌, not, cond, List, [], ◌∷◌, ◌++◌, refl, ap, ◌∙◌, inl, inr}
 use Rattle.std.specs.Prelude.{IsTrue, ◌↔◌}
 use Rattle.std.proofs.lemmas.Bool.{and_from}
-use Rattle.wax_alternatives.proofs.Means.{means_one_of}
-use Rattle.wax_alternatives.specs.Alternatives.{alternatives}
+use Rattle.wax_facts.proofs.Means.{means_one_of}
+use Rattle.wax_facts.specs.Alternatives.{alternatives}
 use Rattle.wax_token.specs.Decided.{means_test, means_tested}
 use Rattle.wax_token.specs.Meaning.{MeansSome}
 use Rattle.wax_token.specs.Syntax.{Tree}

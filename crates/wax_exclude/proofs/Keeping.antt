@@ -4,7 +4,7 @@ use Rattle.wax_directory.specs.Law.{Law}
 use Rattle.wax_directory.specs.Shown.{Shown}
 use Rattle.wax_tree.specs.Begins.{Begins}
 use Rattle.wax_tree.specs.Plain.{count_shown}
-use Rattle.wax_walk.specs.Collected.{GaveAll, whole, lacks_memory, over_budget}
+use Rattle.wax_walk.specs.Collected.{Yielded, whole, lacks_memory, over_budget}
 use Rattle.wax_walk.specs.declared.error.FaultKind.TheVariants.{Budget}
 use Rattle.wax_walk.specs.Forest.{Pending, nothing, pending}
 use Rattle.wax_walk.specs.Given.{Given, fault, no_memory, is_kept}
@@ -40,16 +40,16 @@ module _ {D C : Type 0} (law : Law D C) (d : D) (request : PlainRequest) (rule :
       )
 
   pub unignored_gave : (tells : List (List ℕ) → Type 0) (s : Shown) (listed : List (List ℕ)) (xs : List Given) → law.shows d request.start s → law.tells d listed
-      → ((p : Pending Given) → u.to_come p → GaveAll tells u.listings_left p xs) → GaveAll tells (request.range.budget + 1) (unignored_pending request s listed) xs
+      → ((p : Pending Given) → u.to_come p → Yielded tells u.listings_left p xs) → Yielded tells (request.range.budget + 1) (unignored_pending request s listed) xs
   unignored_gave tells s listed xs shows told all =
-      subst (λ n. GaveAll tells n (unignored_pending request s listed) xs) (seen.listings_left ∙ begins.listings)
+      subst (λ n. Yielded tells n (unignored_pending request s listed) xs) (seen.listings_left ∙ begins.listings)
       (all (unignored_pending request s listed) (comes s listed shows told))
 
 -- ---- what is kept
 
 module _ (gives_unignored : GivesUnignored) (loses_ignored : LosesIgnored) where
   pub keeps_unignored : (tells : List (List ℕ) → Type 0) (request : PlainRequest) (s : Shown) (listed : List (List ℕ)) (xs : List Given) → IsPlainShown s
-      → GaveAll tells (request.range.budget + 1) (unignored_pending request s listed) xs → KeepsUnignored tells request s listed (filter is_kept xs)
+      → Yielded tells (request.range.budget + 1) (unignored_pending request s listed) xs → KeepsUnignored tells request s listed (filter is_kept xs)
   keeps_unignored tells request s listed xs plain (whole e t) =
       due.gives (ap (filter is_kept) e)
       (kept_entries xs ∙ (ap (filter is_kept_entry) e ∙ gives_unignored request.lines request.range request.start s plain)) t

@@ -1,7 +1,7 @@
 -- What lines say that are held by their alternatives.
 use Rattle.std.proofs.Common.{◌≡◌, ℕ, Bool, false, ◌&&◌, ◌||◌, cond, List, [], ◌∷◌, refl, ap, ◌∙◌, map}
-use Rattle.wax_alternatives.proofs.Means.{means_one_of}
-use Rattle.wax_alternatives.specs.Alternatives.{alternatives}
+use Rattle.wax_facts.proofs.Means.{means_one_of}
+use Rattle.wax_facts.specs.Alternatives.{alternatives}
 use Rattle.wax_exclude.proofs.Excluding.{some_is_pattern}
 use Rattle.wax_exclude.specs.Excluded.{some_test}
 use Rattle.wax_token.specs.Decided.{means_test}

@@ -1,6 +1,6 @@
 -- Worked examples: which components lead, and what is covered.
 use Rattle.std.proofs.Common.{◌≡◌, ℕ, false, true, List, [], ◌∷◌, Some, refl, codes}
-use Rattle.wax_alternatives.specs.Alternatives.{alternatives}
+use Rattle.wax_facts.specs.Alternatives.{alternatives}
 use Rattle.wax_token.specs.declared.token.Evaluation.TheVariants.{Eager}
 use Rattle.wax_token.specs.Syntax.{Tree, leaf, alternation, concatenation, repetition, literal, separator}
 use Rattle.wax_token.specs.Syntax.{zero_or_more, tree}

@@ -5,9 +5,9 @@ use Rattle.wax_walk.specs.Forest.{Forest, nothing, item, lists}
 use Rattle.wax_walk.specs.Given.{Facts, Mark, kept, alone, with_tree, combined_mark, Given, entry, fault, no_memory}
 use Rattle.wax_walk.specs.Given.{changed_by, cut_by}
 use Rattle.wax_exclude.specs.Wanted.{Filter, filter_mark, filter_rules, stacked}
-use Rattle.wax_glob_walk.specs.Programs.{any_mark}
+use Rattle.wax_tree.specs.Programs.{any_mark}
 use Rattle.wax_exclude.specs.GlobRequests.{AreRulesOf}
-use Rattle.wax_glob_walk.proofs.Combining.{combined_thrice, course_twice, filtered_twice, ruled}
+use Rattle.wax_tree.proofs.Combining.{combined_thrice, course_twice, filtered_twice, ruled}
 use Rattle.wax_walk.proofs.Filtered.{ruled_course}
 use Rattle.wax_walk.specs.Course.{Course, asks, stop, unknown, yields}
 

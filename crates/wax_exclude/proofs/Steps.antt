@@ -7,7 +7,7 @@ use Rattle.wax_token.specs.Kinds.{is_tree_wildcard}
 use Rattle.wax_token.specs.Syntax.{Tree}
 use Rattle.wax_token.specs.Words.{trees}
 use Rattle.wax_exclude.specs.Covers.{ends_wild, is_everything}
-use Rattle.wax_compiled.specs.Compiled.{Instructions}
+use Rattle.wax_prefilter.specs.Compiled.{Instructions}
 use Rattle.wax_exclude.specs.Compiled.{SomeAccepts}
 
 -- ---- up to the first

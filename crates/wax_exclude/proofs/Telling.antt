@@ -6,7 +6,7 @@ use Rattle.wax_directory.specs.History.{Answer}
 use Rattle.wax_directory.specs.Law.{Law}
 use Rattle.wax_directory.specs.Shown.{Items, Shown, a_folder, a_leaf, a_sealed, end, failing, folder, leaf, misnamed}
 use Rattle.wax_directory.specs.Shown.{missing, not_text, sealed, unread}
-use Rattle.wax_glob_walk.specs.Programs.{any_mark}
+use Rattle.wax_tree.specs.Programs.{any_mark}
 use Rattle.wax_tree.proofs.Answered.{along_yields, cutting_kept, lacks_alone, nothing_yields}
 use Rattle.wax_tree.proofs.AlongShown.{along_shown, distinct_missing}
 use Rattle.wax_tree.specs.Begins.{OriginTakes, along, beyond, scope_in}

@@ -17,8 +17,8 @@ use Rattle.wax_walk.specs.Forest.{Forest, nothing, pending}
 use Rattle.wax_walk.proofs.Filtered.{ruled_course}
 use Rattle.wax_walk.specs.Given.{Facts, kept, alone, with_tree, Given, entry, fault, no_memory}
 use Rattle.wax_walk.specs.View.{WalkView}
-use Rattle.wax_glob_walk.proofs.Combining.{ruled}
-use Rattle.wax_glob_walk.specs.Programs.{any_mark}
+use Rattle.wax_tree.proofs.Combining.{ruled}
+use Rattle.wax_tree.specs.Programs.{any_mark}
 use Rattle.wax_exclude.proofs.StackingRequests.{any_alone, course_unruled, unruled}
 use Rattle.wax_exclude.specs.Marks.{glob_mark, led_mark}
 use Rattle.wax_exclude.specs.TreeRequests.{WantsUnfiltered, is_unfiltered, tree_request, tree_alone}

@@ -15,7 +15,7 @@ use Rattle.wax_tree.specs.declared.steps.DepthRange.{DepthRange}
 use Rattle.wax_tree.specs.Follows.{AreDistinctAlong}
 use Rattle.wax_tree.specs.Plain.{count_shown}
 use Rattle.wax_walk.specs.Candidates.{Candidate, of_candidate}
-use Rattle.wax_walk.specs.Collected.{GaveAll, whole, lacks_memory, over_budget, Took, count_to_open}
+use Rattle.wax_walk.specs.Collected.{Yielded, whole, lacks_memory, over_budget, Took, count_to_open}
 use Rattle.wax_walk.specs.Collected.{AreOfFolders, HasFolder, all_fault_counts, all_items_lost}
 use Rattle.wax_walk.specs.declared.error.FaultKind.TheVariants.{Budget}
 use Rattle.wax_walk.proofs.Filtered.{filtered_begins, ruled_course}
@@ -33,13 +33,13 @@ use Rattle.wax_exclude.specs.Premises.{IsPlainShown, IsWellNamed}
 use Rattle.wax_exclude.specs.Pruned.{CanWalkBy, ListsBy, Pruning, by_components, by_matches, first_rule, opening_by, rules_by}
 use Rattle.wax_exclude.specs.Walked.{wanted_entries, origin_walk, MayList}
 use Rattle.wax_exclude.specs.Wanted.{Filter, Wanted, filter_mark, filter_rules, is_kept_entry, stacked}
-use Rattle.wax_glob_walk.specs.Programs.{any_mark}
+use Rattle.wax_tree.specs.Programs.{any_mark}
 use Rattle.wax_exclude.specs.Due as due
 use Rattle.wax_exclude.specs.GlobRequests.{AreRulesOf, CanBegin, ComesExcluding, ComesWanted, GlobRequest, IsRuleOf, KeepsWanted}
 use Rattle.wax_exclude.specs.GlobRequests.{goes, is_beyond, request_excluding, request_pending, unmeant, walk_for}
 use Rattle.wax_exclude.specs.RuledWalks.{ComesRuled, RuledWalk, exceeds_range, lacking, origin_course, ruled_items, ruled_pending}
 use Rattle.wax_exclude.specs.RuledWalks.{walk_course, walks, with_rule}
-use Rattle.wax_glob_walk.proofs.Combining.{ruled}
+use Rattle.wax_tree.proofs.Combining.{ruled}
 use Rattle.wax_exclude.proofs.StackingRequests.{any_alone, any_both, any_filters, any_of_candidates, course_more, filter_rules_more}
 use Rattle.wax_exclude.proofs.StackingRequests.{stacked_any, stacked_more}
 use Rattle.wax_exclude.proofs.Reaching.{distinct_along}
@@ -62,7 +62,7 @@ module _ {D C : Type 0} (law : Law D C) where
       → Took law that new xs → Took law this new xs
   took_seen this that new xs seen took = record {
     all = λ p h.
-        subst (λ n. GaveAll (law.tells new) n p xs) seen.listings_left (took.all p (seen.to_come p h));
+        subst (λ n. Yielded (law.tells new) n p xs) seen.listings_left (took.all p (seen.to_come p h));
     told = took.told;
     answered = took.answered ∙ ap (λ d. law.answered d ++ took.told) seen.directory;
     course = course_seen this that took.told xs seen took.course;
@@ -209,10 +209,10 @@ module _ {D C : Type 0} (law : Law D C) (d : D) where
   pub all_gave : (walk : RuledWalk) (view : WalkView D) (tells : List (List ℕ) → Type 0) (s : Shown)
       (listed : List (List ℕ)) (xs : List Given) → ComesRuled law d walk view → law.shows d walk.origin.path s
       → law.tells d listed
-      → ((p : Pending Given) → view.to_come p → GaveAll tells view.listings_left p xs)
-      → GaveAll tells (walk.walked.budget + 1) (ruled_pending walk s listed) xs
+      → ((p : Pending Given) → view.to_come p → Yielded tells view.listings_left p xs)
+      → Yielded tells (walk.walked.budget + 1) (ruled_pending walk s listed) xs
   all_gave walk view tells s listed xs h shows told all =
-      subst (λ n. GaveAll tells n (ruled_pending walk s listed) xs) h.listings
+      subst (λ n. Yielded tells n (ruled_pending walk s listed) xs) h.listings
       (all (ruled_pending walk s listed) (h.comes s listed shows told))
 
 -- the rule of one filter does so
@@ -292,7 +292,7 @@ module _ (laws : WalkLaw) where
 
   pub keeps_wanted : (tells : List (List ℕ) → Type 0) (request : GlobRequest) (s : Shown) (listed : List (List ℕ))
       (xs : List Given) → CanBegin request → IsWellNamed s
-      → GaveAll tells (request.walked.budget + 1) (request_pending request s listed) xs
+      → Yielded tells (request.walked.budget + 1) (request_pending request s listed) xs
       → KeepsWanted tells request s listed (filter is_kept xs)
   keeps_wanted tells request s listed xs can named (whole e t) =
       due.gives (ap (filter is_kept) e)

@@ -10,7 +10,7 @@ use Rattle.wax_tree.specs.declared.steps.DepthRange.{DepthRange}
 use Rattle.wax_tree.specs.Prefix.{ArePlain}
 use Rattle.wax_walk.specs.Given.{Facts}
 use Rattle.wax_walk.specs.View.{WalkView, is_above}
-use Rattle.wax_compiled.specs.Below.{goes_test}
+use Rattle.wax_prefilter.specs.Below.{goes_test}
 use Rattle.wax_exclude.specs.GlobRequests.{ComesWanted, GlobRequest}
 use Rattle.wax_exclude.specs.Pruned.{Pruning, by_components, by_matches, opens_where}
 use Rattle.wax_exclude.specs.Wanted.{Wanted}

@@ -1,7 +1,7 @@
 -- The feed of a walk with filters, as a list.
 use Rattle.std.specs.Prelude.{◌≡◌, ℕ, ◌<◌, ◌≤◌, if◌then◌else◌, List, [], length}
 use Rattle.wax_directory.specs.Shown.{Shown}
-use Rattle.wax_glob_walk.specs.Programs.{any_mark}
+use Rattle.wax_tree.specs.Programs.{any_mark}
 use Rattle.wax_tree.specs.Begins.{Origin}
 use Rattle.wax_tree.specs.declared.steps.DepthRange.{DepthRange}
 use Rattle.wax_tree.specs.Plain.{count_shown}

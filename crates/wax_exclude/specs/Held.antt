@@ -1,6 +1,6 @@
 -- The lines that an ignore list holds.
 use Rattle.std.specs.Prelude.{◌≡◌, List, map}
-use Rattle.wax_alternatives.specs.Alternatives.{alternatives}
+use Rattle.wax_facts.specs.Alternatives.{alternatives}
 use Rattle.wax_token.specs.Reads.{Span}
 use Rattle.wax_exclude.specs.Ignored.{Line}
 use Rattle.wax_exclude.specs.declared.rules.IgnoreLine.{IgnoreLine}

@@ -27,7 +27,7 @@ pub record LineMeans {A : Type 0} (lines : List (Line A)) (index : ℕ) (s : Lis
 abbrev pub IsPath : List ℕ → Type 0
 IsPath s = (all_scalars s ≡ true) × IsPlainPath s
 
--- each plain path that the line means is meant by one of these lines after it
+-- each plain path that the line matches is matched by one of these lines after it
 abbrev pub IsCoveredBy : (ℕ → List ℕ → Type 0) → ℕ → List ℕ → Type 0
 IsCoveredBy Matches index covers = (s : List ℕ) → IsPath s → Matches index s
     → (later : ℕ) × Contains covers later × (index < later) × Matches later s
@@ -64,15 +64,19 @@ IsReason Ignores Matches index (Covered covers) = IsCoveredBy Matches index cove
 IsReason Ignores Matches index TakesNothingBack = TakesNothing Ignores Matches index
 IsReason Ignores Matches index Unknown = ⊤
 
--- Of lines, so many, these decide nothing, each for its reason, or it isn't known; and all others decide.
+-- Of so many lines these decide nothing, each for its reason, or it isn't known; and all others decide. They
+-- are in order.
 pub record AreIdleAmong (Ignores : ℕ → Type 0) (Matches : ℕ → List ℕ → Type 0) (count : ℕ)
     (idle : List IdleLine) : Type 0 where
+  pub within : (k : ℕ) (x : IdleLine) → slice_get idle k ≡ Some x → x.index < count
+  pub ascending : (j k : ℕ) (x y : IdleLine) → j < k → slice_get idle j ≡ Some x
+      → slice_get idle k ≡ Some y → x.index < y.index
   pub each : (k : ℕ) (x : IdleLine) → slice_get idle k ≡ Some x → IsReason Ignores Matches x.index x.reason
   pub others : (index : ℕ) → index < count
       → ((k : ℕ) (x : IdleLine) → slice_get idle k ≡ Some x → x.index ≢ index)
       → DecidesSome Ignores Matches index
 
--- the same of the lines of a list
+-- this holds of the lines of a list
 abbrev pub AreIdle : {A : Type 0} → List (Line A) → List IdleLine → Type 0
 AreIdle lines idle = AreIdleAmong (LineIgnores lines) (LineMeans lines) (length lines) idle
 

@@ -6,7 +6,7 @@ use Rattle.wax_tree.specs.Begins.{Origin}
 use Rattle.wax_tree.specs.declared.steps.DepthRange.{DepthRange}
 use Rattle.wax_tree.specs.Follows.{AreDistinctAlong}
 use Rattle.wax_walk.specs.Forest.{preorder, listings}
-use Rattle.wax_compiled.specs.Below.{goes_test}
+use Rattle.wax_prefilter.specs.Below.{goes_test}
 use Rattle.wax_exclude.specs.Candidates.{base}
 use Rattle.wax_exclude.specs.Premises.{CanWalk, IsUnmeant, IsPlainShown, IsWellNamed}
 use Rattle.wax_exclude.specs.Pruned.{CanWalkLeast, ListsBy, by_matches, least_walk}

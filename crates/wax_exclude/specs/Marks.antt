@@ -1,6 +1,6 @@
 -- How a glob's walk and an excluded pattern mark entries.
 use Rattle.std.specs.Prelude.{Bool, false, if◌then◌else◌}
-use Rattle.wax_alternatives.specs.Alternatives.{alternatives}
+use Rattle.wax_facts.specs.Alternatives.{alternatives}
 use Rattle.wax_token.specs.Decided.{means_test}
 use Rattle.wax_token.specs.Syntax.{Tree}
 use Rattle.wax_walk.specs.Candidates.{Candidate}

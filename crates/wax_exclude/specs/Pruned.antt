@@ -12,7 +12,7 @@ use Rattle.wax_tree.specs.Prefix.{ArePlain, path_from}
 use Rattle.wax_walk.specs.Candidates.{Candidate, of_candidate}
 use Rattle.wax_walk.specs.Forest.{Forest, listings}
 use Rattle.wax_walk.specs.Given.{Facts, Mark, kept, alone, Given, entry}
-use Rattle.wax_compiled.specs.Below.{goes_test}
+use Rattle.wax_prefilter.specs.Below.{goes_test}
 use Rattle.wax_walk.specs.Pruned.{Opening, all_folders, opens_by, pruned, these_folders}
 use Rattle.wax_query.specs.Below.{AreNames}
 use Rattle.wax_exclude.specs.Candidates.{base, candidate_at, text_at}

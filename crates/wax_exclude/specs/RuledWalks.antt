@@ -2,7 +2,7 @@
 use Rattle.std.specs.Prelude.{◌≡◌, ℕ, ◌+◌, Bool, if◌then◌else◌, nat_lt, List, [], ◌∷◌, ◌++◌, length}
 use Rattle.wax_directory.specs.Law.{Law}
 use Rattle.wax_directory.specs.Shown.{Shown}
-use Rattle.wax_glob_walk.specs.Programs.{any_mark}
+use Rattle.wax_tree.specs.Programs.{any_mark}
 use Rattle.wax_tree.specs.Begins.{Origin, scope_in}
 use Rattle.wax_tree.specs.Courses.{IsNamed, along_course}
 use Rattle.wax_tree.specs.declared.steps.DepthRange.{DepthRange}

@@ -1,7 +1,7 @@
 -- What is wanted of a walk, a glob's walk, and which folders it may list.
 use Rattle.std.specs.Prelude.{◌≡◌, ℕ, ◌<◌, ◌≤◌, ◌++◌, ◌&&◌, Bool, ⊤, List, [], ◌∷◌, filter, length, map}
 use Rattle.std.specs.Prelude.{chars}
-use Rattle.wax_alternatives.specs.Alternatives.{alternatives}
+use Rattle.wax_facts.specs.Alternatives.{alternatives}
 use Rattle.wax_directory.specs.Shown.{Shown}
 use Rattle.wax_tree.specs.Begins.{Origin, scope_in}
 use Rattle.wax_tree.specs.declared.steps.DepthRange.{DepthRange}

@@ -11,11 +11,11 @@ ghost use Rattle.wax_exclude.specs.Leading.{begins_with_separator, component_tes
 use crate::fitting::compile_fitting;
 use std::alloc::Global;
 use std::marker::Model;
-use wax_compiled::CompiledTokens;
 use wax_components::components;
-use wax_glob_walk::NameTest;
+use wax_prefilter::CompiledTokens;
 use wax_query::diagnostics::NoMemory;
 use wax_token::token::{ExpressionMetadata, Token};
+use wax_tree::NameTest;
 
 /// A component of a glob, compiled by itself. Contracts see its tokens.
 #[derive(Drop)]
@@ -45,10 +45,6 @@ impl<'g, 't> NameTest for LeadingComponent<'g, 't> {
     ghost decides = { λ component name. component_test component name };
 
     /// Returns whether the component matches the whole name.
-    ///
-    /// # Errors
-    ///
-    /// Returns `NoMemory` if allocation fails.
     fn is_match(&self, alloc: Global, name: &str) -> Result<bool, NoMemory>
         ensures decides { IfOk result (λ answer. answer ≡ component_test self.now (chars name.now)) }
         ensures means { IfOk result (λ answer.
@@ -87,10 +83,6 @@ fn begins_with_separator<'t>(token: &Token<'t, ExpressionMetadata>) -> bool
 /// Compiles the leading components of a glob, each by itself: those before the first that
 /// contains a boundary anywhere. If the walk begins at the root and the glob's first token isn't
 /// `/`, there are none. It takes time and memory in proportion to the tokens and their cost.
-///
-/// # Errors
-///
-/// Returns `NoMemory` if allocation fails.
 pub fn leading<'g, 't>(
     alloc: Global,
     token: &'g Token<'t, ExpressionMetadata>,

@@ -1,7 +1,7 @@
 //! Patterns that are excluded from a walk.
 ghost use Rattle.std.specs.Prelude.{◌≡◌, ◌↔◌, ◌<◌, ◌≤◌, ℕ, IfOk, IsTrue, List, chars, false};
 ghost use Rattle.std.specs.List.{All, list_any};
-ghost use Rattle.wax_alternatives.specs.Alternatives.{alternatives};
+ghost use Rattle.wax_facts.specs.Alternatives.{alternatives};
 ghost use Rattle.wax_query.specs.Outcome.{MatchBuild};
 ghost use Rattle.wax_token.specs.Cost.{cost, program_length};
 ghost use Rattle.wax_query.specs.Below.{IsBelow};
@@ -19,12 +19,12 @@ use crate::fitting::compile_fitting;
 use crate::folders::{folder_candidate, is_tree};
 use std::alloc::Global;
 use std::marker::Model;
-use wax_alternatives::into_alternatives;
-use wax_candidate::CandidatePath;
-use wax_compiled::CompiledTokens;
+use wax_facts::into_alternatives;
 use wax_lazy::Matcher;
 use wax_match::encode::CompileError;
+use wax_prefilter::CompiledTokens;
 use wax_query::diagnostics::{NoMemory, Refusal};
+use wax_query::matching::CandidatePath;
 use wax_token::token::{ExpressionMetadata, LeafKind, Token, Wildcard};
 use wax_walk::{Candidate, EntryResidue, Exclude};
 
@@ -123,10 +123,6 @@ impl Exclusion {
     ///     println!(rt; "{is_excluded}")?; // true; true; false; false
     /// }
     /// ```
-    ///
-    /// # Errors
-    ///
-    /// Returns `NoMemory` if allocation fails.
     pub fn excludes_below(&self, alloc: Global, path: &CandidatePath<'_>) -> Result<bool, NoMemory>
         ensures says { IfOk result (λ answer. IsTrue answer
             ↔ (⟦<Exclusion as Exclude>⟧.rule self.now (folder_at path.now) ≡ with_tree)) }
@@ -139,10 +135,6 @@ impl Exclusion {
     }
 
     /// Returns whether an alternative matches the text.
-    ///
-    /// # Errors
-    ///
-    /// Returns `NoMemory` if allocation fails.
     fn is_match(&self, alloc: Global, text: &str) -> Result<bool, NoMemory>
         ensures { IfOk result (λ answer. answer ≡ some_test self.now (chars text.now)) }
     {
@@ -182,10 +174,6 @@ impl Exclusion {
     }
 
     /// Returns what to exclude of an entry, and keeps nothing for later ones.
-    ///
-    /// # Errors
-    ///
-    /// Returns `NoMemory` if allocation fails.
     fn residue_once(
         &self,
         alloc: Global,

@@ -6,15 +6,11 @@ ghost use Rattle.wax_token.specs.Meaning.{MeansEach};
 ghost use Rattle.wax_token.specs.Words.{trees};
 
 use std::alloc::Global;
-use wax_compiled::CompiledTokens;
+use wax_prefilter::CompiledTokens;
 use wax_query::diagnostics::{NoMemory, Refusal};
 use wax_token::token::{ExpressionMetadata, Token};
 
 /// Compiles tokens that are known to fit, with nothing around them.
-///
-/// # Errors
-///
-/// Returns `NoMemory` if allocation fails.
 pub fn compile_fitting<'t>(
     alloc: Global,
     tokens: &[Token<'t, ExpressionMetadata>],

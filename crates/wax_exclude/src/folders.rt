@@ -5,7 +5,7 @@ ghost use Rattle.wax_walk.specs.Given.{with_tree};
 ghost use Rattle.wax_walk.specs.Said.{mark_of};
 ghost use Rattle.wax_exclude.specs.Candidates.{folder_at};
 
-use wax_candidate::CandidatePath;
+use wax_query::matching::CandidatePath;
 use wax_walk::{Candidate, EntryResidue};
 
 /// Returns the candidate of a folder with this path. Its depth is 1 if the path has a name, and

@@ -60,10 +60,6 @@ struct Lines<'a> {
 }
 
 /// Returns the lines that decide nothing about plain paths, in order.
-///
-/// # Errors
-///
-/// Returns `NoMemory` if allocation fails.
 pub(crate) fn idle_lines(
     alloc: Global,
     lines: &[IgnoreLine],

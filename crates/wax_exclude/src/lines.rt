@@ -21,10 +21,6 @@ pub struct WrittenLine<'t> {
 /// line feed or at the end of the text, and one carriage return at its end is dropped. A line that
 /// is empty, or that begins with `#`, is skipped. If a line begins with `!`, the glob after the `!`
 /// stops ignoring what it matches. Every other line is a glob that ignores what it matches.
-///
-/// # Errors
-///
-/// Returns `NoMemory` if allocation fails.
 pub fn written_lines<'t>(alloc: Global, text: &'t str) -> Result<Vec<WrittenLine<'t>>, NoMemory>
     ensures { IfOk result (λ lines. map written_of lines.items ≡ written_lines text.now) }
 {

@@ -51,10 +51,6 @@ pub struct NumberedLines {
 
 impl NumberedLines {
     /// Compiles the alternatives of the lines.
-    ///
-    /// # Errors
-    ///
-    /// Returns `NoMemory` if allocation fails.
     pub fn new(alloc: Global, lines: &[IgnoreLine]) -> Result<NumberedLines, NoMemory>
         ensures { IfOk result (KnowsLines lines.now) }
     {
@@ -71,10 +67,6 @@ impl NumberedLines {
     }
 
     /// Returns what the lines exclude of an entry, with the help of what is kept of earlier ones.
-    ///
-    /// # Errors
-    ///
-    /// Returns `NoMemory` if allocation fails.
     pub fn residue(&mut self, candidate: Candidate<'_>) -> Result<Option<EntryResidue>, NoMemory>
         requires { IsClosed self.old.matcher }
         ensures same { (lines : List IgnoreLine) → KnowsLines lines self.old → KnowsLines lines self.new }
@@ -86,10 +78,6 @@ impl NumberedLines {
     }
 
     /// Returns what `residue` does, and keeps nothing for later entries.
-    ///
-    /// # Errors
-    ///
-    /// Returns `NoMemory` if allocation fails.
     pub fn residue_once(
         &self,
         alloc: Global,

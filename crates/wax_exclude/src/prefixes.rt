@@ -27,10 +27,6 @@ pub struct PrefixNames {
 /// Splits the prefix of a glob into names, with which every path that matches begins. It is rooted
 /// if the prefix begins with `/`. Returns `None` if two `/` are side by side in the prefix: no path
 /// of names matches then. It takes time and memory in proportion to the texts of the tokens.
-///
-/// # Errors
-///
-/// Returns `NoMemory` if allocation fails.
 pub fn prefix_names_of<'t>(
     alloc: Global,
     token: &Token<'t, ExpressionMetadata>,
@@ -51,10 +47,6 @@ pub fn prefix_names_of<'t>(
 /// prefixes begin, if all of them are rooted or none is. Otherwise there are no names, and the walk
 /// isn't rooted. A glob with two `/` side by side in its prefix is passed over: no path of names
 /// matches it. It takes time and memory in proportion to the texts of the tokens.
-///
-/// # Errors
-///
-/// Returns `NoMemory` if allocation fails.
 pub fn common_prefix_of<'t>(
     alloc: Global,
     tokens: &[Token<'t, ExpressionMetadata>],

@@ -16,11 +16,11 @@ use crate::idle::IdleLine;
 use crate::numbers::NumberedLines;
 use std::alloc::Global;
 use std::marker::Model;
-use wax_alternatives::into_alternatives;
-use wax_candidate::CandidatePath;
+use wax_facts::into_alternatives;
 use wax_match::encode;
 use wax_match::encode::CompileError;
 use wax_query::diagnostics::{NoMemory, Refusal};
+use wax_query::matching::CandidatePath;
 use wax_token::token::{ExpressionMetadata, Token};
 use wax_walk::{Candidate, EntryResidue, Exclude};
 
@@ -125,10 +125,6 @@ impl Model for IgnoreRule {
 impl IgnoreRule {
     /// Builds the rule from its lines. It takes time and memory in proportion to their tokens and
     /// their cost.
-    ///
-    /// # Errors
-    ///
-    /// Returns `NoMemory` if allocation fails.
     pub fn new(alloc: Global, lines: Vec<IgnoreLine>) -> Result<IgnoreRule, NoMemory>
         ensures lines { IfOk result (λ rule. rule ≡ lines.items) }
         ensures says { IfOk result (λ rule. (ls : List (Line Span)) → HasLines rule ls
@@ -139,10 +135,6 @@ impl IgnoreRule {
     }
 
     /// Returns whether the last line that matches the path ignores it; false if no line matches.
-    ///
-    /// # Errors
-    ///
-    /// Returns `NoMemory` if allocation fails.
     pub fn is_ignored(&self, alloc: Global, path: &CandidatePath<'_>) -> Result<bool, NoMemory>
         ensures { IfOk result (λ answer. (ls : List (Line Span)) → HasLines self.now ls
             → answer ≡ is_ignored ls path.now) }
@@ -157,10 +149,6 @@ impl IgnoreRule {
     /// If it returns false, everything below may still be ignored, each path by itself. If a `/`
     /// follows the last name of the path, no promise is made of what is below. It takes time in
     /// proportion to the number of lines.
-    ///
-    /// # Errors
-    ///
-    /// Returns `NoMemory` if allocation fails.
     pub fn ignores_below(&self, alloc: Global, path: &CandidatePath<'_>) -> Result<bool, NoMemory>
         ensures says { IfOk result (λ answer. IsTrue answer
             ↔ (⟦<IgnoreRule as Exclude>⟧.rule self.now (folder_at path.now) ≡ with_tree)) }
@@ -194,10 +182,6 @@ impl IgnoreRule {
 
     /// Returns the lines that decide nothing about plain paths, in order, each with the reason. A line
     /// is compared with few others, mostly; each comparison reaches at most `most_states` states.
-    ///
-    /// # Errors
-    ///
-    /// Returns `NoMemory` if allocation fails.
     pub fn idle_lines(&self, alloc: Global, most_states: usize) -> Result<Vec<IdleLine>, NoMemory>
         ensures { IfOk result (λ idle. (ls : List (Line Span)) → HasLines self.now ls
             → AreIdle ls idle.items) }

@@ -3,12 +3,12 @@
 ghost use Rattle.std.specs.Prelude.{◌≡◌, ◌+◌, ◌≤◌, All, List, ℕ, IfOk, false, filter, length, map};
 ghost use Rattle.std.specs.Iterator.{IsFinite, size};
 ghost use Rattle.wax_directory.specs.Shown.{Shown};
-ghost use Rattle.wax_glob_walk.specs.Programs.{any_mark};
+ghost use Rattle.wax_tree.specs.Programs.{any_mark};
 ghost use Rattle.wax_exclude.specs.Feeds.{FeedsRuled};
 ghost use Rattle.wax_exclude.specs.GlobRequests.{AreRulesOf, ComesWanted, KeepsWanted, CanBegin, GlobRequest};
 ghost use Rattle.wax_exclude.specs.GlobRequests.{request_excluding, request_pending};
 ghost use Rattle.wax_token.specs.Reads.{Span};
-ghost use Rattle.wax_walk.specs.Collected.{GaveAll, Took};
+ghost use Rattle.wax_walk.specs.Collected.{Yielded, Took};
 ghost use Rattle.wax_walk.specs.Entries.{given_of, given_outcome};
 ghost use Rattle.wax_walk.specs.Given.{Given, is_kept};
 ghost use Rattle.wax_walk.specs.Known.{KnownItem, KnownOutcome};
@@ -20,8 +20,8 @@ ghost use Rattle.wax_exclude.specs.Wanted.{Filter};
 use crate::law::law_of_walks;
 use std::alloc::Global;
 use wax_filter::filter::Separation;
-use wax_glob_walk::FilterAny;
 use wax_query::diagnostics::NoMemory;
+use wax_tree::FilterAny;
 use wax_walk::{
     Entry, Exclude, FileIterator, WalkError, collect as collect_items,
     collect_feed as collect_feed_items,
@@ -96,7 +96,7 @@ where
     ensures wanted { IfOk result (λ r. (d : I.Directory) (request : GlobRequest) (s : Shown)
         (listed : List (List ℕ)) → ComesWanted I.Directory.law d request (I.view walk)
         → I.Directory.law.shows d request.origin.path s → I.Directory.law.tells d listed
-        → GaveAll (I.Directory.law.tells r.1) (request.walked.budget + 1) (request_pending request s listed)
+        → Yielded (I.Directory.law.tells r.1) (request.walked.budget + 1) (request_pending request s listed)
         (map (given_of I.Entry.facts I.Residue.facts) r.0.items)) }
     ensures feed { IfOk result (λ r. (d : I.Directory) (ruled : RuledWalk) (s : Shown)
         (listed : List (List ℕ)) → ComesRuled I.Directory.law d ruled (I.view walk)

@@ -4,10 +4,10 @@ use Rattle.wax_token.specs.Reads.{Span}
 use Rattle.wax_token.specs.Syntax.{Tree, Trees, alternation, class, concatenation, leaf, literal, more, none}
 use Rattle.wax_token.specs.Syntax.{one, repetition, separator, tree, zero_or_more}
 use Rattle.wax_token.specs.Words.{members}
-use Rattle.wax_break.specs.Rules.{alternative_breaks, branch_breaks, break_in, first_that_holds, side_has_boundary}
-use Rattle.wax_break.specs.Rules.{last_of, rows_of, sub_glob_breaks}
+use Rattle.wax_facts.specs.Rules.{alternative_breaks, branch_breaks, break_in, first_that_holds, side_has_boundary}
+use Rattle.wax_facts.specs.Rules.{last_of, rows_of, sub_glob_breaks}
 use Rattle.wax_token.specs.Kinds.{is_separator_leaf, is_such, is_tree_leaf}
-use Rattle.wax_break.specs.Situated.{Situated}
+use Rattle.wax_facts.specs.Situated.{Situated}
 use Rattle.wax_token.specs.Kinds.{is_boundary_leaf}
 use Rattle.wax_facts.proofs.Lists.{nil_left, nil_right}
 use Rattle.wax_facts.proofs.Truths.{and_left, true_false}

@@ -2,8 +2,8 @@
 use Rattle.std.proofs.Common.{Bool, [], false, if◌then◌else◌, refl, true, ◌∷◌, ◌≡◌}
 use Rattle.wax_token.specs.Reads.{Span}
 use Rattle.wax_token.specs.Syntax.{Tree, Trees, alternation, concatenation, leaf, more, none, repetition}
-use Rattle.wax_break.specs.Rules.{adjacent_boundaries, adjacent_span, are_incompatible, boundary_break, broken}
-use Rattle.wax_break.specs.Situated.{Situated}
+use Rattle.wax_facts.specs.Rules.{adjacent_boundaries, adjacent_span, are_incompatible, boundary_break, broken}
+use Rattle.wax_facts.specs.Situated.{Situated}
 use Rattle.wax_facts.specs.Orderly.{Apart, ApartEach, ApartSome, Flat, FlatEach, FlatSome}
 use Rattle.wax_facts.proofs.Lists.{nil_left, nil_right}
 use Rattle.wax_facts.proofs.NoBreak.{Lawful, LawfulEach, LawfulSome, after_this, before_these, broken_lawful}

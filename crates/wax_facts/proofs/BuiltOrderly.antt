@@ -2,7 +2,7 @@
 use Rattle.std.proofs.Common.{List, [], ℕ, ◌∷◌, ◌≡◌}
 use Rattle.wax_token.specs.Reads.{Reads, Span}
 use Rattle.wax_token.specs.Syntax.{Tree}
-use Rattle.wax_break.specs.Rules.{broken}
+use Rattle.wax_facts.specs.Rules.{broken}
 use Rattle.wax_facts.specs.Orderly.{Flat, Full, Orderly}
 use Rattle.wax_facts.proofs.BrokenApart.{broken_apart}
 use Rattle.wax_facts.proofs.ReadsFull.{reads_full}

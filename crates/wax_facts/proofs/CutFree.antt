@@ -3,7 +3,7 @@ use Rattle.std.proofs.Common.{List, None, Option, Some, [], ap, append-nil, arit
 use Rattle.std.proofs.Common.{subst, suc, sym, true, zero, ℕ, ◌++◌, ◌∙◌, ◌≡◌, ◌≢◌}
 use Rattle.wax_query.specs.Components.{EndsWithSlash}
 use Rattle.wax_token.specs.Syntax.{Tree, Trees, more, none}
-use Rattle.wax_break.specs.Situated.{first_starts_in}
+use Rattle.wax_facts.specs.Situated.{first_starts_in}
 use Rattle.wax_token.specs.Kinds.{is_boundary_leaf}
 use Rattle.wax_facts.specs.Orderly.{ApartEach, FullEach, IsSome, Orderly, WordedEach}
 use Rattle.wax_facts.specs.Prefix.{Cut, Prefix, PrefixOf, opened, or_nothing}

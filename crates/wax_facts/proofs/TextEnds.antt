@@ -6,8 +6,8 @@ use Rattle.wax_query.specs.Components.{EndsWithSlash}
 use Rattle.wax_token.specs.Reads.{is_one_of}
 use Rattle.wax_token.specs.Syntax.{Leaf, Tree, Trees, alternation, class, concatenation, leaf, literal, more}
 use Rattle.wax_token.specs.Syntax.{none, one, repetition, separator, tree, zero_or_more}
-use Rattle.wax_break.specs.Rules.{are_incompatible}
-use Rattle.wax_break.specs.Situated.{ends_in, last_ends_in}
+use Rattle.wax_facts.specs.Rules.{are_incompatible}
+use Rattle.wax_facts.specs.Situated.{ends_in, last_ends_in}
 use Rattle.wax_token.specs.Kinds.{is_boundary_leaf}
 use Rattle.wax_facts.specs.InvariantText.{LeafText, Text, TextOfEach, times}
 use Rattle.wax_facts.specs.Orderly.{Apart, ApartEach, Full, FullEach, IsSome, Worded, WordedEach, WordedLeaf}

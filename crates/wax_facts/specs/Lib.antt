@@ -1,4 +1,7 @@
+pub mod Alternatives
+pub mod CopySizes
 pub mod Exhaustive
+pub mod FirstRow
 pub mod InvariantText
 pub mod Joined
 pub mod Longest
@@ -9,4 +12,8 @@ pub mod Prefix
 pub mod Rest
 pub mod Root
 pub mod RootedTrees
+pub mod Rules
+pub mod Situated
+pub mod SizeBounds
+pub mod Sizes
 pub mod inner

@@ -1,3 +1,4 @@
 pub mod Bodies
 pub mod Cuts
+pub mod Opened
 pub mod Opening

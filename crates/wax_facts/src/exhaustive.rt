@@ -30,18 +30,18 @@ pub fn is_exhaustive<'t, A>(token: &Token<'t, A>) -> When
     ensures always { result ≡ Always → (s r : List ℕ) → Means token.now false false s
         → Means token.now false false (s ++ 47 ∷ r) }
 {
-    find_exhaustive(token)
+    exhaustive_of(token)
 }
 
 #[cycle(end)]
-fn find_exhaustive<'t, A>(token: &Token<'t, A>) -> When
+fn exhaustive_of<'t, A>(token: &Token<'t, A>) -> When
     ensures { result ≡ exhaustive token.now }
 {
     match token.topology() {
         Topology::Branch(branch) => match branch {
-            BranchKind::Alternation(a) => find_common_end(a.tokens.as_slice()),
-            BranchKind::Concatenation(c) => find_last(c.tokens.as_slice()),
-            BranchKind::Repetition(r) => optional(r.lower, find_exhaustive(&r.token)),
+            BranchKind::Alternation(a) => exhaustive_of_branches(a.tokens.as_slice()),
+            BranchKind::Concatenation(c) => exhaustive_of_last(c.tokens.as_slice()),
+            BranchKind::Repetition(r) => optional(r.lower, exhaustive_of(&r.token)),
         },
         Topology::Leaf(leaf) => leaf_exhaustive(leaf),
     }
@@ -49,18 +49,18 @@ fn find_exhaustive<'t, A>(token: &Token<'t, A>) -> When
 
 #[cycle(end)]
 #[tactic(auto, using(crate::proofs::Sizes::element_size, crate::proofs::Commons::last_is))]
-fn find_last<'t, A>(tokens: &[Token<'t, A>]) -> When
+fn exhaustive_of_last<'t, A>(tokens: &[Token<'t, A>]) -> When
     ensures { result ≡ exhaustive_last (trees tokens.now) }
 {
     if tokens.is_empty() {
         return When::Never;
     }
-    find_exhaustive(&tokens[tokens.len() - 1])
+    exhaustive_of(&tokens[tokens.len() - 1])
 }
 
 #[cycle(end)]
 #[tactic(auto, using(crate::proofs::Sizes::element_size))]
-fn find_common_end<'t, A>(tokens: &[Token<'t, A>]) -> When
+fn exhaustive_of_branches<'t, A>(tokens: &[Token<'t, A>]) -> When
     ensures { result ≡ exhaustive_some (trees tokens.now) }
 {
     let mut index = tokens.len();
@@ -68,10 +68,10 @@ fn find_common_end<'t, A>(tokens: &[Token<'t, A>]) -> When
         return When::Never;
     }
     index -= 1;
-    let mut common = find_exhaustive(&tokens[index]);
+    let mut common = exhaustive_of(&tokens[index]);
     while index > 0 {
         index -= 1;
-        common = find_exhaustive(&tokens[index]).certainty(common);
+        common = exhaustive_of(&tokens[index]).certainty(common);
     }
     common
 }

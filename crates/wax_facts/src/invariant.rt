@@ -27,10 +27,6 @@ use wax_token::token::{BranchKind, Class, LeafKind, Literal, Repetition, Token, 
 ///
 /// Takes time and memory proportional to the text, once for each branch around it. `<a:65535>` has
 /// a long one.
-///
-/// # Errors
-///
-/// Returns `NoMemory` if allocation fails.
 pub fn text<'t, A>(alloc: Global, token: &Token<'t, A>) -> Result<Option<String>, NoMemory>
     ensures exact { IfOk result (λ found. MatchOption found (Variant token.now) (λ t.
         Text token.now (chars (string_bytes t)))) }

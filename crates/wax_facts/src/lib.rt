@@ -2,8 +2,10 @@
 //! the rest after it.
 #![tactic(auto)]
 
+mod alternatives;
 mod exhaustive;
 mod invariant;
+mod laws;
 mod longest;
 mod opened;
 mod optional;
@@ -11,10 +13,14 @@ mod parts;
 mod prefix;
 mod rest;
 mod root;
+mod rules;
 
+pub use alternatives::into_alternatives;
 pub use exhaustive::is_exhaustive;
 pub use invariant::{has_variant_casing, text};
+pub use laws::{law_of_copies, law_of_sizes, law_of_tables};
 pub use longest::law_of_prefixes;
 pub use parts::{built_is_orderly, is_rooted_tree, partition, split_tokens};
 pub use prefix::invariant_text_prefix;
 pub use root::has_root;
+pub use rules::{Break, Row, RuleErrorKind, Side, Sort, Terminal};

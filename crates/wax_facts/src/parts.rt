@@ -1,7 +1,7 @@
 //! Splitting a glob into its prefix and the rest.
 ghost use Rattle.std.specs.Prelude.{◌≡◌, ◌↔◌, ◌∷◌, [], ℕ, IfOk, IfSome, List, MatchOption, None, false};
 ghost use Rattle.std.specs.Prelude.{chars, string_bytes};
-ghost use Rattle.wax_break.specs.Rules.{broken};
+ghost use Rattle.wax_facts.specs.Rules.{broken};
 ghost use Rattle.wax_token.specs.Meaning.{Means};
 ghost use Rattle.wax_token.specs.Reads.{Reads};
 ghost use Rattle.wax_token.specs.Words.{trees};
@@ -35,10 +35,6 @@ pub fn built_is_orderly<'t>(token: &Token<'t, ExpressionMetadata>)
 /// The rest reaches from the cut to the end of the sub-glob that has the cut, and a `**` at its
 /// beginning loses its `/`. Spans stay those of the whole expression. Takes time and memory
 /// proportional to the texts of the tokens.
-///
-/// # Errors
-///
-/// Returns `NoMemory` if allocation fails.
 pub fn partition<'t>(
     alloc: Global,
     token: Token<'t, ExpressionMetadata>,
@@ -62,10 +58,6 @@ pub fn partition<'t>(
 /// Splits a glob into its prefix and the tokens after it, unchanged. Also returns the byte of the
 /// expression at which the glob or sub-glob of these tokens ends. Takes time and memory
 /// proportional to the texts of the tokens.
-///
-/// # Errors
-///
-/// Returns `NoMemory` if allocation fails.
 pub fn split_tokens<'t>(
     alloc: Global,
     token: Token<'t, ExpressionMetadata>,

@@ -22,10 +22,6 @@ use wax_token::token::{Annotation, LeafKind, Token};
 /// prefix is `/` and takes no token.
 ///
 /// Takes time and memory proportional to the texts of the tokens.
-///
-/// # Errors
-///
-/// Returns `NoMemory` if allocation fails.
 pub fn invariant_text_prefix<'t, A: Annotation>(
     alloc: Global,
     token: &Token<'t, A>,

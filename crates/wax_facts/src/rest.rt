@@ -17,10 +17,6 @@ use wax_token::token::{
 
 /// Returns the tokens after the first `taken` ones of the opened list, and the span of the glob or
 /// sub-glob in which these are.
-///
-/// # Errors
-///
-/// Returns `AllocError` if allocation fails.
 #[tactic(auto, using(crate::proofs::Insides::rest_smaller))]
 pub fn rest_of<'t>(
     alloc: Global,

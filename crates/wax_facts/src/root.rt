@@ -31,18 +31,18 @@ pub fn has_root<'t, A>(token: &Token<'t, A>) -> When
     ensures value { result ≡ root token.now }
     ensures always { result ≡ Always → (s : List ℕ) → Means token.now false false s → BeginsWithSlash s }
 {
-    find_root(token)
+    root_of(token)
 }
 
 #[cycle(find)]
-fn find_root<'t, A>(token: &Token<'t, A>) -> When
+fn root_of<'t, A>(token: &Token<'t, A>) -> When
     ensures { result ≡ root token.now }
 {
     match token.topology() {
         Topology::Branch(branch) => match branch {
-            BranchKind::Alternation(a) => find_common(a.tokens.as_slice()),
-            BranchKind::Concatenation(c) => find_first(c.tokens.as_slice()),
-            BranchKind::Repetition(r) => optional(r.lower, find_root(&r.token)),
+            BranchKind::Alternation(a) => root_of_branches(a.tokens.as_slice()),
+            BranchKind::Concatenation(c) => root_of_first(c.tokens.as_slice()),
+            BranchKind::Repetition(r) => optional(r.lower, root_of(&r.token)),
         },
         Topology::Leaf(leaf) => leaf_root(leaf),
     }
@@ -50,18 +50,18 @@ fn find_root<'t, A>(token: &Token<'t, A>) -> When
 
 #[cycle(find)]
 #[tactic(auto, using(crate::proofs::Sizes::element_size))]
-fn find_first<'t, A>(tokens: &[Token<'t, A>]) -> When
+fn root_of_first<'t, A>(tokens: &[Token<'t, A>]) -> When
     ensures { result ≡ root_first (trees tokens.now) }
 {
     if tokens.is_empty() {
         return When::Never;
     }
-    find_root(&tokens[0])
+    root_of(&tokens[0])
 }
 
 #[cycle(find)]
 #[tactic(auto, using(crate::proofs::Sizes::element_size))]
-fn find_common<'t, A>(tokens: &[Token<'t, A>]) -> When
+fn root_of_branches<'t, A>(tokens: &[Token<'t, A>]) -> When
     ensures { result ≡ root_some (trees tokens.now) }
 {
     let mut index = tokens.len();
@@ -69,10 +69,10 @@ fn find_common<'t, A>(tokens: &[Token<'t, A>]) -> When
         return When::Never;
     }
     index -= 1;
-    let mut common = find_root(&tokens[index]);
+    let mut common = root_of(&tokens[index]);
     while index > 0 {
         index -= 1;
-        common = find_root(&tokens[index]).certainty(common);
+        common = root_of(&tokens[index]).certainty(common);
     }
     common
 }

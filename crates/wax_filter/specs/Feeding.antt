@@ -38,10 +38,10 @@ module _ {I F A B : Type 0} (feeds : I → Option A → I → Type 0) (turns : I
   Feeds s r t = (o : Option A) × (u : I) × feeds s.0 o u × Turns turns (u, s.1) o r t
 
 -- what a closure returns for an entry, if there is one
-abbrev pub SaysAt : {F A B : Type 0} → (F → Bor A → Option B → F → Type 0) → F → Option A → Option B → F
+abbrev pub ReturnsFor : {F A B : Type 0} → (F → Bor A → Option B → F → Type 0) → F → Option A → Option B → F
     → Type 0
-SaysAt {A = A} step f (Some x) r g = (b : Bor A) × (b.now ≡ x) × step f b r g
-SaysAt step f None r g = (r ≡ None) × (g ≡ f)
+ReturnsFor {A = A} step f (Some x) r g = (b : Bor A) × (b.now ≡ x) × step f b r g
+ReturnsFor step f None r g = (r ≡ None) × (g ≡ f)
 
 -- of a layer that filters entries: a call of its closure, the entry of an item, what a kept item becomes when
 -- it is excluded, and cancelling
@@ -59,7 +59,7 @@ entry_layer step shown makes cancels = record { step = step; shown = shown; make
 -- an item is kept or excluded, and what is below it is cancelled, as the closure decides for its entry
 abbrev pub ByEntry : {I E G F R A : Type 0} → EntryLayer I E G F R A → I × E
     → Separation G F (TreeResidue R) → Separation G F (TreeResidue R) → I × E → Type 0
-ByEntry by s x y t = (said : Option (TreeResidue (Unit {0}))) × SaysAt by.step s.1 (by.shown x) said t.1
+ByEntry by s x y t = (said : Option (TreeResidue (Unit {0}))) × ReturnsFor by.step s.1 (by.shown x) said t.1
     × SeparatesBy by.makes said x y × CancelsBy by.cancels said x s.0 t.0
 
 -- the walk is unchanged, or cancelled

@@ -21,7 +21,7 @@ branch_of (kind.Alternation b) = record { kind = Alternation; tokens = b.tokens.
 branch_of (kind.Concatenation b) = record { kind = Concatenation; tokens = b.tokens.items }
 branch_of (kind.Repetition b) = record { kind = Repetition b.lower b.upper; tokens = b.token.value ∷ [] }
 
--- what stands at these places, in their order; a place past the end gives nothing
+-- what is at these places, in their order; a place past the end has nothing
 abbrev pub picked : {X : Type 0} → List ℕ → List X → List X
 picked places xs = flat_map (λ n. take 1 (drop n xs)) places
 

@@ -1,4 +1,4 @@
--- Where tokens stand in a tree.
+-- Where tokens are in a tree.
 use Rattle.std.specs.Prelude.{ℕ, ◌+◌, ◌-◌, ◌^◌, min}
 use Rattle.wax_fold.specs.declared.walk.entry.Position.{Position}
 

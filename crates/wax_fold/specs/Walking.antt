@@ -47,8 +47,8 @@ module _ {A : Type 0} (chosen : Branch A → List ℕ) where
   abbrev pub below : Walking A → List (Entry A)
   below w = breadth_first chosen (below_current w.current)
 
-  -- the first of what is to come is given, and is the current token; nothing at the end, and nothing after
-  -- want of memory
+  -- the first of what is to come is returned, and is the current token; nothing at the end, and nothing after
+  -- memory ran out
   abbrev pub Nexts : Walking A → Option (Result (WalkEntry (Bor (Tree A))) NoMemory) → Walking A → Type 0
   Nexts old None new = (to_come old ≡ []) × (to_come new ≡ [])
   Nexts old (Some (Ok e)) new = (to_come old ≡ walk_entry e ∷ to_come new)
@@ -59,6 +59,6 @@ module _ {A : Type 0} (chosen : Branch A → List ℕ) where
   abbrev pub items_left : Walking A → ℕ
   items_left w = 2 * length (to_come w) + length (listed_term w.current)
 
--- what is below the current token is left out
+-- what is below the current token is skipped
 abbrev pub cancelled : {A : Type 0} → Walking A → Walking A
 cancelled w = record { rest = w.rest; current = None }

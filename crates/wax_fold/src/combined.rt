@@ -8,20 +8,15 @@ ghost use Rattle.wax_fold.specs.Bare.{bare, baring};
 ghost use Rattle.wax_fold.specs.Branches.{composed};
 ghost use Rattle.wax_fold.specs.Mapped.{Mapping};
 
-use crate::token_tree::TokenTree;
 use crate::walk::{BranchFold, FoldMap, fold_map};
 use std::alloc::Global;
 use wax_query::diagnostics::NoMemory;
-use wax_token::token::{Alternation, BranchKind, LeafKind, Token, new_branch, new_leaf};
+use wax_token::token::{Alternation, BranchKind, LeafKind, Token, TokenTree, new_branch, new_leaf};
 
 /// Combines tokens into one alternation, which matches what at least one of them matches. Without
 /// tokens it matches nothing. Annotations are dropped, and the rules aren't checked:
 /// `wax::rule::Checked::any` combines tokens that keep them. Takes time and memory linear in the
 /// tokens.
-///
-/// # Errors
-///
-/// Returns `NoMemory` if allocation fails.
 pub fn any<'t, T>(alloc: Global, all: Vec<T>) -> Result<Token<'t, ()>, NoMemory>
 where
     T: TokenTree<'t> + Drop,

@@ -2,8 +2,6 @@
 #![tactic(auto)]
 
 mod combined;
-mod token_tree;
 pub mod walk;
 
 pub use combined::any;
-pub use token_tree::{ConcatenationTree, TokenTree};

@@ -4,10 +4,10 @@ use Rattle.std.proofs.lemmas.List.{length-replicate}
 use Rattle.wax_lazy.specs.declared.cache.Cache.{Cache}
 use Rattle.wax_states.specs.declared.table.State.{State}
 use Rattle.std.specs.Global.{Vec}
-use Rattle.wax_lazy.specs.inner.Cached.{AreParted, GrowsBy, IsAdded, IsCacheOf, IsCleared, IsInterned, IsRestarted, IsSameMaker}
+use Rattle.wax_lazy.specs.inner.Cached.{AreParted, GrowsBy, IsAdded, IsCacheOf, IsCleared, IsInterned, IsRestarted, IsSameMaker, KeepsCache}
 use Rattle.wax_lazy.specs.inner.Rows.{AreRows}
-use Rattle.wax_lazy.specs.inner.Table.{AreNumbersOf, BeginsTexts, IsRestState, IsState, IsTable, AreWideCells, KeepsStates}
-use Rattle.wax_states.specs.States.{IsSettled, IsStatePlace, IsTransition, IsWrittenWide, AreEmpty, places_at, places_in}
+use Rattle.wax_lazy.specs.inner.Table.{AreNumbersOf, BeginsTexts, IsFailureState, IsState, IsTable, AreWideCells, KeepsStates}
+use Rattle.wax_states.specs.States.{IsSettled, HasState, IsTransition, IsWrittenWide, AreEmpty, places_at, places_in}
 use Rattle.wax_lazy.proofs.RowCells.{rows_empty, rows_keep}
 use Rattle.wax_lazy.proofs.Tables.{begins_keeps, keeps_append, keeps_more, settled_keeps, slice_get_end, table_empty, table_filled, table_push, table_settled, wide_empty, wide_keeps, wide_written}
 use Rattle.wax_program.specs.declared.instruction.Instruction.{Instruction}
@@ -38,20 +38,20 @@ module _ (code : List Instruction) (old new : Cache) (held : IsCacheOf code old)
     first = no_first code new.table.states.items new.start new.first c.first;
   }
 
-  alone : (s left : State) → IsState code old.table.states.items s → left.places ≡ s.places → left.rest ≡ None → left.accepts ≡ s.accepts
+  alone : (s left : State) → IsState code old.table.states.items s → left.places ≡ s.places → left.failure ≡ None → left.accepts ≡ s.accepts
       → left.numbers ≡ None → IsState code [] left
-  alone s left good places rest accepts numbers = record {
+  alone s left good places failure accepts numbers = record {
     ends = subst (λ z. IfSome left.accepts (λ b. IsTrue b ↔ AnyAmong code z.items [])) (sym places)
         (subst (λ o. IfSome o (λ b. IsTrue b ↔ AnyAmong code s.places.items [])) (sym accepts) good.ends);
     numbers = subst (λ o. IfSome o (λ v. AreNumbersOf code left.places.items v.items)) (sym numbers) tt;
-    rest = subst (λ o. IfSome o (IsRestState code [] left.places.items left.own.items)) (sym rest) tt;
+    failure = subst (λ o. IfSome o (IsFailureState code [] left.places.items left.own.items)) (sym failure) tt;
   }
 
   pub cache_restarted : (s : State) → IsState code old.table.states.items s → IsRestarted old new s → IsCacheOf code new
   cache_restarted s good c = record {
     size = size_same c.maker;
     start = start_same c.maker;
-    table = subst (λ z. IsTable code z new.table.cells.items) (sym c.states) (subst (IsTable code (c.left ∷ [])) (sym c.cells) (table_push code [] [] (table_empty code) c.left (alone s c.left good c.places c.rest c.accepts c.numbers)));
+    table = subst (λ z. IsTable code z new.table.cells.items) (sym c.states) (subst (IsTable code (c.left ∷ [])) (sym c.cells) (table_push code [] [] (table_empty code) c.left (alone s c.left good c.places c.failure c.accepts c.numbers)));
     wide = wide_empty code new.table.states.items new.table.wide_cells.items c.wide;
     rows = rows_empty code new.table.states.items new.rows.keys.items new.rows.cells.items c.row_keys c.row_cells;
     first = no_first code new.table.states.items new.start new.first c.first;
@@ -77,9 +77,9 @@ module _ (code : List Instruction) (old new : Cache) (held : IsCacheOf code old)
   }
 
   pub cache_kept : {E : Type 0} (s : State) (result : Result ℕ E) → IsState code old.table.states.items s → IfOk result (IsAdded old new s) → OnErr result (IsCleared old new)
-      → IsCacheOf code new
-  cache_kept s (Ok number) good ok err = cache_added s number good ok
-  cache_kept s (Err e) good ok err = cache_cleared err
+      → KeepsCache code old new
+  cache_kept s (Ok number) good ok err = record { cache = cache_added s number good ok; start = ok.maker.start }
+  cache_kept s (Err e) good ok err = record { cache = cache_cleared err; start = err.maker.start }
 
 module _ (old new : Cache) (s : State) (number : ℕ) (a : IsAdded old new s number) where
   pub added_keeps : KeepsStates old.table.states.items new.table.states.items
@@ -113,10 +113,10 @@ module _ (old new : Cache) (s : State) (number : ℕ) (a : IsAdded old new s num
     length-replicate {A = ℕ} 128 0,
   )
 
-pub cache_filled : (code : List Instruction) (old new : Cache) (at c cell : ℕ) → IsCacheOf code old → IsStatePlace old.table.states.items at
-    → IsTransition code old.table.states.items (places_at old.table.states.items (at / 128)) c cell
+pub cache_filled : (code : List Instruction) (old new : Cache) (at c cell : ℕ) → IsCacheOf code old → HasState old.table.states.items at
+    → IsTransition code old.table.states.items (places_at old.table.states.items at) c cell
     → new.stepper ≡ length code → new.start ≡ old.start → new.first ≡ old.first → new.table.states ≡ old.table.states
-    → (c < 128 → new.table.cells.items ≡ set old.table.cells.items (at + c) cell) → (128 ≤ c → new.table.cells.items ≡ old.table.cells.items)
+    → (c < 128 → new.table.cells.items ≡ set old.table.cells.items (128 * at + c) cell) → (128 ≤ c → new.table.cells.items ≡ old.table.cells.items)
     → IsWrittenWide old.table.wide_cells.items new.table.wide_cells.items at c cell → new.rows ≡ old.rows → IsCacheOf code new
 cache_filled code old new at c cell held p says sized start first states filled unfilled written rows = record {
   size = sized;
@@ -136,8 +136,8 @@ module _ (old new : Cache) (s : State) (r : IsRestarted old new s) where
   pub restarted_one : length new.table.states.items ≡ 1
   restarted_one = ap length r.states
 
-  pub restarted_place : IsStatePlace new.table.states.items 0
-  restarted_place = record { whole = refl; kept = let one = restarted_one in omega (arith, one) }
+  pub restarted_place : HasState new.table.states.items 0
+  restarted_place = let one = restarted_one in omega (arith, one)
 
   pub restarted_places : (t : ℕ) → slice_get old.table.states.items t ≡ Some s → places_at new.table.states.items 0 ≡ places_at old.table.states.items t
   restarted_places t e = ap (λ z. places_in (slice_get z 0)) r.states ∙ ap (λ z. z.items) r.places ∙ ap places_in (sym e)
@@ -202,26 +202,26 @@ cache_prepared code old new held stepper start first states cells wide rows = re
 }
 
 -- a new state whose places are those that were reached, in the parts that are known
-pub state_parted : (code : List Instruction) (c : Cache) (places own : Vec ℕ) (rest : Option ℕ) → IfSome rest (AreParted code c)
-    → places.items ≡ c.reached.items → IfSome rest (λ _. own.items ≡ c.others.items)
-    → IsState code c.table.states.items (record { places = places; own = own; rest = rest; accepts = None; numbers = None })
+pub state_parted : (code : List Instruction) (c : Cache) (places own : Vec ℕ) (failure : Option ℕ) → IfSome failure (AreParted code c)
+    → places.items ≡ c.reached.items → IfSome failure (λ _. own.items ≡ c.others.items)
+    → IsState code c.table.states.items (record { places = places; own = own; failure = failure; accepts = None; numbers = None })
 state_parted code c places own (Some at) parted same copied = record {
   ends = tt;
   numbers = tt;
-  rest = subst (λ z. IsRestState code c.table.states.items z own.items at) (sym same)
-      (subst (λ z. IsRestState code c.table.states.items c.reached.items z at) (sym copied) parted);
+  failure = subst (λ z. IsFailureState code c.table.states.items z own.items at) (sym same)
+      (subst (λ z. IsFailureState code c.table.states.items c.reached.items z at) (sym copied) parted);
 }
-state_parted code c places own None parted same copied = record { ends = tt; numbers = tt; rest = tt }
+state_parted code c places own None parted same copied = record { ends = tt; numbers = tt; failure = tt }
 
 some_state : {s r : State} → Some s ≡ Some r → s ≡ r
 some_state e = cc
 
--- a state that is kept without its rest, after all states were removed
+-- a state that is kept without its failure state, after all states were removed
 pub restarted : (old mid new : Cache) (s taken left : State) (number t : ℕ) → IsCleared old mid → IsAdded mid new left number
     → slice_get old.table.states.items t ≡ Some s → slice_get old.table.states.items t ≡ Some taken
-    → left.places ≡ taken.places → left.rest ≡ None → left.accepts ≡ taken.accepts
+    → left.places ≡ taken.places → left.failure ≡ None → left.accepts ≡ taken.accepts
     → left.numbers ≡ None → IsRestarted old new s
-restarted old mid new s taken left number t cleared added is took places rest accepts numbers =
+restarted old mid new s taken left number t cleared added is took places failure accepts numbers =
     let same : taken ≡ s = some_state (sym took ∙ is) in
     record {
       maker = record {
@@ -235,7 +235,7 @@ restarted old mid new s taken left number t cleared added is took places rest ac
       };
       left = left;
       places = places ∙ ap (λ z. z.places) same;
-      rest = rest;
+      failure = failure;
       accepts = accepts ∙ ap (λ z. z.accepts) same;
       numbers = numbers;
       states = added.states ∙ ap (λ z. z ++ left ∷ []) cleared.states;

@@ -1,6 +1,6 @@
 pub mod Ahead
 pub mod Caches
-pub mod Lone
+pub mod Chains
 pub mod Numbering
 pub mod RowCells
 pub mod Tables

@@ -15,7 +15,7 @@ use Rattle.wax_program.specs.Machine.{Accepts, mark}
 use Rattle.wax_program.specs.Threads.{AnyAmong}
 use Rattle.wax_lazy.proofs.Tables.{no_place}
 use Rattle.wax_states.specs.States.{IsDead, LeadOn}
-use Rattle.wax_stepper.specs.Reached.{AreReached, taken_if}
+use Rattle.wax_states.specs.Reached.{AreReached, taken_if}
 use Rattle.wax_token.specs.Meaning.{HasNoSlash}
 
 module _ (code : List Instruction) (start : ℕ) (text : List ℕ) where

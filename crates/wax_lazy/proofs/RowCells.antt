@@ -10,12 +10,12 @@ use Rattle.wax_lazy.specs.declared.rows.RowKey.{RowKey}
 use Rattle.wax_lazy.specs.inner.Cached.{DecidesLeft}
 use Rattle.wax_lazy.specs.inner.Rows.{AreRows, EndsChar, HasRow, IsCellTo, IsRowCell, LeadsRow, begun_bytes}
 use Rattle.wax_lazy.specs.inner.Table.{KeepsStates}
-use Rattle.wax_lazy.proofs.Tables.{led_keeps, placed_keeps, places_keep, slice_get_append, slice_get_end}
+use Rattle.wax_lazy.proofs.Tables.{leads_to_keeps, placed_keeps, places_keep, slice_get_append, slice_get_end}
 use Rattle.wax_lazy.proofs.Walking.{next_of}
 use Rattle.wax_states.specs.declared.table.Next.{Next}
 use Rattle.wax_states.specs.declared.table.Next.TheVariants.{To}
 use Rattle.wax_states.specs.declared.table.State.{State}
-use Rattle.wax_states.specs.States.{IsDead, IsStatePlace, LeadsNext, LeadsTo, TakesAll, places_at}
+use Rattle.wax_states.specs.States.{IsDead, HasState, LeadsNext, LeadsTo, TakesAll, places_at}
 use Rattle.wax_program.specs.declared.instruction.Instruction.{Instruction}
 use Rattle.wax_program.specs.Threads.{AnyAmong}
 
@@ -39,17 +39,17 @@ all_bytes bytes b some last =
 pub rows_empty : (code : List Instruction) (states : List State) (keys : List RowKey) (cells : List ℕ) → keys ≡ [] → cells ≡ [] → AreRows code states keys cells
 rows_empty code states keys cells none empty = record {
   room = omega (arith, ap length none, ap length empty);
-  placed = λ r key is. absurd (no_key (sym (ap (λ z. slice_get z r) none) ∙ is));
+  has_state = λ r key is. absurd (no_key (sym (ap (λ z. slice_get z r) none) ∙ is));
   says = λ r b key is low. absurd (no_key (sym (ap (λ z. slice_get z r) none) ∙ is));
 }
 
 module _ (code : List Instruction) (old new : List State) (keeps : KeepsStates old new) (keys : List RowKey) where
-  row_cell_keeps : (key : RowKey) (b cell : ℕ) → IsStatePlace old key.at → IsRowCell code old keys key b cell → IsRowCell code new keys key b cell
+  row_cell_keeps : (key : RowKey) (b cell : ℕ) → HasState old key.state → IsRowCell code old keys key b cell → IsRowCell code new keys key b cell
   row_cell_keeps key b cell p (inl e) = inl e
   row_cell_keeps key b cell p (inr (inl (e, (c, ends, dead)))) =
-      inr (inl (e, (c, ends, subst (λ z. IsDead code z c) (sym (places_keep old new keeps key.at p)) dead)))
+      inr (inl (e, (c, ends, subst (λ z. IsDead code z c) (sym (places_keep old new keeps key.state p)) dead)))
   row_cell_keeps key b cell p (inr (inr (inl (e, (c, ends, all))))) =
-      inr (inr (inl (e, (c, ends, subst (λ z. TakesAll code z c) (sym (places_keep old new keeps key.at p)) all))))
+      inr (inr (inl (e, (c, ends, subst (λ z. TakesAll code z c) (sym (places_keep old new keeps key.state p)) all))))
   row_cell_keeps key b cell p (inr (inr (inr (r, e, inl within)))) = inr (inr (inr (r, e, inl within)))
   row_cell_keeps key b cell p (inr (inr (inr (r, e, inr (c, at, ends, row, leads))))) =
       inr (inr (inr (
@@ -60,16 +60,16 @@ module _ (code : List Instruction) (old new : List State) (keeps : KeepsStates o
           at,
           ends,
           row,
-          subst (λ z. LeadsTo code new z c at) (sym (places_keep old new keeps key.at p))
-              (led_keeps old new keeps code (places_at old (key.at / 128)) c at leads),
+          subst (λ z. LeadsTo code new z c at) (sym (places_keep old new keeps key.state p))
+              (leads_to_keeps old new keeps code (places_at old key.state) c at leads),
         ),
       )))
 
   pub rows_keep : (cells : List ℕ) → AreRows code old keys cells → AreRows code new keys cells
   rows_keep cells rows = record {
     room = rows.room;
-    placed = λ r key is. placed_keeps old new keeps key.at (rows.placed r key is);
-    says = λ r b key is low. row_cell_keeps key b (get_or cells (256 * r + b) 0) (rows.placed r key is) (rows.says r b key is low);
+    has_state = λ r key is. placed_keeps old new keeps key.state (rows.has_state r key is);
+    says = λ r b key is low. row_cell_keeps key b (get_or cells (256 * r + b) 0) (rows.has_state r key is) (rows.says r b key is low);
   }
 
 -- ---- rows that are added
@@ -81,7 +81,7 @@ has_pushed keys more r at bytes row = record {
   begun = row.begun;
 }
 
-pub has_last : (keys : List RowKey) (key : RowKey) (r : ℕ) → r ≡ length keys → HasRow (keys ++ key ∷ []) r key.at (begun_bytes key.begun)
+pub has_last : (keys : List RowKey) (key : RowKey) (r : ℕ) → r ≡ length keys → HasRow (keys ++ key ∷ []) r key.state (begun_bytes key.begun)
 has_last keys key r e = record {
   key = key;
   is = ap (slice_get (keys ++ key ∷ [])) e ∙ slice_get_end keys key;
@@ -90,13 +90,13 @@ has_last keys key r e = record {
 }
 
 module _ (code : List Instruction) (states : List State) (keys : List RowKey) (cells : List ℕ) (rows : AreRows code states keys cells) where
-  module _ (more : RowKey) (placed : IsStatePlace states more.at) where
+  module _ (more : RowKey) (has_state : HasState states more.state) where
     cell_pushed : (key : RowKey) (b cell : ℕ) → IsRowCell code states keys key b cell → IsRowCell code states (keys ++ more ∷ []) key b cell
     cell_pushed key b cell (inl e) = inl e
     cell_pushed key b cell (inr (inl dead)) = inr (inl dead)
     cell_pushed key b cell (inr (inr (inl all))) = inr (inr (inl all))
     cell_pushed key b cell (inr (inr (inr (r, e, inl within)))) =
-        inr (inr (inr (r, e, inl (has_pushed keys more r key.at (begun_bytes key.begun ++ b ∷ []) within))))
+        inr (inr (inr (r, e, inl (has_pushed keys more r key.state (begun_bytes key.begun ++ b ∷ []) within))))
     cell_pushed key b cell (inr (inr (inr (r, e, inr (c, at, ends, row, leads))))) =
         inr (inr (inr (r, e, inr (c, at, ends, has_pushed keys more r at [] row, leads))))
 
@@ -130,9 +130,9 @@ module _ (code : List Instruction) (states : List State) (keys : List RowKey) (c
     pub rows_push : AreRows code states (keys ++ more ∷ []) (cells ++ replicate 256 0)
     rows_push = record {
       room = omega (arith, longer, length-append cells (replicate 256 0), length-replicate {A = ℕ} 256 0, rows.room);
-      placed = λ r key is. elim (cases_lt r (length keys)) [
-        | inl lt ↦ rows.placed r key (before r key lt is)
-        | inr ge ↦ subst (λ z. IsStatePlace states z.at) (last r key ge is).1 placed
+      has_state = λ r key is. elim (cases_lt r (length keys)) [
+        | inl lt ↦ rows.has_state r key (before r key lt is)
+        | inr ge ↦ subst (λ z. HasState states z.state) (last r key ge is).1 has_state
       ];
       says = pushed_says;
     }
@@ -160,7 +160,7 @@ module _ (code : List Instruction) (states : List State) (keys : List RowKey) (c
     pub rows_write : AreRows code states keys (set cells (256 * r + b) cell)
     rows_write = record {
       room = length-set cells (256 * r + b) cell ∙ rows.room;
-      placed = rows.placed;
+      has_state = rows.has_state;
       says = written_says;
     }
 
@@ -184,13 +184,13 @@ written_after {code} {states} keys cells rows r b cell key is low filled =
 module _ (code : List Instruction) (states : List State) (keys : List RowKey) (cells : List ℕ) (rows : AreRows code states keys cells) where
   module _ (r b at : ℕ) (taken : List ℕ) (row : HasRow keys r at taken) (low : b < 256) where
     ends_zero : (cell : ℕ) → 3 ≤ cell → ((other : ℕ) → HasRow keys (cell - 3) other [] → ⊥) → IsRowCell code states keys row.key b cell
-        → HasRow keys (cell - 3) row.key.at (begun_bytes row.key.begun ++ b ∷ [])
+        → HasRow keys (cell - 3) row.key.state (begun_bytes row.key.begun ++ b ∷ [])
     ends_zero cell some within (inl e) = absurd (omega (arith, e, some))
     ends_zero cell some within (inr (inl (e, dead))) = absurd (omega (arith, e, some))
     ends_zero cell some within (inr (inr (inl (e, all)))) = absurd (omega (arith, e, some))
     ends_zero cell some within (inr (inr (inr (next, e, inl more)))) =
         let same : next ≡ cell - 3 = omega (arith, e) in
-        subst (λ z. HasRow keys z row.key.at (begun_bytes row.key.begun ++ b ∷ [])) same more
+        subst (λ z. HasRow keys z row.key.state (begun_bytes row.key.begun ++ b ∷ [])) same more
     ends_zero cell some within (inr (inr (inr (next, e, inr (c, other, ends, first, leads))))) =
         let same : next ≡ cell - 3 = omega (arith, e) in
         absurd (within other (subst (λ z. HasRow keys z other []) same first))
@@ -200,47 +200,47 @@ module _ (code : List Instruction) (states : List State) (keys : List RowKey) (c
     linked cell e some within =
         let says : IsRowCell code states keys row.key b cell = subst (IsRowCell code states keys row.key b) e (row_says code states keys cells rows r b at taken row low) in
         subst (λ z. HasRow keys (cell - 3) z (taken ++ b ∷ [])) row.state
-        (subst (λ z. HasRow keys (cell - 3) row.key.at (z ++ b ∷ [])) row.begun (ends_zero cell some within says))
+        (subst (λ z. HasRow keys (cell - 3) row.key.state (z ++ b ∷ [])) row.begun (ends_zero cell some within says))
 
-    module _ (more : RowKey) (made : ℕ) (of : more.at ≡ at) (bytes : begun_bytes more.begun ≡ taken ++ b ∷ []) (last : made ≡ length keys) where
+    module _ (more : RowKey) (made : ℕ) (of : more.state ≡ at) (bytes : begun_bytes more.begun ≡ taken ++ b ∷ []) (last : made ≡ length keys) where
       pub link_has : HasRow (keys ++ more ∷ []) made at (taken ++ b ∷ [])
       link_has =
           subst (λ z. HasRow (keys ++ more ∷ []) made z (taken ++ b ∷ [])) of
-          (subst (HasRow (keys ++ more ∷ []) made more.at) bytes (has_last keys more made last))
+          (subst (HasRow (keys ++ more ∷ []) made more.state) bytes (has_last keys more made last))
 
       link_says : (cell : ℕ) → (cell ≡ 0) ⊎ (cell ≡ made + 3) → IsRowCell code states (keys ++ more ∷ []) row.key b cell
       link_says cell (inl e) = inl e
       link_says cell (inr e) =
-          let here : HasRow (keys ++ more ∷ []) made row.key.at (taken ++ b ∷ []) =
+          let here : HasRow (keys ++ more ∷ []) made row.key.state (taken ++ b ∷ []) =
           subst (λ z. HasRow (keys ++ more ∷ []) made z (taken ++ b ∷ [])) (sym row.state) link_has in
-          inr (inr (inr (made, e, inl (subst (λ z. HasRow (keys ++ more ∷ []) made row.key.at (z ++ b ∷ [])) (sym row.begun) here))))
+          inr (inr (inr (made, e, inl (subst (λ z. HasRow (keys ++ more ∷ []) made row.key.state (z ++ b ∷ [])) (sym row.begun) here))))
 
       row_is : slice_get (keys ++ more ∷ []) r ≡ Some row.key
       row_is = slice_get_append keys (more ∷ []) r (slice_get_within keys r row.key row.is) ∙ row.is
 
-      pub link_rows : (cell : ℕ) → (cell ≡ 0) ⊎ (cell ≡ made + 3) → IsStatePlace states at
+      pub link_rows : (cell : ℕ) → (cell ≡ 0) ⊎ (cell ≡ made + 3) → HasState states at
           → AreRows code states (keys ++ more ∷ []) (set (cells ++ replicate 256 0) (r * 256 + b) cell)
       link_rows cell named p =
-          let placed : IsStatePlace states more.at = subst (IsStatePlace states) (sym of) p in
-          written_after (keys ++ more ∷ []) (cells ++ replicate 256 0) (rows_push code states keys cells rows more placed) r b cell row.key row_is low (link_says cell named)
+          let has_state : HasState states more.state = subst (HasState states) (sym of) p in
+          written_after (keys ++ more ∷ []) (cells ++ replicate 256 0) (rows_push code states keys cells rows more has_state) r b cell row.key row_is low (link_says cell named)
 
   -- ---- the last byte of a character
   cell_next : (key : RowKey) (b c : ℕ) (next : Next) (cell : ℕ) → EndsChar key b c → IsCellTo keys next cell
-      → LeadsNext code states (places_at states (key.at / 128)) c next → IsRowCell code states keys key b cell
+      → LeadsNext code states (places_at states key.state) c next → IsRowCell code states keys key b cell
   cell_next key b c next cell ends (inl e) leads = inl e
   cell_next key b c next cell ends (inr (inl (e, is))) leads =
-      inr (inl (e, (c, ends, subst (LeadsNext code states (places_at states (key.at / 128)) c) is leads)))
+      inr (inl (e, (c, ends, subst (LeadsNext code states (places_at states key.state) c) is leads)))
   cell_next key b c next cell ends (inr (inr (inl (e, is)))) leads =
-      inr (inr (inl (e, (c, ends, subst (LeadsNext code states (places_at states (key.at / 128)) c) is leads))))
+      inr (inr (inl (e, (c, ends, subst (LeadsNext code states (places_at states key.state) c) is leads))))
   cell_next key b c next cell ends (inr (inr (inr (r, at, e, is, first)))) leads =
-      inr (inr (inr (r, e, inr (c, at, ends, first, subst (LeadsNext code states (places_at states (key.at / 128)) c) is leads))))
+      inr (inr (inr (r, e, inr (c, at, ends, first, subst (LeadsNext code states (places_at states key.state) c) is leads))))
 
   pub recorded : (r at c b : ℕ) (bytes : List ℕ) → HasRow keys r at (take (length bytes - 1) bytes) → bytes ≡ encode_utf8 c → 1 ≤ length bytes
       → b ≡ get_or bytes (length bytes - 1) 0 → b < 256 → (next : Next) (cell : ℕ) → IsCellTo keys next cell
-      → LeadsNext code states (places_at states (at / 128)) c next → AreRows code states keys (set cells (r * 256 + b) cell)
+      → LeadsNext code states (places_at states at) c next → AreRows code states keys (set cells (r * 256 + b) cell)
   recorded r at c b bytes row encoded some last low next cell to leads =
       let ends : EndsChar row.key b c = ap (λ z. z ++ b ∷ []) row.begun ∙ all_bytes bytes b some last ∙ encoded in
-      let here : LeadsNext code states (places_at states (row.key.at / 128)) c next = subst (λ z. LeadsNext code states (places_at states (z / 128)) c next) (sym row.state) leads in
+      let here : LeadsNext code states (places_at states row.key.state) c next = subst (λ z. LeadsNext code states (places_at states z) c next) (sym row.state) leads in
       written_after keys cells rows r b cell row.key row.is low (cell_next row.key b c next cell ends to here)
 
 -- ---- following a text by rows
@@ -253,10 +253,10 @@ pub record IsAlong (code : List Instruction) (states : List State) (keys : List 
   pub within : index ≤ length text
   pub left : drop start text ≡ begun_bytes key.begun ++ drop index text
   pub utf8 : IsUtf8 (drop start text)
-  pub stays : (s : List ℕ) → AnyAmong code places (chars text ++ s) ↔ AnyAmong code (places_at states (key.at / 128)) (chars (drop start text) ++ s)
+  pub stays : (s : List ℕ) → AnyAmong code places (chars text ++ s) ↔ AnyAmong code (places_at states key.state) (chars (drop start text) ++ s)
 
 pub along_begins : (code : List Instruction) (states : List State) (keys : List RowKey) (text : List ℕ) (at row : ℕ) → HasRow keys row at [] → IsUtf8 text
-    → IsAlong code states keys (places_at states (at / 128)) text 0 row
+    → IsAlong code states keys (places_at states at) text 0 row
 along_begins code states keys text at row h utf8 = record {
   key = h.key;
   is = h.is;
@@ -265,7 +265,7 @@ along_begins code states keys text at row h utf8 = record {
   within = omega arith;
   left = ap (λ z. z ++ text) (sym h.begun);
   utf8 = utf8;
-  stays = λ s. subst (λ z. AnyAmong code (places_at states (at / 128)) (chars text ++ s) ↔ AnyAmong code (places_at states (z / 128)) (chars text ++ s)) (sym h.state) ((λ x. x), (λ x. x));
+  stays = λ s. subst (λ z. AnyAmong code (places_at states at) (chars text ++ s) ↔ AnyAmong code (places_at states z) (chars text ++ s)) (sym h.state) ((λ x. x), (λ x. x));
 }
 
 module _ (code : List Instruction) (states : List State) (keys : List RowKey) (places text : List ℕ) (index row : ℕ) (along : IsAlong code states keys places text index row) (lt : index < length text) (b : ℕ) (byte : get_or text index 0 ≡ b) where
@@ -288,7 +288,7 @@ module _ (code : List Instruction) (states : List State) (keys : List RowKey) (p
     within = omega (arith, lt);
     left = reads ∙ ap (λ z. z ++ drop (index + 1) text) (sym more.begun);
     utf8 = along.utf8;
-    stays = λ s. subst (λ z. AnyAmong code places (chars text ++ s) ↔ AnyAmong code (places_at states (z / 128)) (chars (drop along.start text) ++ s)) (sym more.state) (along.stays s);
+    stays = λ s. subst (λ z. AnyAmong code places (chars text ++ s) ↔ AnyAmong code (places_at states z) (chars (drop along.start text) ++ s)) (sym more.state) (along.stays s);
   }
   along_row r (inr (c, at, ends, first, leads)) = record {
     key = first.key;
@@ -298,9 +298,9 @@ module _ (code : List Instruction) (states : List State) (keys : List RowKey) (p
     within = omega (arith, lt);
     left = ap (λ z. z ++ drop (index + 1) text) (sym first.begun);
     utf8 = IsUtf8-past_char (drop along.start text) (drop (index + 1) text) c along.utf8 (whole c ends);
-    stays = λ s. subst (λ z. AnyAmong code places (chars text ++ s) ↔ AnyAmong code (places_at states (z / 128)) (chars (drop (index + 1) text) ++ s)) (sym first.state) (
-      (λ h. (leads.leads (chars (drop (index + 1) text) ++ s)).0 (subst (AnyAmong code (places_at states (along.key.at / 128))) (char_first c ends s) ((along.stays s).0 h))),
-      (λ h. (along.stays s).1 (subst (AnyAmong code (places_at states (along.key.at / 128))) (sym (char_first c ends s)) ((leads.leads (chars (drop (index + 1) text) ++ s)).1 h))),
+    stays = λ s. subst (λ z. AnyAmong code places (chars text ++ s) ↔ AnyAmong code (places_at states z) (chars (drop (index + 1) text) ++ s)) (sym first.state) (
+      (λ h. (leads.leads (chars (drop (index + 1) text) ++ s)).0 (subst (AnyAmong code (places_at states along.key.state)) (char_first c ends s) ((along.stays s).0 h))),
+      (λ h. (along.stays s).1 (subst (AnyAmong code (places_at states along.key.state)) (sym (char_first c ends s)) ((leads.leads (chars (drop (index + 1) text) ++ s)).1 h))),
     );
   }
 
@@ -329,7 +329,7 @@ module _ (code : List Instruction) (states : List State) (keys : List RowKey) (p
     dead_of : (cell : ℕ) → IsRowCell code states keys along.key b cell → cell ≡ 1 → (s : List ℕ) → AnyAmong code places (chars text ++ s) → ⊥
     dead_of cell (inl e) one s h = absurd (omega (arith, e, one))
     dead_of cell (inr (inl (e, (c, ends, dead)))) one s h =
-        dead (chars (drop (index + 1) text) ++ s) (subst (AnyAmong code (places_at states (along.key.at / 128))) (char_first c ends s) ((along.stays s).0 h))
+        dead (chars (drop (index + 1) text) ++ s) (subst (AnyAmong code (places_at states along.key.state)) (char_first c ends s) ((along.stays s).0 h))
     dead_of cell (inr (inr (inl (e, all)))) one s h = absurd (omega (arith, e, one))
     dead_of cell (inr (inr (inr (r, e, leads)))) one s h = absurd (omega (arith, e, one))
 
@@ -340,7 +340,7 @@ module _ (code : List Instruction) (states : List State) (keys : List RowKey) (p
     all_of cell (inl e) two s = absurd (omega (arith, e, two))
     all_of cell (inr (inl (e, dead))) two s = absurd (omega (arith, e, two))
     all_of cell (inr (inr (inl (e, (c, ends, all))))) two s =
-        (along.stays s).1 (subst (AnyAmong code (places_at states (along.key.at / 128))) (sym (char_first c ends s)) (all (chars (drop (index + 1) text) ++ s)))
+        (along.stays s).1 (subst (AnyAmong code (places_at states along.key.state)) (sym (char_first c ends s)) (all (chars (drop (index + 1) text) ++ s)))
     all_of cell (inr (inr (inr (r, e, leads)))) two s = absurd (omega (arith, e, two))
 
     pub along_all : (cell : ℕ) → get_or cells (row * 256 + b) 0 ≡ cell → cell ≡ 2 → (s : List ℕ) → AnyAmong code places (chars text ++ s)
@@ -361,10 +361,10 @@ module _ (code : List Instruction) (states : List State) (keys : List RowKey) (p
       subst (λ z. IsUtf8 (drop z text)) at along.utf8
 
   pub along_ends : (n : ℕ) (cells : List ℕ) → n ≡ length (begun_bytes key.begun) → AreRows code states keys cells
-      → DecidesLeft code states places (chars text) (chars (drop (index - n) text)) (To key.at)
+      → DecidesLeft code states places (chars text) (chars (drop (index - n) text)) (To key.state)
   along_ends n cells e rows =
       let at : along.start ≡ index - n = omega (arith, begins_at, e) in (
-        rows.placed row key is,
-        (λ s. subst (λ z. AnyAmong code places (chars text ++ s) ↔ AnyAmong code (places_at states (key.at / 128)) (chars (drop z text) ++ s)) at
-            (subst (λ k. AnyAmong code places (chars text ++ s) ↔ AnyAmong code (places_at states (k.at / 128)) (chars (drop along.start text) ++ s)) same (along.stays s))),
+        rows.has_state row key is,
+        (λ s. subst (λ z. AnyAmong code places (chars text ++ s) ↔ AnyAmong code (places_at states key.state) (chars (drop z text) ++ s)) at
+            (subst (λ k. AnyAmong code places (chars text ++ s) ↔ AnyAmong code (places_at states k.state) (chars (drop along.start text) ++ s)) same (along.stays s))),
       )

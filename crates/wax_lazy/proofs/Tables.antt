@@ -8,11 +8,11 @@ use Rattle.wax_states.specs.declared.table.State.{State}
 use Rattle.wax_states.specs.declared.table.WideCell.{WideCell}
 use Rattle.wax_states.specs.declared.table.Next.{Next}
 use Rattle.wax_states.specs.declared.table.Next.TheVariants.{To, Nothing, Everything}
-use Rattle.wax_lazy.specs.inner.Table.{AreNumbersOf, AreWideCells, BeginsTexts, IsRestState, IsState, IsTable, IsJoinOf, KeepsStates, Leads, known_numbers, numbers_in, own_at, own_in}
-use Rattle.wax_states.specs.States.{AreEmpty, HasWide, IsWrittenWide, cell_of_next, IsDead, IsSettled, IsStatePlace, IsTransition, LeadOn, LeadsNext, LeadsTo, TakesAll, led_of, places_at, places_in, places_led, with_said}
+use Rattle.wax_lazy.specs.inner.Table.{AreNumbersOf, AreWideCells, BeginsTexts, IsFailureState, IsState, IsTable, IsJoinOf, KeepsStates, Leads, known_numbers, numbers_in, own_at, own_in}
+use Rattle.wax_states.specs.States.{AreEmpty, HasWide, IsWrittenWide, cell_of_next, IsDead, IsSettled, HasState, IsTransition, LeadOn, LeadsNext, LeadsTo, TakesAll, state_of, places_at, places_in, places_or_none, with_said}
 use Rattle.wax_program.specs.declared.instruction.Instruction.{Instruction}
 use Rattle.wax_program.specs.Machine.{Accepts}
-use Rattle.wax_stepper.specs.Reached.{AreReached, taken_if}
+use Rattle.wax_states.specs.Reached.{AreReached, taken_if}
 use Rattle.wax_program.specs.Threads.{AnyAmong, AreParts}
 
 -- ---- lists
@@ -55,40 +55,40 @@ pub keeps_more : (old mid new : List State) → KeepsStates old mid → KeepsSta
 keeps_more old mid new f g t lt = ((g t (f t lt).0).0, (g t (f t lt).0).1 ∙ (f t lt).1, (g t (f t lt).0).2 ∙ (f t lt).2)
 
 module _ (old new : List State) (keeps : KeepsStates old new) where
-  pub placed_keeps : (at : ℕ) → IsStatePlace old at → IsStatePlace new at
-  placed_keeps at p = record { whole = p.whole; kept = (keeps (at / 128) p.kept).0 }
+  pub placed_keeps : (at : ℕ) → HasState old at → HasState new at
+  placed_keeps at p = (keeps at p).0
 
-  pub places_keep : (at : ℕ) → IsStatePlace old at → places_at new (at / 128) ≡ places_at old (at / 128)
-  places_keep at p = (keeps (at / 128) p.kept).1
+  pub places_keep : (at : ℕ) → HasState old at → places_at new at ≡ places_at old at
+  places_keep at p = (keeps at p).1
 
-  pub led_keeps : (code : List Instruction) (place : List ℕ) (c at : ℕ) → LeadsTo code old place c at → LeadsTo code new place c at
-  led_keeps code place c at l = record {
-    placed = placed_keeps at l.placed;
-    leads = subst (LeadOn code c place) (sym (places_keep at l.placed)) l.leads;
+  pub leads_to_keeps : (code : List Instruction) (place : List ℕ) (c at : ℕ) → LeadsTo code old place c at → LeadsTo code new place c at
+  leads_to_keeps code place c at l = record {
+    has_state = placed_keeps at l.has_state;
+    leads = subst (LeadOn code c place) (sym (places_keep at l.has_state)) l.leads;
   }
 
   pub cell_keeps : (code : List Instruction) (place : List ℕ) (c cell : ℕ) → IsTransition code old place c cell → IsTransition code new place c cell
   cell_keeps code place c cell (inl e) = inl e
   cell_keeps code place c cell (inr (inl h)) = inr (inl h)
   cell_keeps code place c cell (inr (inr (inl h))) = inr (inr (inl h))
-  cell_keeps code place c cell (inr (inr (inr h))) = inr (inr (inr (h.0, h.1, led_keeps code place c h.0 h.2)))
+  cell_keeps code place c cell (inr (inr (inr h))) = inr (inr (inr (h.0, h.1, leads_to_keeps code place c h.0 h.2)))
 
   pub begins_keeps : (code : List Instruction) (start at : ℕ) → BeginsTexts code old start at → BeginsTexts code new start at
   begins_keeps code start at b = record {
-    placed = placed_keeps at b.placed;
-    accepts = λ s. subst (λ z. Accepts code start s ↔ AnyAmong code z s) (sym (places_keep at b.placed)) (b.accepts s);
+    has_state = placed_keeps at b.has_state;
+    accepts = λ s. subst (λ z. Accepts code start s ↔ AnyAmong code z s) (sym (places_keep at b.has_state)) (b.accepts s);
   }
 
-  pub rest_keeps : (code : List Instruction) (places others : List ℕ) (rest : Option ℕ) → IfSome rest (IsRestState code old places others)
-      → IfSome rest (IsRestState code new places others)
-  rest_keeps code places others (Some at) r = record {
-    placed = placed_keeps at r.placed;
-    union = subst (λ z. IsJoinOf code places z others) (sym (places_keep at r.placed)) r.union;
+  pub failure_keeps : (code : List Instruction) (places others : List ℕ) (failure : Option ℕ) → IfSome failure (IsFailureState code old places others)
+      → IfSome failure (IsFailureState code new places others)
+  failure_keeps code places others (Some at) r = record {
+    has_state = placed_keeps at r.has_state;
+    union = subst (λ z. IsJoinOf code places z others) (sym (places_keep at r.has_state)) r.union;
   }
-  rest_keeps code places others None r = tt
+  failure_keeps code places others None r = tt
 
   pub state_keeps : (code : List Instruction) (s : State) → IsState code old s → IsState code new s
-  state_keeps code s good = record { ends = good.ends; numbers = good.numbers; rest = rest_keeps code s.places.items s.own.items s.rest good.rest }
+  state_keeps code s good = record { ends = good.ends; numbers = good.numbers; failure = failure_keeps code s.places.items s.own.items s.failure good.failure }
 
 -- ---- tables
 pub table_empty : (code : List Instruction) → IsTable code [] []
@@ -207,7 +207,7 @@ module _ (old new : List State) (t : ℕ) (accepts : State → Option Bool) (num
           subst (IsState code new) is (record {
             ends = ends;
             numbers = are;
-            rest = rest_keeps old new settled_keeps code settled.0.places.items settled.0.own.items settled.0.rest was.rest;
+            failure = failure_keeps old new settled_keeps code settled.0.places.items settled.0.own.items settled.0.failure was.failure;
           }))
       | inr other ↦ state_keeps old new settled_keeps code r (table.rows u r (sym (others u other) ∙ e))
     ];
@@ -222,34 +222,23 @@ pub known_are : (code : List Instruction) (places : List ℕ) (known : Option (V
 known_are code places (Some v) is are = are
 known_are code places None is are = absurd (true≢false (sym is))
 
--- ---- cells, by the place where a state's cells begin
-place_is : (states : List State) (at c : ℕ) → IsStatePlace states at → at + c ≡ 128 * (at / 128) + c
-place_is states at c p = let whole : at % 128 ≡ 0 = p.whole in omega (arith, whole)
-
-pub place_inside : (code : List Instruction) (states : List State) (cells : List ℕ) (at c : ℕ) → IsTable code states cells
-    → IsStatePlace states at → c < 128 → at + c < length cells
-place_inside code states cells at c table p low =
-    let kept : at / 128 < length states = p.kept in
-    omega (arith, place_is states at c p, table.room, kept, low)
-
-pub says_at : (code : List Instruction) (states : List State) (cells : List ℕ) (at c : ℕ) → IsTable code states cells
-    → IsStatePlace states at → c < 128 → IsTransition code states (places_at states (at / 128)) c (get_or cells (at + c) 0)
-says_at code states cells at c table p low =
-    subst (λ i. IsTransition code states (places_at states (at / 128)) c (get_or cells i 0)) (sym (place_is states at c p)) (table.says (at / 128) c p.kept low)
+-- ---- cells of a state
+pub cell_inside : (states : List State) (cells : List ℕ) (at c : ℕ) → length cells ≡ 128 * length states → at < length states → c < 128
+    → 128 * at + c < length cells
+cell_inside states cells at c room has low = omega (arith, room, has, low)
 
 pub leads_known : (code : List Instruction) (states : List State) (place : List ℕ) (c : ℕ) (next : Next) → LeadsNext code states place c next
-    → (next ≡ Everything → ⊥) → Leads code states place c (led_of next)
+    → (next ≡ Everything → ⊥) → Leads code states place c (state_of next)
 leads_known code states place c (To at) l h = l
 leads_known code states place c Nothing dead h = dead
 leads_known code states place c Everything all h = absurd (h refl)
 
 pub table_filled : (code : List Instruction) (states : List State) (cells written : List ℕ) (at c cell : ℕ) → IsTable code states cells
-    → IsStatePlace states at → IsTransition code states (places_at states (at / 128)) c cell
-    → (c < 128 → written ≡ set cells (at + c) cell) → (128 ≤ c → written ≡ cells) → IsTable code states written
+    → HasState states at → IsTransition code states (places_at states at) c cell
+    → (c < 128 → written ≡ set cells (128 * at + c) cell) → (128 ≤ c → written ≡ cells) → IsTable code states written
 table_filled code states cells written at c cell table p says filled unfilled = elim (cases_lt c 128) [
   | inl low ↦
-      subst (IsTable code states) (sym (filled low ∙ ap (λ i. set cells i cell) (place_is states at c p)))
-      (table_write code states cells table (at / 128) c cell p.kept low says)
+      subst (IsTable code states) (sym (filled low)) (table_write code states cells table at c cell p low says)
   | inr high ↦ subst (IsTable code states) (sym (unfilled high)) table
 ]
 
@@ -323,7 +312,7 @@ module _ (code : List Instruction) (c : ℕ) (places part other : List ℕ) (par
 
   led_as_part : (states : List State) (at : ℕ) → LeadsTo code states part c at → LeadsTo code states places c at
   led_as_part states at l = record {
-    placed = l.placed;
+    has_state = l.has_state;
     leads = λ s. ((λ h. (l.leads s).0 ((as_part s).0 h)), (λ h. (as_part s).1 ((l.leads s).1 h)));
   }
 
@@ -351,15 +340,15 @@ pub takes_all : (code : List Instruction) (c : ℕ) (places others : List ℕ) �
     → TakesAll code places c
 takes_all code c places others a all s = (a s).1 (all s)
 
-pub led_leads : (code : List Instruction) (states : List State) (places : List ℕ) (c : ℕ) (led : Option ℕ) → Leads code states places c led
-    → LeadOn code c places (places_led states led)
-led_leads code states places c (Some at) l = l.leads
-led_leads code states places c None dead = λ s. ((λ h. absurd (dead s h)), (λ h. absurd (no_place code s h)))
+pub target_leads : (code : List Instruction) (states : List State) (places : List ℕ) (c : ℕ) (target : Option ℕ) → Leads code states places c target
+    → LeadOn code c places (places_or_none states target)
+target_leads code states places c (Some at) l = l.leads
+target_leads code states places c None dead = λ s. ((λ h. absurd (dead s h)), (λ h. absurd (no_place code s h)))
 
-pub led_within : (code : List Instruction) (states : List State) (places : List ℕ) (c : ℕ) (led : Option ℕ) → Leads code states places c led
-    → IfSome led (λ at. at / 128 < length states)
-led_within code states places c (Some at) l = l.placed.kept
-led_within code states places c None dead = tt
+pub target_within : (code : List Instruction) (states : List State) (places : List ℕ) (c : ℕ) (target : Option ℕ) → Leads code states places c target
+    → IfSome target (λ at. at < length states)
+target_within code states places c (Some at) l = l.has_state
+target_within code states places c None dead = tt
 
 pub state_at : (states : List State) (t : ℕ) → t < length states → (s : State) × (slice_get states t ≡ Some s)
 state_at states t lt = found (slice_get_cases states t).1
@@ -368,26 +357,20 @@ state_at states t lt = found (slice_get_cases states t).1
     found (inl h) = (h.0, h.2)
     found (inr h) = absurd (let past : length states ≤ t = h.0 in omega (arith, past, lt))
 
-pub placed_number : (states : List State) (t : ℕ) → t < length states → IsStatePlace states (t * 128)
-placed_number states t lt = record { whole = omega arith; kept = omega (arith, lt) }
-
-pub at_number : (states : List State) (t : ℕ) → places_at states (t * 128 / 128) ≡ places_at states t
-at_number states t = let whole : t * 128 / 128 ≡ t = omega arith in ap (places_at states) whole
-
 pub begun : (code : List Instruction) (states : List State) (start t : ℕ) → t < length states → places_at states t ≡ start ∷ []
-    → BeginsTexts code states start (t * 128)
+    → BeginsTexts code states start t
 begun code states start t lt e = record {
-  placed = placed_number states t lt;
-  accepts = λ s. subst (λ z. Accepts code start s ↔ AnyAmong code z s) (sym (at_number states t ∙ e)) (one_place code start s);
+  has_state = lt;
+  accepts = λ s. subst (λ z. Accepts code start s ↔ AnyAmong code z s) (sym e) (one_place code start s);
 }
 
 -- where places led to others, their state leads to the state of the others
-pub led : (code : List Instruction) (states : List State) (from places others : List ℕ) (c t : ℕ) → from ≡ places → t < length states
-    → places_at states t ≡ others → LeadOn code c places others → LeadsTo code states from c (t * 128)
-led code states from places others c t same lt e a = record {
-  placed = placed_number states t lt;
-  leads = subst (λ z. LeadOn code c z (places_at states (t * 128 / 128))) (sym same)
-      (subst (LeadOn code c places) (sym (at_number states t ∙ e)) a);
+pub leads_to : (code : List Instruction) (states : List State) (from places others : List ℕ) (c t : ℕ) → from ≡ places → t < length states
+    → places_at states t ≡ others → LeadOn code c places others → LeadsTo code states from c t
+leads_to code states from places others c t same lt e a = record {
+  has_state = lt;
+  leads = subst (λ z. LeadOn code c z (places_at states t)) (sym same)
+      (subst (LeadOn code c places) (sym e) a);
 }
 
 -- ---- cells of characters past ASCII
@@ -398,32 +381,32 @@ pub wide_keeps : (code : List Instruction) (old new : List State) (ws : List Wid
 wide_keeps code old new ws keeps held i w is = elim (held i w is) [
   | inl e ↦ inl e
   | inr h ↦ inr (
-    placed_keeps old new keeps w.at h.0,
-    subst (λ z. IsTransition code new z w.character w.cell) (sym (places_keep old new keeps w.at h.0))
-        (cell_keeps old new keeps code (places_at old (w.at / 128)) w.character w.cell h.1),
+    placed_keeps old new keeps w.state h.0,
+    subst (λ z. IsTransition code new z w.character w.cell) (sym (places_keep old new keeps w.state h.0))
+        (cell_keeps old new keeps code (places_at old w.state) w.character w.cell h.1),
   )
 ]
 
-pub wide_written : (code : List Instruction) (states : List State) (old new : List WideCell) (at c cell : ℕ) → AreWideCells code states old → IsStatePlace states at
-    → IsTransition code states (places_at states (at / 128)) c cell → IsWrittenWide old new at c cell → AreWideCells code states new
+pub wide_written : (code : List Instruction) (states : List State) (old new : List WideCell) (at c cell : ℕ) → AreWideCells code states old → HasState states at
+    → IsTransition code states (places_at states at) c cell → IsWrittenWide old new at c cell → AreWideCells code states new
 wide_written code states old new at c cell held p says written i w is = elim (written i w is) [
   | inl e ↦ held i w e
   | inr h ↦ inr (
-    subst (IsStatePlace states) (sym h.0) p,
-    subst (λ a. IsTransition code states (places_at states (a / 128)) w.character w.cell) (sym h.0)
-        (subst (λ k. IsTransition code states (places_at states (at / 128)) k w.cell) (sym h.1)
-        (subst (IsTransition code states (places_at states (at / 128)) c) (sym h.2) says)),
+    subst (HasState states) (sym h.0) p,
+    subst (λ a. IsTransition code states (places_at states a) w.character w.cell) (sym h.0)
+        (subst (λ k. IsTransition code states (places_at states at) k w.cell) (sym h.1)
+        (subst (IsTransition code states (places_at states at) c) (sym h.2) says)),
   )
 ]
 
 pub wide_says : (code : List Instruction) (states : List State) (ws : List WideCell) (at c cell : ℕ) → AreWideCells code states ws → (cell ≡ 0) ⊎ HasWide ws at c cell
-    → IsTransition code states (places_at states (at / 128)) c cell
+    → IsTransition code states (places_at states at) c cell
 wide_says code states ws at c cell held (inl e) = inl e
 wide_says code states ws at c cell held (inr (i, w, is, (state, character, says))) = elim (held i w is) [
   | inl e ↦ inl (sym says ∙ e)
-  | inr h ↦ subst (λ a. IsTransition code states (places_at states (a / 128)) c cell) state
-      (subst (λ k. IsTransition code states (places_at states (w.at / 128)) k cell) character
-      (subst (IsTransition code states (places_at states (w.at / 128)) w.character) says h.1))
+  | inr h ↦ subst (λ a. IsTransition code states (places_at states a) c cell) state
+      (subst (λ k. IsTransition code states (places_at states w.state) k cell) character
+      (subst (IsTransition code states (places_at states w.state) w.character) says h.1))
 ]
 
 -- the cell of a character that leads there says so
@@ -434,56 +417,56 @@ cell_says code states places c Nothing dead = inr (inl (refl, dead))
 cell_says code states places c Everything all = inr (inr (inl (refl, all)))
 
 pub next_within : (code : List Instruction) (states : List State) (places : List ℕ) (c : ℕ) (next : Next) (most : ℕ) → LeadsNext code states places c next
-    → length states ≤ most → IfSome (led_of next) (λ at. at / 128 < most)
-next_within code states places c (To at) most l few = let kept = l.placed.kept in omega (arith, kept, few)
+    → length states ≤ most → IfSome (state_of next) (λ at. at < most)
+next_within code states places c (To at) most l few = let has : at < length states = l.has_state in omega (arith, has, few)
 next_within code states places c Nothing most l few = tt
 next_within code states places c Everything most l few = tt
 
--- ---- lone places
+-- ---- failure states
 pub only_item : (xs : List ℕ) → length xs ≡ 1 → xs ≡ get_or xs 0 0 ∷ []
 only_item [] e = absurd (omega (arith, e))
 only_item (x ∷ []) e = refl
 only_item (x ∷ y ∷ xs) e = absurd (omega (arith, e))
 
--- a single place is all places of a state without a rest
+-- a single place is all places of a state without a failure state
 pub union_alone : (code : List Instruction) (places : List ℕ) → IsJoinOf code places [] places
 union_alone code places s = ((λ h. inr h), (λ h. elim h [ inl g ↦ absurd (no_place code s g) | inr g ↦ g ]))
 
-pub rest_at : (code : List Instruction) (states : List State) (cells : List ℕ) (at : ℕ) (s : State) (rest : ℕ) → IsTable code states cells
-    → slice_get states (at / 128) ≡ Some s → s.rest ≡ Some rest → IsRestState code states (places_at states (at / 128)) (own_at states (at / 128)) rest
-rest_at code states cells at s rest table is has =
-    let good = (table.rows (at / 128) s is).rest in
-    let held = subst (λ o. IfSome o (IsRestState code states s.places.items s.own.items)) has good in
-    subst (λ z. IsRestState code states z (own_at states (at / 128)) rest) (sym (ap places_in is))
-    (subst (λ z. IsRestState code states s.places.items z rest) (sym (ap own_in is)) held)
+pub failure_at : (code : List Instruction) (states : List State) (cells : List ℕ) (at : ℕ) (s : State) (failure : ℕ) → IsTable code states cells
+    → slice_get states at ≡ Some s → s.failure ≡ Some failure → IsFailureState code states (places_at states at) (own_at states at) failure
+failure_at code states cells at s failure table is has =
+    let good = (table.rows at s is).failure in
+    let held = subst (λ o. IfSome o (IsFailureState code states s.places.items s.own.items)) has good in
+    subst (λ z. IsFailureState code states z (own_at states at) failure) (sym (ap places_in is))
+    (subst (λ z. IsFailureState code states s.places.items z failure) (sym (ap own_in is)) held)
 
--- the rest of a state, among more states
-pub rest_later : (code : List Instruction) (old new : List State) (cells : List ℕ) (at : ℕ) (s : State) (rest : ℕ) → IsTable code old cells
-    → IsStatePlace old at → slice_get old (at / 128) ≡ Some s → s.rest ≡ Some rest → KeepsStates old new
-    → IsRestState code new (places_at old (at / 128)) (own_at new (at / 128)) rest
-rest_later code old new cells at s rest table here is has keeps =
-    let r = rest_at code old cells at s rest table is has in
+-- the failure state of a state, among more states
+pub failure_later : (code : List Instruction) (old new : List State) (cells : List ℕ) (at : ℕ) (s : State) (failure : ℕ) → IsTable code old cells
+    → HasState old at → slice_get old at ≡ Some s → s.failure ≡ Some failure → KeepsStates old new
+    → IsFailureState code new (places_at old at) (own_at new at) failure
+failure_later code old new cells at s failure table here is has keeps =
+    let r = failure_at code old cells at s failure table is has in
     record {
-      placed = placed_keeps old new keeps rest r.placed;
-      union = subst (λ z. IsJoinOf code (places_at old (at / 128)) z (own_at new (at / 128))) (sym (places_keep old new keeps rest r.placed))
-          (subst (λ z. IsJoinOf code (places_at old (at / 128)) (places_at old (rest / 128)) z) (sym (keeps (at / 128) here.kept).2) r.union);
+      has_state = placed_keeps old new keeps failure r.has_state;
+      union = subst (λ z. IsJoinOf code (places_at old at) z (own_at new at)) (sym (places_keep old new keeps failure r.has_state))
+          (subst (λ z. IsJoinOf code (places_at old at) (places_at old failure) z) (sym (keeps at here).2) r.union);
     }
 
--- where the rest of a state leads, among more states
-pub leads_later : (code : List Instruction) (old new : List State) (cells : List ℕ) (at : ℕ) (s : State) (rest c : ℕ) (next : Next) → IsTable code old cells
-    → slice_get old (at / 128) ≡ Some s → s.rest ≡ Some rest → KeepsStates old new → LeadsNext code new (places_at old (rest / 128)) c next
-    → LeadsNext code new (places_at new (rest / 128)) c next
-leads_later code old new cells at s rest c next table is has keeps leads =
-    let r = rest_at code old cells at s rest table is has in
-    subst (λ z. LeadsNext code new z c next) (sym (places_keep old new keeps rest r.placed)) leads
+-- where the failure state of a state leads, among more states
+pub leads_later : (code : List Instruction) (old new : List State) (cells : List ℕ) (at : ℕ) (s : State) (failure c : ℕ) (next : Next) → IsTable code old cells
+    → slice_get old at ≡ Some s → s.failure ≡ Some failure → KeepsStates old new → LeadsNext code new (places_at old failure) c next
+    → LeadsNext code new (places_at new failure) c next
+leads_later code old new cells at s failure c next table is has keeps leads =
+    let r = failure_at code old cells at s failure table is has in
+    subst (λ z. LeadsNext code new z c next) (sym (places_keep old new keeps failure r.has_state)) leads
 
-pub led_parted : (code : List Instruction) (states : List State) (part : List ℕ) (c : ℕ) (own reached others : List ℕ) (led : Option ℕ) → Leads code states part c led
-    → ((s : List ℕ) → AnyAmong code reached s ↔ (AnyAmong code own (c ∷ s) ⊎ AnyAmong code (places_led states led) s)) → LeadOn code c own others
-    → IfSome led (IsRestState code states reached others)
-led_parted code states part c own reached others (Some at) l a o =
-    record { placed = l.placed; union = parts_reached code c own (places_at states (at / 128)) reached others a o }
-led_parted code states part c own reached others None l a o = tt
+pub target_parted : (code : List Instruction) (states : List State) (part : List ℕ) (c : ℕ) (own reached others : List ℕ) (target : Option ℕ) → Leads code states part c target
+    → ((s : List ℕ) → AnyAmong code reached s ↔ (AnyAmong code own (c ∷ s) ⊎ AnyAmong code (places_or_none states target) s)) → LeadOn code c own others
+    → IfSome target (IsFailureState code states reached others)
+target_parted code states part c own reached others (Some at) l a o =
+    record { has_state = l.has_state; union = parts_reached code c own (places_at states at) reached others a o }
+target_parted code states part c own reached others None l a o = tt
 
-pub led_placed : (code : List Instruction) (states : List State) (part : List ℕ) (c : ℕ) (led : Option ℕ) → Leads code states part c led → IfSome led (IsStatePlace states)
-led_placed code states part c (Some at) l = l.placed
-led_placed code states part c None l = tt
+pub target_placed : (code : List Instruction) (states : List State) (part : List ℕ) (c : ℕ) (target : Option ℕ) → Leads code states part c target → IfSome target (HasState states)
+target_placed code states part c (Some at) l = l.has_state
+target_placed code states part c None l = tt

@@ -4,7 +4,7 @@ use Rattle.wax_lazy.specs.inner.Cached.{DecidesLeft, LeadsFor}
 use Rattle.wax_states.specs.declared.table.Next.{Next}
 use Rattle.wax_states.specs.declared.table.Next.TheVariants.{To, Nothing, Everything}
 use Rattle.wax_states.specs.declared.table.State.{State}
-use Rattle.wax_states.specs.States.{IsStatePlace, LeadOn, places_at}
+use Rattle.wax_states.specs.States.{HasState, LeadOn, places_at}
 use Rattle.wax_program.specs.declared.instruction.Instruction.{Instruction}
 use Rattle.wax_program.specs.Machine.{Accepts}
 use Rattle.wax_program.specs.Threads.{AnyAmong}
@@ -32,9 +32,9 @@ module _ (code : List Instruction) (Holds : List ℕ → Type 0) (states : List 
   leads_past left Everything apart l = l
 
   -- at the end, the state is where the text leads
-  pub leads_end : (left : List ℕ) (at : ℕ) → left ≡ [] → IsStatePlace states at → ((s : List ℕ) → Holds s ↔ AnyAmong code (places_at states (at / 128)) (left ++ s))
+  pub leads_end : (left : List ℕ) (at : ℕ) → left ≡ [] → HasState states at → ((s : List ℕ) → Holds s ↔ AnyAmong code (places_at states at) (left ++ s))
       → LeadsFor code states Holds [] (To at)
-  leads_end left at none placed stays = subst (λ z. LeadsFor code states Holds z (To at)) none (placed, stays)
+  leads_end left at none has_state stays = subst (λ z. LeadsFor code states Holds z (To at)) none (has_state, stays)
 
 pub next_of : (text : List ℕ) (i : ℕ) → i < length text → drop i text ≡ get_or text i 0 ∷ drop (i + 1) text
 next_of text i lt =

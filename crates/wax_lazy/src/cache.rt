@@ -3,8 +3,9 @@ ghost use Rattle.std.specs.Prelude.{◌≡◌, ◌+◌, ◌*◌, ◌/◌, ◌^�
 ghost use Rattle.std.specs.Prelude.{IfOk, IfSome, IsFalse, IsTrue, OnErr, Some, drop, length, slice_get};
 ghost use Rattle.std.specs.Prelude.{slice_index};
 ghost use Rattle.std.specs.Str.{IsAscii};
-ghost use Rattle.wax_lazy.specs.inner.Cached.{AreNext, AreParted, AreSameLists, AreStepped, GrowsBy, IsAdded};
-ghost use Rattle.wax_lazy.specs.inner.Cached.{DecidesLeft, IsCacheOf, IsCleared, IsInterned, IsLone};
+ghost use Rattle.wax_lazy.specs.inner.Cached.{AreNext, AreParted, AreSameLists, AreStepped};
+ghost use Rattle.wax_lazy.specs.inner.Cached.{GrowsBy, IsAdded, KeepsCache, KnowsState};
+ghost use Rattle.wax_lazy.specs.inner.Cached.{DecidesLeft, IsCacheOf, IsCleared, IsInterned, IsChain};
 ghost use Rattle.wax_lazy.specs.inner.Cached.{IsRestarted, numbers_at};
 ghost use Rattle.wax_lazy.specs.inner.Table.{AreNumbersOf, BeginsTexts, IsJoinOf};
 ghost use Rattle.wax_lazy.specs.inner.Table.{own_at};
@@ -13,14 +14,13 @@ ghost use Rattle.wax_program.specs.Checks.{IsCheckAt};
 ghost use Rattle.wax_program.specs.declared.instruction.Instruction.{Instruction};
 ghost use Rattle.wax_program.specs.Threads.{AnyAmong};
 ghost use Rattle.wax_states.specs.declared.table.State.{State};
-ghost use Rattle.wax_states.specs.States.{IsDead, IsStatePlace, LeadsNext, places_at, places_led};
+ghost use Rattle.wax_states.specs.States.{IsDead, HasState, LeadsNext, places_at, places_or_none};
 
 use crate::rows::Rows;
 use std::alloc::{AllocError, Global};
 use std::mem;
 use wax_program::{CompiledProgram, Meter, check_at, has_loop, part_loops, place_of_all};
-use wax_states::{ALL, COLUMNS, DEAD, FIRST, Next, State, Table, cell_of, next_of};
-use wax_stepper::Stepper;
+use wax_states::{ALL, DEAD, Next, State, StateId, Stepper, Table, cell_of, next_of};
 
 /// The size of a state in bytes, without its places: that of its cells, and about fifty more.
 const STATE_BYTES: usize = 306;
@@ -60,8 +60,8 @@ pub struct Cache {
     loops: Vec<usize>,
     /// The place at which texts begin.
     start: usize,
-    /// Where the cells begin of the state in which texts begin, if there is one.
-    first: Option<usize>,
+    /// The state in which texts begin, if there is one.
+    first: Option<StateId>,
     /// How many bytes states may take, about.
     most_bytes: usize,
     /// How many bytes the states take, about.
@@ -74,11 +74,12 @@ pub struct Cache {
     pub gives_up: bool,
 }
 
-/// A place by itself, and where the cells begin of a state with all other places, if there is one.
+/// A place by itself, from which checks may follow one another, and a state with all other places,
+/// if there is one.
 #[derive(Clone, Copy)]
-pub struct Lone {
+pub struct Chain {
     pub place: usize,
-    pub rest: Option<usize>,
+    pub failure: Option<StateId>,
 }
 
 impl Cache {
@@ -114,57 +115,53 @@ impl Cache {
         })
     }
 
-    /// Begins a text of `len` bytes. Returns where the cells of its first state begin.
+    /// Begins a text of `len` bytes. Returns its first state.
     pub(crate) fn begin(
         &mut self,
         program: &CompiledProgram,
         len: usize,
-    ) -> Result<usize, AllocError>
+    ) -> Result<StateId, AllocError>
         requires { IsCacheOf program.now.0 self.old }
-        ensures cache { IsCacheOf program.now.0 self.new }
-        ensures start { self.new.start ≡ self.old.start }
+        ensures kept { KeepsCache program.now.0 self.old self.new }
         ensures begins { IfOk result (BeginsTexts program.now.0 self.new.table.states.items self.old.start) }
     {
         self.read = self.read.saturating_add(len);
-        if let Some(at) = self.first {
-            return Ok(at);
+        if let Some(state) = self.first {
+            return Ok(state);
         }
         self.clear();
         self.reached.clear();
         self.reached.push(self.start)?;
-        let number = self.intern(program, None)?;
-        let at = number * COLUMNS;
-        self.first = Some(at);
-        Ok(at)
+        let state = self.intern(program, None)?;
+        self.first = Some(state);
+        Ok(state)
     }
 
-    /// Follows a character from the state whose cells begin at `at`. If the state is met often, fills
-    /// cells of rows for the character, unless rows take half of the bytes that the cache may keep.
+    /// Follows a character from a state. If the state is met often, fills cells of rows for the
+    /// character, unless rows take half of the bytes that the cache may keep.
     #[inline(never)]
     pub(crate) fn advance(
         &mut self,
         program: &CompiledProgram,
-        at: usize,
+        state: StateId,
         c: char,
         meter: &mut Meter,
     ) -> Result<Next, AllocError>
-        requires cache { IsCacheOf program.now.0 self.old }
-        requires placed { IsStatePlace self.old.table.states.items at }
-        ensures cache { IsCacheOf program.now.0 self.new }
-        ensures start { self.new.start ≡ self.old.start }
-        ensures leads { let places = places_at self.old.table.states.items (at / 128) in
+        requires here { KnowsState program.now.0 self.old state }
+        ensures kept { KeepsCache program.now.0 self.old self.new }
+        ensures leads { let places = places_at self.old.table.states.items state in
             IfOk result (LeadsNext program.now.0 self.new.table.states.items places c) }
     {
         self.prepare_for(program, c)?;
         if self.is_full() {
-            return match self.known_char(at, c) {
+            return match self.cached_next(state, c) {
                 Some(next) => Ok(next),
-                None => self.fill(program, at, c, meter),
+                None => self.fill(program, state, c, meter),
             };
         }
-        let next = self.follow_known(program, at, c, MOST_PARTS, meter)?;
-        if self.rows.is_often_met(at) && self.rows.size() < self.most_bytes / 2 {
-            self.rows.record(program, &self.table, at, c, next)?;
+        let next = self.follow_known(program, state, c, MOST_PARTS, meter)?;
+        if self.rows.is_often_met(state) && self.rows.size() < self.most_bytes / 2 {
+            self.rows.record(program, &self.table, state, c, next)?;
         }
         Ok(next)
     }
@@ -172,8 +169,7 @@ impl Cache {
     /// Makes room for the cell of a character, if it is past ASCII.
     fn prepare_for(&mut self, _program: &CompiledProgram, c: char) -> Result<(), AllocError>
         requires { IsCacheOf _program.now.0 self.old }
-        ensures cache { IsCacheOf _program.now.0 self.new }
-        ensures start { self.new.start ≡ self.old.start }
+        ensures kept { KeepsCache _program.now.0 self.old self.new }
         ensures states { self.new.table.states ≡ self.old.table.states }
     {
         if c.is_ascii() {
@@ -184,134 +180,131 @@ impl Cache {
 
     /// Returns where a character leads, if its cell is filled.
     #[inline]
-    fn known_char(&self, at: usize, c: char) -> Option<Next>
-        requires placed { IsStatePlace self.now.table.states.items at }
+    fn cached_next(&self, state: StateId, c: char) -> Option<Next>
+        requires has_state { HasState self.now.table.states.items state }
         requires room { length self.now.table.cells.items ≡ 128 * length self.now.table.states.items }
         ensures { (code : List Instruction) → IsCacheOf code self.now → IfSome result
             (LeadsNext code self.now.table.states.items
-            (places_at self.now.table.states.items (at / 128)) c) }
+            (places_at self.now.table.states.items state) c) }
     {
         if c.is_ascii() {
-            return self.known(at, c as u8);
+            return self.cached_ascii_next(state, c as u8);
         }
-        next_of(self.table.wide_cell(at, c))
+        next_of(self.table.wide_cell(state, c))
     }
 
     /// Returns where an ASCII character leads, passed as its byte, if its cell is filled. Takes one
     /// load and one comparison if it leads to a state.
     #[inline(always)]
-    pub fn known(&self, at: usize, c: u8) -> Option<Next>
-        requires placed { IsStatePlace self.now.table.states.items at }
+    pub fn cached_ascii_next(&self, state: StateId, c: u8) -> Option<Next>
+        requires has_state { HasState self.now.table.states.items state }
         requires room { length self.now.table.cells.items ≡ 128 * length self.now.table.states.items }
         requires ascii { c < 128 }
         ensures { (code : List Instruction) → IsCacheOf code self.now → IfSome result
             (LeadsNext code self.now.table.states.items
-            (places_at self.now.table.states.items (at / 128)) c) }
+            (places_at self.now.table.states.items state) c) }
     {
-        next_of(self.table.cells[at + usize::from(c)])
+        next_of(self.table.ascii_cell(state, c))
     }
 
-    /// Follows the ASCII characters of a text from the place `index` on: one of them, or more if the
-    /// state has one own place, and checks follow there that take them. Passing over these needs no
-    /// states. Returns where that leads, and up to which place.
+    /// Follows the ASCII characters of a text from the byte `index` on: one of them, or more if the
+    /// state has one own place, and a chain of checks there takes them. Passing over these needs no
+    /// states. Returns where that leads, and up to which byte.
     #[inline(never)]
     pub(crate) fn advance_far(
         &mut self,
         program: &CompiledProgram,
-        at: usize,
+        state: StateId,
         text: &[u8],
         index: usize,
         meter: &mut Meter,
     ) -> Result<(Next, usize), AllocError>
-        requires cache { IsCacheOf program.now.0 self.old }
-        requires placed { IsStatePlace self.old.table.states.items at }
+        requires here { KnowsState program.now.0 self.old state }
         requires ascii { IsAscii text.now }
         requires within { index < length text.now }
-        ensures cache { IsCacheOf program.now.0 self.new }
-        ensures start { self.new.start ≡ self.old.start }
+        ensures kept { KeepsCache program.now.0 self.old self.new }
         ensures further { IfOk result (λ r. (index < r.1) × (r.1 ≤ length text.now)) }
-        ensures decides { let places = places_at self.old.table.states.items (at / 128) in
+        ensures decides { let places = places_at self.old.table.states.items state in
             IfOk result (λ r. DecidesLeft program.now.0 self.new.table.states.items places
             (drop index text.now) (drop r.1 text.now) r.0) }
     {
         let c = char::from(text[index]);
         if !self.is_full() {
-            if let Some(lone) = self.lone(program, at) {
-                if let Some(true) = check_at(program, lone.place, c, meter) {
-                    return self.pass(program, lone, text, index, meter);
+            if let Some(chain) = self.chain(program, state) {
+                if let Some(true) = check_at(program, chain.place, c, meter) {
+                    return self.follow_chain(program, chain, text, index, meter);
                 }
             }
         }
-        let next = self.fill(program, at, c, meter)?;
+        let next = self.fill(program, state, c, meter)?;
         Ok((next, index + 1))
     }
 
-    /// Returns the own place of a state in a large program, if it has one, and its rest.
-    fn lone(&self, program: &CompiledProgram, at: usize) -> Option<Lone>
-        requires cache { IsCacheOf program.now.0 self.now }
-        requires placed { IsStatePlace self.now.table.states.items at }
-        ensures { let places = places_at self.now.table.states.items (at / 128) in
-            IfSome result (IsLone program.now.0 self.now.table.states.items places) }
+    /// Returns the chain that begins at the own place of a state, if it has only one. Returns `None` in
+    /// a small program.
+    fn chain(&self, program: &CompiledProgram, state: StateId) -> Option<Chain>
+        requires here { KnowsState program.now.0 self.now state }
+        ensures { let places = places_at self.now.table.states.items state in
+            IfSome result (IsChain program.now.0 self.now.table.states.items places) }
     {
         if program.size() < LEAST_PARTED {
             return None;
         }
-        let state = self.table.state(at);
-        match state.rest {
-            Some(rest) => match state.own.as_slice() {
-                [place] => Some(Lone {
+        let kept = self.table.state(state);
+        match kept.failure {
+            Some(failure) => match kept.own.as_slice() {
+                [place] => Some(Chain {
                     place: *place,
-                    rest: Some(rest),
+                    failure: Some(failure),
                 }),
                 _ => None,
             },
-            None => match state.places.as_slice() {
-                [place] => Some(Lone {
+            None => match kept.places.as_slice() {
+                [place] => Some(Chain {
                     place: *place,
-                    rest: None,
+                    failure: None,
                 }),
                 _ => None,
             },
         }
     }
 
-    /// Passes over characters of a text from the place `index` on: the one there, which the check at
-    /// the lone place takes, and those that the next checks take. Returns where that leads, and up
-    /// to which place.
-    fn pass(
+    /// Passes over characters of a text from the byte `index` on: the one there, which the first check
+    /// of the chain takes, and those that the next checks take. Returns where that leads, and up to
+    /// which byte.
+    fn follow_chain(
         &mut self,
         program: &CompiledProgram,
-        lone: Lone,
+        chain: Chain,
         text: &[u8],
         index: usize,
         meter: &mut Meter,
     ) -> Result<(Next, usize), AllocError>
         requires cache { IsCacheOf program.now.0 self.old }
-        requires placed { IfSome lone.rest (IsStatePlace self.old.table.states.items) }
+        requires has_state { IfSome chain.failure (HasState self.old.table.states.items) }
         requires few { length self.old.table.states.items < 60000 }
         requires small { length program.now.0 < 2 ^ 64 }
         requires ascii { IsAscii text.now }
         requires within { index < length text.now }
-        requires check { IsCheckAt program.now.0 lone.place (slice_index text.now index) true }
-        ensures cache { IsCacheOf program.now.0 self.new }
-        ensures start { self.new.start ≡ self.old.start }
+        requires check { IsCheckAt program.now.0 chain.place (slice_index text.now index) true }
+        ensures kept { KeepsCache program.now.0 self.old self.new }
         ensures further { IfOk result (λ r. (index < r.1) × (r.1 ≤ length text.now)) }
         ensures decides { (places : List ℕ)
-            → IsLone program.now.0 self.old.table.states.items places lone
+            → IsChain program.now.0 self.old.table.states.items places chain
             → IfOk result (λ r. DecidesLeft program.now.0 self.new.table.states.items places
             (drop index text.now) (drop r.1 text.now) r.0) }
     {
-        let mut here = lone;
+        let mut here = chain;
         let mut end = index;
         loop {
-            let next = self.follow_rest(program, here.rest, char::from(text[end]), meter)?;
+            let next = self.follow_failure(program, here.failure, char::from(text[end]), meter)?;
             end += 1;
             if let Next::Everything = next {
                 return Ok((next, end));
             }
-            here = Lone {
+            here = Chain {
                 place: here.place + 1,
-                rest: next.led(),
+                failure: next.state(),
             };
             if end >= text.len() || self.is_full() {
                 break;
@@ -320,65 +313,62 @@ impl Cache {
             match check_at(program, here.place, c, meter) {
                 Some(true) => {}
                 Some(false) => {
-                    let next = self.follow_rest(program, here.rest, c, meter)?;
+                    let next = self.follow_failure(program, here.failure, c, meter)?;
                     return Ok((next, end + 1));
                 }
                 None => break,
             }
         }
-        let at = self.arrive(program, here, meter)?;
-        Ok((Next::To(at), end))
+        let state = self.end_chain(program, here, meter)?;
+        Ok((Next::To(state), end))
     }
 
-    /// Follows a character from a state, if there is one.
-    fn follow_rest(
+    /// Follows a character from the failure state of a chain, if there is one.
+    fn follow_failure(
         &mut self,
         program: &CompiledProgram,
-        rest: Option<usize>,
+        failure: Option<StateId>,
         c: char,
         meter: &mut Meter,
     ) -> Result<Next, AllocError>
         requires cache { IsCacheOf program.now.0 self.old }
-        requires placed { IfSome rest (IsStatePlace self.old.table.states.items) }
+        requires has_state { IfSome failure (HasState self.old.table.states.items) }
         requires few { length self.old.table.states.items < 60000 }
-        ensures cache { IsCacheOf program.now.0 self.new }
-        ensures start { self.new.start ≡ self.old.start }
-        ensures leads { let places = places_led self.old.table.states.items rest in
+        ensures kept { KeepsCache program.now.0 self.old self.new }
+        ensures leads { let places = places_or_none self.old.table.states.items failure in
             IfOk result (LeadsNext program.now.0 self.new.table.states.items places c) }
         ensures grows { IfOk result (λ _. GrowsBy 130 self.old self.new) }
     {
-        match rest {
-            Some(rest) => self.follow_known(program, rest, c, MOST_PARTS, meter),
+        match failure {
+            Some(failure) => self.follow_known(program, failure, c, MOST_PARTS, meter),
             None => Ok(Next::Nothing),
         }
     }
 
-    /// Returns where the cells begin of the state of a lone place and its rest.
-    fn arrive(
+    /// Finds or adds the state of a chain: its place, and those of its failure state.
+    fn end_chain(
         &mut self,
         program: &CompiledProgram,
-        lone: Lone,
+        chain: Chain,
         meter: &mut Meter,
-    ) -> Result<usize, AllocError>
+    ) -> Result<StateId, AllocError>
         requires cache { IsCacheOf program.now.0 self.old }
-        requires placed { IfSome lone.rest (IsStatePlace self.old.table.states.items) }
+        requires has_state { IfSome chain.failure (HasState self.old.table.states.items) }
         requires few { length self.old.table.states.items < 65000 }
-        ensures cache { IsCacheOf program.now.0 self.new }
-        ensures start { self.new.start ≡ self.old.start }
-        ensures placed { IfOk result (IsStatePlace self.new.table.states.items) }
-        ensures union { let rest = places_led self.old.table.states.items lone.rest in IfOk result
-            (λ at. IsJoinOf program.now.0 (places_at self.new.table.states.items (at / 128)) rest
-            (lone.place ∷ [])) }
+        ensures kept { KeepsCache program.now.0 self.old self.new }
+        ensures has_state { IfOk result (HasState self.new.table.states.items) }
+        ensures union { let failure = places_or_none self.old.table.states.items chain.failure in IfOk result
+            (λ state. IsJoinOf program.now.0 (places_at self.new.table.states.items state) failure
+            (chain.place ∷ [])) }
     {
         self.others.clear();
-        self.others.push(lone.place)?;
+        self.others.push(chain.place)?;
         self.reached.clear();
         self.reached
-            .extend_from_slice(self.table.places_led(lone.rest))?;
-        self.reached.push(lone.place)?;
+            .extend_from_slice(self.table.places_or_none(chain.failure))?;
+        self.reached.push(chain.place)?;
         self.reached.sort_unstable();
-        let number = self.intern_parted(program, lone.rest, meter)?;
-        Ok(number * COLUMNS)
+        self.intern_parted(program, chain.failure, meter)
     }
 
     /// Follows a character by a step of the program, and fills its cell. If the cache is full, first
@@ -387,63 +377,59 @@ impl Cache {
     fn fill(
         &mut self,
         program: &CompiledProgram,
-        at: usize,
+        state: StateId,
         c: char,
         meter: &mut Meter,
     ) -> Result<Next, AllocError>
-        requires cache { IsCacheOf program.now.0 self.old }
-        requires placed { IsStatePlace self.old.table.states.items at }
-        ensures cache { IsCacheOf program.now.0 self.new }
-        ensures start { self.new.start ≡ self.old.start }
-        ensures leads { let places = places_at self.old.table.states.items (at / 128) in
+        requires here { KnowsState program.now.0 self.old state }
+        ensures kept { KeepsCache program.now.0 self.old self.new }
+        ensures leads { let places = places_at self.old.table.states.items state in
             IfOk result (LeadsNext program.now.0 self.new.table.states.items places c) }
     {
         if self.is_full() {
-            self.restart(at)?;
+            self.restart(state)?;
             return self.follow(program, 0, c, MOST_PARTS, meter);
         }
-        self.follow(program, at, c, MOST_PARTS, meter)
+        self.follow(program, state, c, MOST_PARTS, meter)
     }
 
     /// Follows a character by a step of the program, mostly only from the state's own places: where
-    /// those of the state `rest` lead is found by its cell, which is filled in the same way, up to
-    /// `depth` times. If its own places lead nowhere, the state `rest` decides.
+    /// its failure state leads is found by that state's cell, which is filled in the same way, up to
+    /// `depth` times. If its own places lead nowhere, the failure state decides.
     #[cycle(follow)]
     fn follow(
         &mut self,
         program: &CompiledProgram,
-        at: usize,
+        state: StateId,
         c: char,
         depth: usize,
         meter: &mut Meter,
     ) -> Result<Next, AllocError>
-        requires cache { IsCacheOf program.now.0 self.old }
-        requires placed { IsStatePlace self.old.table.states.items at }
+        requires here { KnowsState program.now.0 self.old state }
         requires few { length self.old.table.states.items + (2 * depth + 2) < 65533 }
-        ensures cache { IsCacheOf program.now.0 self.new }
-        ensures start { self.new.start ≡ self.old.start }
-        ensures leads { let places = places_at self.old.table.states.items (at / 128) in
+        ensures kept { KeepsCache program.now.0 self.old self.new }
+        ensures leads { let places = places_at self.old.table.states.items state in
             IfOk result (LeadsNext program.now.0 self.new.table.states.items places c) }
         ensures grows { IfOk result (λ _. GrowsBy (2 * depth + 2) self.old self.new) }
     {
-        let Some(rest) = self.table.state(at).rest else {
-            return self.follow_all(program, at, c, meter);
+        let Some(failure) = self.table.state(state).failure else {
+            return self.follow_all(program, state, c, meter);
         };
         if depth == 0 {
-            return self.follow_all(program, at, c, meter);
+            return self.follow_all(program, state, c, meter);
         }
-        let next = self.follow_known(program, rest, c, depth - 1, meter)?;
+        let next = self.follow_known(program, failure, c, depth - 1, meter)?;
         if let Next::Everything = next {
-            self.table.write(at, c, ALL);
+            self.table.write(state, c, ALL);
             return Ok(next);
         }
-        let led = next.led();
-        let leads = self.step_own(program, at, c, led, meter)?;
+        let target = next.state();
+        let leads = self.step_own(program, state, c, target, meter)?;
         if !leads {
-            self.table.write(at, c, cell_of(next));
+            self.table.write(state, c, cell_of(next));
             return Ok(next);
         }
-        self.enter(program, at, c, led, meter)
+        self.enter(program, state, c, target, meter)
     }
 
     /// Follows a character by its cell, if that is filled, and otherwise as `follow` does.
@@ -451,50 +437,46 @@ impl Cache {
     fn follow_known(
         &mut self,
         program: &CompiledProgram,
-        at: usize,
+        state: StateId,
         c: char,
         depth: usize,
         meter: &mut Meter,
     ) -> Result<Next, AllocError>
-        requires cache { IsCacheOf program.now.0 self.old }
-        requires placed { IsStatePlace self.old.table.states.items at }
+        requires here { KnowsState program.now.0 self.old state }
         requires few { length self.old.table.states.items + (2 * depth + 2) < 65533 }
-        ensures cache { IsCacheOf program.now.0 self.new }
-        ensures start { self.new.start ≡ self.old.start }
-        ensures leads { let places = places_at self.old.table.states.items (at / 128) in
+        ensures kept { KeepsCache program.now.0 self.old self.new }
+        ensures leads { let places = places_at self.old.table.states.items state in
             IfOk result (LeadsNext program.now.0 self.new.table.states.items places c) }
         ensures grows { IfOk result (λ _. GrowsBy (2 * depth + 2) self.old self.new) }
     {
-        if let Some(next) = self.known_char(at, c) {
+        if let Some(next) = self.cached_next(state, c) {
             return Ok(next);
         }
-        self.follow(program, at, c, depth, meter)
+        self.follow(program, state, c, depth, meter)
     }
 
     /// Steps from a state's own places. Writes the places that were reached, and those of the state
-    /// `led`, into `self.reached`, and the first of these into `self.others`. Returns `false` if its
-    /// own places lead nowhere.
+    /// `target`, into `self.reached`, and the first of these into `self.others`. Returns `false` if
+    /// its own places lead nowhere.
     fn step_own(
         &mut self,
         program: &CompiledProgram,
-        at: usize,
+        state: StateId,
         c: char,
-        led: Option<usize>,
+        target: Option<StateId>,
         meter: &mut Meter,
     ) -> Result<bool, AllocError>
-        requires cache { IsCacheOf program.now.0 self.old }
-        requires placed { IsStatePlace self.old.table.states.items at }
-        requires led { IfSome led (IsStatePlace self.old.table.states.items) }
-        ensures cache { IsCacheOf program.now.0 self.new }
-        ensures start { self.new.start ≡ self.old.start }
+        requires here { KnowsState program.now.0 self.old state }
+        requires target { IfSome target (HasState self.old.table.states.items) }
+        ensures kept { KeepsCache program.now.0 self.old self.new }
         ensures table { self.new.table ≡ self.old.table }
         ensures nowhere { IfOk result (λ leads. IsFalse leads
-            → IsDead program.now.0 (own_at self.old.table.states.items (at / 128)) c) }
+            → IsDead program.now.0 (own_at self.old.table.states.items state) c) }
         ensures reaches { IfOk result (λ leads. IsTrue leads
-            → AreStepped program.now.0 self.old.table.states.items at led c self.new) }
+            → AreStepped program.now.0 self.old.table.states.items state target c self.new) }
     {
-        let own = &self.table.state(at).own;
-        let also = self.table.places_led(led);
+        let own = &self.table.state(state).own;
+        let also = self.table.places_or_none(target);
         let leads = self.stepper.step(
             program,
             own,
@@ -511,20 +493,18 @@ impl Cache {
     fn follow_all(
         &mut self,
         program: &CompiledProgram,
-        at: usize,
+        state: StateId,
         c: char,
         meter: &mut Meter,
     ) -> Result<Next, AllocError>
-        requires cache { IsCacheOf program.now.0 self.old }
-        requires placed { IsStatePlace self.old.table.states.items at }
+        requires here { KnowsState program.now.0 self.old state }
         requires few { length self.old.table.states.items + 2 < 65533 }
-        ensures cache { IsCacheOf program.now.0 self.new }
-        ensures start { self.new.start ≡ self.old.start }
-        ensures leads { let places = places_at self.old.table.states.items (at / 128) in
+        ensures kept { KeepsCache program.now.0 self.old self.new }
+        ensures leads { let places = places_at self.old.table.states.items state in
             IfOk result (LeadsNext program.now.0 self.new.table.states.items places c) }
         ensures grows { IfOk result (λ _. GrowsBy 2 self.old self.new) }
     {
-        let places = self.table.places(at);
+        let places = self.table.places(state);
         self.stepper.step(
             program,
             places,
@@ -534,62 +514,59 @@ impl Cache {
             &mut self.others,
             meter,
         )?;
-        self.enter(program, at, c, None, meter)
+        self.enter(program, state, c, None, meter)
     }
 
-    /// Fills the cell of a character in the state whose cells begin at `at`, by the places that were
-    /// reached. Those in `self.others`, and those of the state `led`, if there is one, are
-    /// all of them.
+    /// Fills the cell of a character in a state, by the places that were reached: those in
+    /// `self.others`, and those of the state `target`, if there is one.
     fn enter(
         &mut self,
         program: &CompiledProgram,
-        at: usize,
+        state: StateId,
         c: char,
-        led: Option<usize>,
+        target: Option<StateId>,
         meter: &mut Meter,
     ) -> Result<Next, AllocError>
-        requires cache { IsCacheOf program.now.0 self.old }
-        requires placed { IsStatePlace self.old.table.states.items at }
+        requires here { KnowsState program.now.0 self.old state }
         requires few { length self.old.table.states.items + 2 < 65533 }
-        requires next { AreNext program.now.0 self.old at c }
-        requires led { IfSome led (AreParted program.now.0 self.old) }
-        ensures cache { IsCacheOf program.now.0 self.new }
-        ensures start { self.new.start ≡ self.old.start }
-        ensures leads { let places = places_at self.old.table.states.items (at / 128) in
+        requires next { AreNext program.now.0 self.old state c }
+        requires target { IfSome target (AreParted program.now.0 self.old) }
+        ensures kept { KeepsCache program.now.0 self.old self.new }
+        ensures leads { let places = places_at self.old.table.states.items state in
             IfOk result (LeadsNext program.now.0 self.new.table.states.items places c) }
         ensures grows { IfOk result (λ _. GrowsBy 2 self.old self.new) }
     {
         if self.reached.is_empty() {
-            self.table.write(at, c, DEAD);
+            self.table.write(state, c, DEAD);
             return Ok(Next::Nothing);
         }
         if takes_all(program, &self.reached, meter) {
-            self.table.write(at, c, ALL);
+            self.table.write(state, c, ALL);
             return Ok(Next::Everything);
         }
-        let number = self.intern_parted(program, led, meter)?;
-        self.table.write(at, c, number as u16 + FIRST);
-        Ok(Next::To(number * COLUMNS))
+        let to = self.intern_parted(program, target, meter)?;
+        let next = Next::To(to);
+        self.table.write(state, c, cell_of(next));
+        Ok(next)
     }
 
-    /// Finds or adds the state of the places that were reached. Its rest is the state `led`, unless
-    /// others of its places are loops. In a large program, it is that of its loops then.
+    /// Finds or adds the state of the places that were reached. Its failure state is `target`, unless
+    /// others of its places are loops. In a large program, it is the state of its loops then.
     fn intern_parted(
         &mut self,
         program: &CompiledProgram,
-        led: Option<usize>,
+        target: Option<StateId>,
         meter: &mut Meter,
-    ) -> Result<usize, AllocError>
+    ) -> Result<StateId, AllocError>
         requires few { length self.old.table.states.items + 2 < 65533 }
         requires cache { IsCacheOf program.now.0 self.old }
-        requires led { IfSome led (AreParted program.now.0 self.old) }
-        ensures cache { IsCacheOf program.now.0 self.new }
-        ensures start { self.new.start ≡ self.old.start }
+        requires target { IfSome target (AreParted program.now.0 self.old) }
+        ensures kept { KeepsCache program.now.0 self.old self.new }
         ensures small { IfOk result (λ t. t < 65533) }
         ensures interned { IfOk result (λ t. IsInterned 2 self.old self.new self.old.reached.items t) }
     {
-        if led.is_some() && !has_loop(program, &self.others, meter) {
-            return self.intern(program, led);
+        if target.is_some() && !has_loop(program, &self.others, meter) {
+            return self.intern(program, target);
         }
         if program.size() < LEAST_PARTED {
             return self.intern(program, None);
@@ -607,52 +584,51 @@ impl Cache {
         mem::swap(&mut self.reached, &mut self.loops);
         let loops = self.intern(program, None);
         mem::swap(&mut self.reached, &mut self.loops);
-        let rest = loops? * COLUMNS;
-        self.intern(program, Some(rest))
+        let failure = loops?;
+        self.intern(program, Some(failure))
     }
 
-    /// Finds the state of the places that were reached, and adds it if it is new, with `rest` as its
-    /// rest. Returns its number.
+    /// Finds the state of the places that were reached, and adds it if it is new, with this failure
+    /// state.
     fn intern(
         &mut self,
         program: &CompiledProgram,
-        rest: Option<usize>,
-    ) -> Result<usize, AllocError>
+        failure: Option<StateId>,
+    ) -> Result<StateId, AllocError>
         requires few { length self.old.table.states.items < 65533 }
         requires cache { IsCacheOf program.now.0 self.old }
-        requires rest { IfSome rest (AreParted program.now.0 self.old) }
-        ensures cache { IsCacheOf program.now.0 self.new }
-        ensures start { self.new.start ≡ self.old.start }
+        requires failure { IfSome failure (AreParted program.now.0 self.old) }
+        ensures kept { KeepsCache program.now.0 self.old self.new }
         ensures lists { AreSameLists self.old self.new }
         ensures small { IfOk result (λ t. t < 65533) }
         ensures interned { IfOk result (λ t. IsInterned 1 self.old self.new self.old.reached.items t) }
     {
-        if let Some(number) = self.table.find(&self.reached) {
-            return Ok(number);
+        if let Some(state) = self.table.find(&self.reached) {
+            return Ok(state);
         }
         let places = Vec::from_slice(self.alloc, &self.reached)?;
-        let own = self.own_with(rest)?;
+        let own = self.own_with(failure)?;
         self.keep(State {
             places,
             own,
-            rest,
+            failure,
             accepts: None,
             numbers: None,
         })
     }
 
-    /// Copies the places that aren't those of `rest`, if there is such a state.
-    fn own_with(&self, rest: Option<usize>) -> Result<Vec<usize>, AllocError>
-        ensures { IfOk result (λ own. IfSome rest (λ _. own.items ≡ self.now.others.items)) }
+    /// Copies the places that aren't those of the failure state, if there is one.
+    fn own_with(&self, failure: Option<StateId>) -> Result<Vec<usize>, AllocError>
+        ensures { IfOk result (λ own. IfSome failure (λ _. own.items ≡ self.now.others.items)) }
     {
-        match rest {
+        match failure {
             Some(_) => Vec::from_slice(self.alloc, &self.others),
             None => Ok(Vec::new(self.alloc)),
         }
     }
 
-    /// Adds a state and returns its number. If that fails, removes all states.
-    fn keep(&mut self, state: State) -> Result<usize, AllocError>
+    /// Adds a state. If that fails, removes all states.
+    fn keep(&mut self, state: State) -> Result<StateId, AllocError>
         requires few { length self.old.table.states.items < 65533 }
         requires room { length self.old.table.cells.items ≡ 128 * length self.old.table.states.items }
         ensures ok { IfOk result (IsAdded self.old self.new state) }
@@ -660,7 +636,7 @@ impl Cache {
     {
         self.bytes = self.bytes.saturating_add(bytes_of(&state));
         match self.table.push(state) {
-            Ok(number) => Ok(number),
+            Ok(id) => Ok(id),
             Err(error) => {
                 self.clear();
                 Err(error)
@@ -668,19 +644,19 @@ impl Cache {
         }
     }
 
-    /// Removes all states but the one whose cells begin at `at`, which then is the first one.
-    fn restart(&mut self, at: usize) -> Result<(), AllocError>
-        requires { at / 128 < length self.old.table.states.items }
-        ensures ok { (s : State) → slice_get self.old.table.states.items (at / 128) ≡ Some s
+    /// Removes all states but one, which then is the first one.
+    fn restart(&mut self, state: StateId) -> Result<(), AllocError>
+        requires { state < length self.old.table.states.items }
+        ensures ok { (s : State) → slice_get self.old.table.states.items state ≡ Some s
             → IfOk result (λ _. IsRestarted self.old self.new s) }
         ensures err { OnErr result (IsCleared self.old self.new) }
     {
         let least = self.table.states.len().saturating_mul(self.least_read);
         self.gives_up = self.gives_up || self.read < least;
         self.read = 0;
-        let state = whole(self.alloc, self.table.take(at));
+        let left = whole(self.alloc, self.table.take(state));
         self.clear();
-        self.keep(state)?;
+        self.keep(left)?;
         Ok(())
     }
 
@@ -704,62 +680,58 @@ impl Cache {
         states >= MOST_STATES || states >= LEAST_STATES && bytes >= self.most_bytes
     }
 
-    /// Returns whether a text that ends in the state whose cells begin at `at` is accepted. Takes a
-    /// step of the program if no text has ended there.
+    /// Returns whether a text that ends in the state is accepted. Takes a step of the program if no
+    /// text has ended there.
     #[inline]
-    pub fn accepts(&mut self, program: &CompiledProgram, at: usize, meter: &mut Meter) -> bool
-        requires cache { IsCacheOf program.now.0 self.old }
-        requires placed { IsStatePlace self.old.table.states.items at }
-        ensures cache { IsCacheOf program.now.0 self.new }
-        ensures start { self.new.start ≡ self.old.start }
-        ensures accepts { let places = places_at self.old.table.states.items (at / 128) in
+    pub fn accepts(&mut self, program: &CompiledProgram, state: StateId, meter: &mut Meter) -> bool
+        requires here { KnowsState program.now.0 self.old state }
+        ensures kept { KeepsCache program.now.0 self.old self.new }
+        ensures accepts { let places = places_at self.old.table.states.items state in
             IsTrue result ↔ AnyAmong program.now.0 places [] }
     {
-        if let Some(accepts) = self.table.state(at).accepts {
+        if let Some(accepts) = self.table.state(state).accepts {
             return accepts;
         }
-        let accepts = self.computed(program, at, meter);
-        self.table.settle(at, accepts);
+        let accepts = self.computed(program, state, meter);
+        self.table.settle(state, accepts);
         accepts
     }
 
-    /// Finds the numbers of the patterns that match a text that ends in the state whose cells begin at
-    /// `at`, unless they are known.
+    /// Finds the numbers of the patterns that match a text that ends in the state, unless they are
+    /// known.
     pub(crate) fn find_numbers(
         &mut self,
         program: &CompiledProgram,
-        at: usize,
+        state: StateId,
         meter: &mut Meter,
     ) -> Result<(), AllocError>
-        requires cache { IsCacheOf program.now.0 self.old }
-        requires placed { IsStatePlace self.old.table.states.items at }
+        requires here { KnowsState program.now.0 self.old state }
         requires closed { IsClosed program.now.0 }
-        ensures cache { IsCacheOf program.now.0 self.new }
-        ensures start { self.new.start ≡ self.old.start }
-        ensures numbers { let places = places_at self.old.table.states.items (at / 128) in
-            IfOk result (λ _. AreNumbersOf program.now.0 places (numbers_at self.new (Some at))) }
+        ensures kept { KeepsCache program.now.0 self.old self.new }
+        ensures numbers { let places = places_at self.old.table.states.items state in
+            IfOk result (λ _. AreNumbersOf program.now.0 places (numbers_at self.new (Some state))) }
     {
-        if self.table.state(at).numbers.is_some() {
+        if self.table.state(state).numbers.is_some() {
             return Ok(());
         }
-        let places = self.table.places(at);
+        let places = self.table.places(state);
         self.stepper
             .list_ends(program, places, &mut self.loops, meter)?;
         let numbers = Vec::from_slice(self.alloc, &self.loops)?;
         let bytes = numbers.len().saturating_mul(NUMBER_BYTES);
         self.bytes = self.bytes.saturating_add(bytes);
-        self.table.settle_numbers(at, numbers);
+        self.table.settle_numbers(state, numbers);
         Ok(())
     }
 
-    /// Returns the numbers that were found for the state whose cells begin at `at`, if there is one.
-    pub(crate) fn numbers(&self, at: Option<usize>) -> &[usize]
-        ensures { numbers_at self.now at ≡ result.now }
+    /// Returns the numbers that were found for a state, if there is one.
+    pub(crate) fn numbers(&self, state: Option<StateId>) -> &[usize]
+        ensures { numbers_at self.now state ≡ result.now }
     {
-        let Some(at) = at else {
+        let Some(state) = state else {
             return &[];
         };
-        match self.table.states.get(at / COLUMNS) {
+        match self.table.states.get(state) {
             Some(state) => match &state.numbers {
                 Some(numbers) => numbers,
                 None => &[],
@@ -768,31 +740,29 @@ impl Cache {
         }
     }
 
-    /// Computes what `accepts` returns: by the own places of the state, and then by its rest.
-    fn computed(&mut self, program: &CompiledProgram, at: usize, meter: &mut Meter) -> bool
-        requires cache { IsCacheOf program.now.0 self.old }
-        requires placed { IsStatePlace self.old.table.states.items at }
-        ensures cache { IsCacheOf program.now.0 self.new }
-        ensures start { self.new.start ≡ self.old.start }
+    /// Computes what `accepts` returns: by the own places of the state, and then by its failure state.
+    fn computed(&mut self, program: &CompiledProgram, state: StateId, meter: &mut Meter) -> bool
+        requires here { KnowsState program.now.0 self.old state }
+        ensures kept { KeepsCache program.now.0 self.old self.new }
         ensures table { self.new.table ≡ self.old.table }
         ensures rows { self.new.rows ≡ self.old.rows }
         ensures first { self.new.first ≡ self.old.first }
-        ensures accepts { let places = places_at self.old.table.states.items (at / 128) in
+        ensures accepts { let places = places_at self.old.table.states.items state in
             IsTrue result ↔ AnyAmong program.now.0 places [] }
     {
-        let mut here = at;
+        let mut here = state;
         for _part in 0..MOST_PARTS {
-            let state = self.table.state(here);
-            if let Some(accepts) = state.accepts {
+            let kept = self.table.state(here);
+            if let Some(accepts) = kept.accepts {
                 return accepts;
             }
-            let Some(rest) = state.rest else {
+            let Some(failure) = kept.failure else {
                 break;
             };
             if self.own_accept(program, here, meter) {
                 return true;
             }
-            here = rest;
+            here = failure;
         }
         self.stepper
             .accepts(program, self.table.places(here), meter)
@@ -800,18 +770,16 @@ impl Cache {
 
     /// Returns whether the program, begun at one of the own places of the state, accepts the empty
     /// text.
-    fn own_accept(&mut self, program: &CompiledProgram, at: usize, meter: &mut Meter) -> bool
-        requires cache { IsCacheOf program.now.0 self.old }
-        requires placed { IsStatePlace self.old.table.states.items at }
-        ensures cache { IsCacheOf program.now.0 self.new }
-        ensures start { self.new.start ≡ self.old.start }
+    fn own_accept(&mut self, program: &CompiledProgram, state: StateId, meter: &mut Meter) -> bool
+        requires here { KnowsState program.now.0 self.old state }
+        ensures kept { KeepsCache program.now.0 self.old self.new }
         ensures table { self.new.table ≡ self.old.table }
         ensures rows { self.new.rows ≡ self.old.rows }
         ensures first { self.new.first ≡ self.old.first }
         ensures accepts { IsTrue result
-            ↔ AnyAmong program.now.0 (own_at self.old.table.states.items (at / 128)) [] }
+            ↔ AnyAmong program.now.0 (own_at self.old.table.states.items state) [] }
     {
-        let own = &self.table.state(at).own;
+        let own = &self.table.state(state).own;
         let accepts = self.stepper.accepts(program, own, meter);
         accepts
     }
@@ -835,24 +803,24 @@ fn takes_all(program: &CompiledProgram, places: &[usize], meter: &mut Meter) -> 
     false
 }
 
-/// Returns the state without its rest and its numbers.
+/// Returns the state without its failure state and its numbers.
 fn whole(alloc: Global, state: State) -> State
     ensures places { result.places ≡ state.places }
-    ensures rest { result.rest ≡ None }
+    ensures failure { result.failure ≡ None }
     ensures accepts { result.accepts ≡ state.accepts }
     ensures numbers { result.numbers ≡ None }
 {
     let State {
         places,
         own: _,
-        rest: _,
+        failure: _,
         accepts,
         numbers: _,
     } = state;
     State {
         places,
         own: Vec::new(alloc),
-        rest: None,
+        failure: None,
         accepts,
         numbers: None,
     }

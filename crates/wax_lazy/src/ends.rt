@@ -1,7 +1,7 @@
 //! What the end of a text says of it, and of what may follow it.
 ghost use Rattle.std.specs.Prelude.{◌≡◌, ◌↔◌, ◌/◌, ℕ, List, IfOk, IfSome, IsTrue, chars};
-ghost use Rattle.wax_states.specs.States.{IsStatePlace, led_of};
-ghost use Rattle.wax_lazy.specs.inner.Cached.{AnyAhead, IsAheadVerdict, IsCacheOf, LeadsText};
+ghost use Rattle.wax_states.specs.States.{HasState, state_of};
+ghost use Rattle.wax_lazy.specs.inner.Cached.{AnyAhead, IsAheadVerdict, IsCacheOf, KeepsCache, LeadsText};
 ghost use Rattle.wax_lazy.specs.inner.Cached.{numbers_at};
 ghost use Rattle.wax_lazy.specs.Numbers.{AreNumbersFrom};
 ghost use Rattle.wax_program.specs.Closed.{IsClosed};
@@ -9,11 +9,11 @@ ghost use Rattle.wax_program.specs.Machine.{Accepts};
 ghost use Rattle.wax_program.specs.Onward.{AreFlagsOf};
 
 use crate::cache::Cache;
-use crate::lead::lead;
+use crate::following::follow_text;
 use std::alloc::AllocError;
 use wax_program::{Ahead, CompiledProgram, Meter, Onward};
 use wax_query::query::Verdict;
-use wax_states::Next;
+use wax_states::{Next, StateId};
 
 /// Returns whether the program, begun at the cache's place, accepts the text.
 pub(crate) fn accepts(
@@ -23,13 +23,12 @@ pub(crate) fn accepts(
     meter: &mut Meter,
 ) -> Result<bool, AllocError>
     requires { IsCacheOf program.now.0 cache.old }
-    ensures cache { IsCacheOf program.now.0 cache.new }
-    ensures start { cache.new.start ≡ cache.old.start }
+    ensures kept { KeepsCache program.now.0 cache.old cache.new }
     ensures decides { IfOk result
         (λ b. IsTrue b ↔ Accepts program.now.0 cache.old.start (chars text.now)) }
 {
-    match lead(program, cache, text, meter)? {
-        Next::To(at) => Ok(cache.accepts(program, at, meter)),
+    match follow_text(program, cache, text, meter)? {
+        Next::To(state) => Ok(cache.accepts(program, state, meter)),
         Next::Nothing => Ok(false),
         Next::Everything => Ok(true),
     }
@@ -42,46 +41,44 @@ pub(crate) fn find_numbers(
     cache: &mut Cache,
     text: &str,
     meter: &mut Meter,
-) -> Result<Option<usize>, AllocError>
+) -> Result<Option<StateId>, AllocError>
     requires cache { IsCacheOf program.now.0 cache.old }
     requires closed { IsClosed program.now.0 }
-    ensures cache { IsCacheOf program.now.0 cache.new }
-    ensures start { cache.new.start ≡ cache.old.start }
+    ensures kept { KeepsCache program.now.0 cache.old cache.new }
     ensures numbers { let text = chars text.now in
         IfOk result (λ at. AreNumbersFrom program.now.0 cache.old.start text (numbers_at cache.new at)) }
 {
-    match lead(program, cache, text, meter)? {
-        Next::To(at) => {
-            cache.find_numbers(program, at, meter)?;
-            Ok(Some(at))
+    match follow_text(program, cache, text, meter)? {
+        Next::To(state) => {
+            cache.find_numbers(program, state, meter)?;
+            Ok(Some(state))
         }
         Next::Nothing => Ok(None),
         Next::Everything => unreachable!(),
     }
 }
 
-/// Returns both answers for a text that led there and goes on in the given way.
+/// Returns both answers for a text that led to `next` and goes on in the given way.
 pub fn verdict_at(
     program: &CompiledProgram,
     onward: &Onward,
     cache: &mut Cache,
-    led: Next,
+    next: Next,
     m: Ahead,
     meter: &mut Meter,
 ) -> Verdict
     requires cache { IsCacheOf program.now.0 cache.old }
     requires onward { AreFlagsOf program.now.0 onward.now }
-    requires placed { IfSome (led_of led) (IsStatePlace cache.old.table.states.items) }
-    ensures cache { IsCacheOf program.now.0 cache.new }
-    ensures start { cache.new.start ≡ cache.old.start }
+    requires has_state { IfSome (state_of next) (HasState cache.old.table.states.items) }
+    ensures kept { KeepsCache program.now.0 cache.old cache.new }
     ensures decides { (text : List ℕ)
-        → LeadsText program.now.0 cache.old.table.states.items cache.old.start text led
+        → LeadsText program.now.0 cache.old.table.states.items cache.old.start text next
         → IsAheadVerdict program.now.0 cache.old.start text m result }
 {
-    match led {
-        Next::To(at) => Verdict {
-            goes_on: any_ahead(onward, m, cache.table.places(at)),
-            is_match: cache.accepts(program, at, meter),
+    match next {
+        Next::To(state) => Verdict {
+            goes_on: any_ahead(onward, m, cache.table.places(state)),
+            is_match: cache.accepts(program, state, meter),
         },
         Next::Nothing => Verdict {
             is_match: false,

@@ -1,11 +1,11 @@
-//! Matching many texts against one program: the places that it reaches are kept as states, with the
-//! next state for each ASCII character.
+//! Matching many texts against one program by a lazy DFA: the places that it reaches are kept as
+//! states, with the next state for each ASCII character.
 #![tactic(auto)]
 
 mod cache;
+mod dfa;
 mod ends;
-mod known;
-mod lead;
+mod following;
 mod matcher;
 mod once;
 mod rows;

@@ -6,7 +6,7 @@ ghost use Rattle.wax_program.specs.Closed.{IsClosed};
 ghost use Rattle.wax_program.specs.Machine.{Accepts};
 ghost use Rattle.wax_program.specs.declared.instruction.Instruction.{Instruction};
 
-use crate::known::Known;
+use crate::dfa::LazyDfa;
 use std::alloc::Global;
 use std::marker::Model;
 use wax_program::CompiledProgram;
@@ -69,7 +69,7 @@ impl<P: HasProgram> HasProgram for &P {
 pub struct Matcher<P: HasProgram> {
     alloc: Global,
     program: P,
-    known: Known,
+    dfa: LazyDfa,
 }
 
 impl<P: HasProgram + Drop> Drop for Matcher<P> {
@@ -77,7 +77,7 @@ impl<P: HasProgram + Drop> Drop for Matcher<P> {
         let Matcher {
             alloc: _,
             program: _,
-            known: _,
+            dfa: _,
         } = self;
     }
 }
@@ -87,7 +87,7 @@ impl<P: HasProgram> Model for Matcher<P> {
     ghost use Rattle.std.specs.Coded.{coded_list};
     ghost use Rattle.wax_program.specs.declared.instruction.Instruction.{Instruction};
     ghost use Rattle.wax_program.specs.contracts.instruction.Instruction as instruction;
-    ghost use Rattle.wax_lazy.specs.inner.Cached.{IsKnownOf};
+    ghost use Rattle.wax_lazy.specs.inner.Cached.{IsDfaOf};
 
     ghost Value = { List Instruction };
 
@@ -95,16 +95,12 @@ impl<P: HasProgram> Model for Matcher<P> {
 
     ghost view = { λ m. P.code m.program };
 
-    ghost invariant = { λ m. IsKnownOf (P.code m.program) m.known };
+    ghost invariant = { λ m. IsDfaOf (P.code m.program) m.dfa };
 }
 
 impl<P: HasProgram> Matcher<P> {
     /// Creates a matcher that has seen no text. It keeps at most about 2 MiB; or 512 bytes for each
     /// instruction of the program, if that is more, but at most about 16 MiB.
-    ///
-    /// # Errors
-    ///
-    /// Returns `NoMemory` if allocation fails.
     pub fn new(alloc: Global, program: P) -> Result<Matcher<P>, NoMemory>
     where
         P: Drop,
@@ -115,12 +111,12 @@ impl<P: HasProgram> Matcher<P> {
             .size()
             .saturating_mul(BYTES_PER_INSTRUCTION);
         let most_bytes = most_bytes.max(MOST_BYTES).min(MOST_BYTES_OF_ALL);
-        let mut known = Known::new(program.program(), most_bytes);
-        known.prepare(alloc, program.program())?;
+        let mut dfa = LazyDfa::new(program.program(), most_bytes);
+        dfa.prepare(alloc, program.program())?;
         Ok(Matcher {
             alloc,
             program,
-            known,
+            dfa,
         })
     }
 
@@ -129,11 +125,11 @@ impl<P: HasProgram> Matcher<P> {
     pub fn with_most(alloc: Global, program: P, most_bytes: usize) -> Matcher<P>
         ensures { result ≡ P.code program }
     {
-        let known = Known::new(program.program(), most_bytes);
+        let dfa = LazyDfa::new(program.program(), most_bytes);
         Matcher {
             alloc,
             program,
-            known,
+            dfa,
         }
     }
 
@@ -169,8 +165,7 @@ impl<P: HasProgram> Matcher<P> {
         ensures decides { IfOk result (λ b. IsTrue b ↔ Accepts self.old 0 (chars text.now)) }
         ensures same { self.new ≡ self.old }
     {
-        self.known
-            .is_match(self.alloc, self.program.program(), text)
+        self.dfa.is_match(self.alloc, self.program.program(), text)
     }
 
     /// Returns whether the program accepts the text, and whether it accepts one of something below
@@ -185,7 +180,7 @@ impl<P: HasProgram> Matcher<P> {
         ensures decides { IfOk result (IsVerdict self.old (chars text.now)) }
         ensures same { self.new ≡ self.old }
     {
-        self.known.verdict(self.alloc, self.program.program(), text)
+        self.dfa.verdict(self.alloc, self.program.program(), text)
     }
 
     /// Writes the numbers of the patterns that match the text, ascending. The program has to be one
@@ -203,8 +198,8 @@ impl<P: HasProgram> Matcher<P> {
     {
         numbers.clear();
         let program = self.program.program();
-        let found = self.known.find_numbers(self.alloc, program, text)?;
-        numbers.extend_from_slice(self.known.numbers(found))?;
+        let found = self.dfa.find_numbers(self.alloc, program, text)?;
+        numbers.extend_from_slice(self.dfa.numbers(found))?;
         Ok(())
     }
 
@@ -222,13 +217,13 @@ impl<P: HasProgram> Matcher<P> {
         ensures same { self.new ≡ self.old }
     {
         let program = self.program.program();
-        let found = self.known.find_numbers(self.alloc, program, text)?;
-        Ok(self.known.numbers(found).last().copied())
+        let found = self.dfa.find_numbers(self.alloc, program, text)?;
+        Ok(self.dfa.numbers(found).last().copied())
     }
 
     /// Returns whether the matcher runs its program for each text from now on, since the states
     /// that it kept served too little text.
     pub fn has_given_up(&self) -> bool {
-        self.known.gives_up()
+        self.dfa.gives_up()
     }
 }

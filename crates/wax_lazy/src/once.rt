@@ -6,15 +6,11 @@ ghost use Rattle.wax_program.specs.Closed.{IsClosed};
 use std::alloc::{AllocError, Global};
 use std::mem;
 use wax_program::{CompiledProgram, Meter};
-use wax_stepper::Stepper;
+use wax_states::Stepper;
 
 /// Writes the numbers of the patterns that match the text, ascending. The program has to be one whose
 /// patterns have ends of their own. Takes time in proportion to the instructions that it reads, each
 /// at most once for a character. For many texts a matcher is faster.
-///
-/// # Errors
-///
-/// Returns `AllocError` if allocation fails.
 pub fn list_numbers(
     alloc: Global,
     program: &CompiledProgram,
@@ -43,10 +39,6 @@ pub fn list_numbers(
 
 /// Returns the greatest number of a pattern that matches the text, or `None` if no pattern matches. The
 /// program has to be one whose patterns have ends of their own. Takes what `list_numbers` does.
-///
-/// # Errors
-///
-/// Returns `AllocError` if allocation fails.
 pub fn last_number(
     alloc: Global,
     program: &CompiledProgram,

@@ -3,11 +3,11 @@ ghost use Rattle.std.specs.Char.{encode_utf8};
 ghost use Rattle.std.specs.Prelude.{◌≡◌, ◌+◌, ◌-◌, ◌*◌, ◌/◌, ◌<◌, ◌≤◌, ◌⊎◌, ◌↔◌, ◌∷◌, ◌++◌, ℕ, []};
 ghost use Rattle.std.specs.Prelude.{IfOk, IfSome, IsTrue, OnErr, Some, length, replicate, take};
 ghost use Rattle.wax_lazy.specs.inner.Rows.{AreRows, HasRow, IsCellTo, IsRowCell, begun_bytes};
-ghost use Rattle.wax_states.specs.States.{IsStatePlace, LeadsNext, places_at};
+ghost use Rattle.wax_states.specs.States.{HasState, LeadsNext, places_at};
 
 use std::alloc::{AllocError, Global};
 use wax_program::CompiledProgram;
-use wax_states::{ALL, COLUMNS, DEAD, Next, Table};
+use wax_states::{ALL, DEAD, Next, StateId, Table};
 
 /// The number of cells of a row: one for each byte. A cell has the number of the next row plus
 /// [`FIRST_ROW`], or says that the rest of the text doesn't matter.
@@ -79,10 +79,10 @@ impl Begun {
     }
 }
 
-/// What a row is for: the state whose cells begin at `at`, and the bytes that were read after it.
+/// What a row is for: a state, and the bytes that were read after it.
 #[derive(Clone, Copy)]
 pub struct RowKey {
-    pub at: usize,
+    pub state: StateId,
     pub begun: Begun,
 }
 
@@ -125,40 +125,40 @@ impl Rows {
         self.keys.len().saturating_mul(ROW_BYTES)
     }
 
-    /// Returns the row of the state whose cells begin at `at`, if it has one.
+    /// Returns the row of a state, if it has one.
     #[inline]
-    pub fn find(&self, at: usize) -> Option<usize>
-        ensures { IfSome result (λ r. HasRow self.now.keys.items r at []) }
+    pub fn find(&self, state: StateId) -> Option<usize>
+        ensures { IfSome result (λ r. HasRow self.now.keys.items r state []) }
     {
-        let row = match self.visits.get(at / COLUMNS) {
+        let row = match self.visits.get(state) {
             Some(visits) => usize::from(*visits).wrapping_sub(usize::from(LEAST_VISITS)),
             None => return None,
         };
         match self.keys.get(row) {
-            Some(key) if key.at == at && key.begun.is_zero() => Some(row),
+            Some(key) if key.state == state && key.begun.is_zero() => Some(row),
             _ => None,
         }
     }
 
-    /// Fills the cells along the bytes of a character that leads from the state whose cells begin
-    /// at `at`, if both states were met often. Allocates at most five rows.
+    /// Fills the cells along the bytes of a character that leads from one state to the next, if both
+    /// were met often. Allocates at most five rows.
     pub(crate) fn record(
         &mut self,
         program: &CompiledProgram,
         table: &Table,
-        at: usize,
+        state: StateId,
         c: char,
         next: Next,
     ) -> Result<(), AllocError>
-        requires placed { IsStatePlace table.now.states.items at }
+        requires has_state { HasState table.now.states.items state }
         requires rows { let states = table.now.states.items in
             AreRows program.now.0 states self.old.keys.items self.old.cells.items }
-        requires leads { let places = places_at table.now.states.items (at / 128) in
+        requires leads { let places = places_at table.now.states.items state in
             LeadsNext program.now.0 table.now.states.items places c next }
         ensures { let states = table.now.states.items in
             AreRows program.now.0 states self.new.keys.items self.new.cells.items }
     {
-        let Some(row) = self.row_of(program, table, at)? else {
+        let Some(row) = self.row_of(program, table, state)? else {
             return Ok(());
         };
         if self.cell_to(next) == UNKNOWN {
@@ -167,7 +167,7 @@ impl Rows {
         let mut room = [0u8; 4];
         let bytes = c.encode_utf8(&mut room).as_bytes();
         let end = bytes.len() - 1;
-        let row = self.link_all(program, table, at, row, bytes)?;
+        let row = self.link_all(program, table, state, row, bytes)?;
         let cell = self.cell_to(next);
         self.cells[row * ROW + usize::from(bytes[end])] = cell;
         Ok(())
@@ -180,21 +180,20 @@ impl Rows {
         match next {
             Next::Nothing => DEAD,
             Next::Everything => ALL,
-            Next::To(at) => match self.find(at) {
+            Next::To(state) => match self.find(state) {
                 Some(row) => cell_of_row(row),
                 None => UNKNOWN,
             },
         }
     }
 
-    /// Counts that the state whose cells begin at `at` is met. Returns whether it was met often, or
-    /// its visits aren't counted yet.
+    /// Counts that the state is met. Returns whether it was met often, or its visits aren't counted
+    /// yet.
     #[inline]
-    pub fn is_often_met(&mut self, at: usize) -> bool
+    pub fn is_often_met(&mut self, state: StateId) -> bool
         ensures keys { self.new.keys ≡ self.old.keys }
         ensures cells { self.new.cells ≡ self.old.cells }
     {
-        let state = at / COLUMNS;
         if state >= self.visits.len() || self.visits[state] >= LEAST_VISITS {
             return true;
         }
@@ -202,37 +201,37 @@ impl Rows {
         false
     }
 
-    /// Returns the row of the state whose cells begin at `at`. Creates it if the state was met
-    /// often, and begins to count visits if it is new.
+    /// Returns the row of a state. Creates it if the state was met often, and begins to count visits
+    /// if it is new.
     fn row_of(
         &mut self,
         _program: &CompiledProgram,
         _table: &Table,
-        at: usize,
+        state: StateId,
     ) -> Result<Option<usize>, AllocError>
-        requires placed { IsStatePlace _table.now.states.items at }
+        requires has_state { HasState _table.now.states.items state }
         requires rows { let states = _table.now.states.items in
             AreRows _program.now.0 states self.old.keys.items self.old.cells.items }
         ensures rows { let states = _table.now.states.items in
             AreRows _program.now.0 states self.new.keys.items self.new.cells.items }
-        ensures found { IfOk result (λ found. IfSome found (λ r. HasRow self.new.keys.items r at [])) }
+        ensures found { IfOk result (λ found. IfSome found (λ r. HasRow self.new.keys.items r state [])) }
     {
-        if let Some(row) = self.find(at) {
+        if let Some(row) = self.find(state) {
             return Ok(Some(row));
         }
-        if !self.is_counted(at / COLUMNS)? {
+        if !self.is_counted(state)? {
             return Ok(None);
         }
         let row = self.push(RowKey {
-            at,
+            state,
             begun: Begun::Zero,
         })?;
-        self.name(at / COLUMNS, row);
+        self.name(state, row);
         Ok(Some(row))
     }
 
     /// Returns whether a state was met often. Begins to count its visits if it is new.
-    fn is_counted(&mut self, state: usize) -> Result<bool, AllocError>
+    fn is_counted(&mut self, state: StateId) -> Result<bool, AllocError>
         ensures keys { self.new.keys ≡ self.old.keys }
         ensures cells { self.new.cells ≡ self.old.cells }
     {
@@ -244,7 +243,7 @@ impl Rows {
     }
 
     /// Remembers the row of a state.
-    fn name(&mut self, state: usize, row: usize)
+    fn name(&mut self, state: StateId, row: usize)
         ensures keys { self.new.keys ≡ self.old.keys }
         ensures cells { self.new.cells ≡ self.old.cells }
     {
@@ -258,25 +257,25 @@ impl Rows {
         &mut self,
         program: &CompiledProgram,
         table: &Table,
-        at: usize,
+        state: StateId,
         row: usize,
         bytes: &[u8],
     ) -> Result<usize, AllocError>
-        requires placed { IsStatePlace table.now.states.items at }
+        requires has_state { HasState table.now.states.items state }
         requires rows { let states = table.now.states.items in
             AreRows program.now.0 states self.old.keys.items self.old.cells.items }
-        requires row { HasRow self.old.keys.items row at [] }
+        requires row { HasRow self.old.keys.items row state [] }
         requires some { 1 ≤ length bytes.now }
         requires few { length bytes.now ≤ 4 }
         ensures rows { let states = table.now.states.items in
             AreRows program.now.0 states self.new.keys.items self.new.cells.items }
         ensures row { let bytes = take (length bytes.now - 1) bytes.now in
-            IfOk result (λ r. HasRow self.new.keys.items r at bytes) }
+            IfOk result (λ r. HasRow self.new.keys.items r state bytes) }
     {
         let mut row = row;
         let mut count = 0;
         while count + 1 < bytes.len() {
-            row = self.link(program, table, at, row, bytes, count)?;
+            row = self.link(program, table, state, row, bytes, count)?;
             count += 1;
         }
         Ok(row)
@@ -288,20 +287,20 @@ impl Rows {
         &mut self,
         _program: &CompiledProgram,
         _table: &Table,
-        at: usize,
+        state: StateId,
         row: usize,
         bytes: &[u8],
         count: usize,
     ) -> Result<usize, AllocError>
-        requires placed { IsStatePlace _table.now.states.items at }
+        requires has_state { HasState _table.now.states.items state }
         requires rows { let states = _table.now.states.items in
             AreRows _program.now.0 states self.old.keys.items self.old.cells.items }
-        requires row { HasRow self.old.keys.items row at (take count bytes.now) }
+        requires row { HasRow self.old.keys.items row state (take count bytes.now) }
         requires few { count < 3 }
         requires more { count + 1 < length bytes.now }
         ensures rows { let states = _table.now.states.items in
             AreRows _program.now.0 states self.new.keys.items self.new.cells.items }
-        ensures row { IfOk result (λ r. HasRow self.new.keys.items r at (take (count + 1) bytes.now)) }
+        ensures row { IfOk result (λ r. HasRow self.new.keys.items r state (take (count + 1) bytes.now)) }
     {
         let index = row * ROW + usize::from(bytes[count]);
         let found = usize::from(self.cells[index]);
@@ -309,7 +308,7 @@ impl Rows {
             return Ok(found - FIRST_ROW);
         }
         let made = self.push(RowKey {
-            at,
+            state,
             begun: Begun::of(bytes, count + 1),
         })?;
         self.cells[index] = cell_of_row(made);
@@ -318,7 +317,7 @@ impl Rows {
 
     /// Returns whether the row is within a character.
     fn is_within(&self, row: usize) -> bool
-        ensures { (at : ℕ) → IsTrue result → HasRow self.now.keys.items row at [] → ⊥ }
+        ensures { (state : ℕ) → IsTrue result → HasRow self.now.keys.items row state [] → ⊥ }
     {
         match self.keys.get(row) {
             Some(key) => !key.begun.is_zero(),

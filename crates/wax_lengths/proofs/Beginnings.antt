@@ -6,7 +6,7 @@ use Rattle.std.proofs.lemmas.List.{get_or_append_left, get_or_past}
 use Rattle.wax_program.specs.declared.instruction.Instruction.{Instruction}
 use Rattle.wax_lengths.specs.Ends.{MarksBeginnings}
 use Rattle.wax_program.specs.Machine.{Accepts}
-use Rattle.wax_bits.specs.Places.{IsEmpty}
+use Rattle.wax_program.specs.Places.{IsEmpty}
 use Rattle.wax_program.specs.Threads.{IsDone, Position, Inserted, AnyOf, Advances, Stays}
 use Rattle.wax_program.proofs.Advancing.{stays_start, stays_done, drop_one}
 

@@ -6,7 +6,7 @@ use Rattle.std.proofs.lemmas.List.{drop_all, get_or_past}
 use Rattle.std.proofs.Math.Seq.{take-suc}
 use Rattle.wax_program.specs.declared.instruction.Test.{Test}
 use Rattle.wax_program.specs.Machine.{PassesTest}
-use Rattle.wax_bits.specs.Places.{HoldsPlace}
+use Rattle.wax_program.specs.Places.{HoldsPlace}
 use Rattle.wax_query.specs.Components.{BeginsWithSlash, EndsWithSlash}
 use Rattle.wax_token.specs.Meaning.{HasNoSlash, TreeMeans}
 use Rattle.wax_lengths.specs.Forms.{IsLetter, SpelledBy}

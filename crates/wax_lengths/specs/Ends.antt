@@ -2,7 +2,7 @@
 use Rattle.std.specs.Prelude.{ℕ, ◌<◌, ◌↔◌, Bool, List, take}
 use Rattle.wax_program.specs.declared.instruction.Instruction.{Instruction}
 use Rattle.wax_program.specs.Machine.{Accepts}
-use Rattle.wax_bits.specs.Places.{HoldsPlace}
+use Rattle.wax_program.specs.Places.{HoldsPlace}
 
 -- of the first `n` beginnings of the text, the empty one first, exactly the accepted ones are flagged
 abbrev pub MarksBeginnings : List Instruction → List ℕ → List Bool → ℕ → Type 0

@@ -1,7 +1,7 @@
 -- Lengths of the parts of a text that a form takes.
 use Rattle.std.specs.Prelude.{◌≡◌, ◌↔◌, ◌⊎◌, ℕ, zero, suc, ◌-◌, ◌<◌, ◌≤◌, Bool, List, ⊤, length, take}
 use Rattle.std.specs.Prelude.{slice_index_or}
-use Rattle.wax_bits.specs.Places.{HoldsPlace}
+use Rattle.wax_program.specs.Places.{HoldsPlace}
 use Rattle.wax_lengths.specs.Prefers.{Prefers}
 use Rattle.wax_lengths.specs.Forms.{TakenBy}
 use Rattle.wax_lengths.specs.declared.form.Form.{Form}
@@ -9,7 +9,7 @@ use Rattle.wax_lengths.specs.declared.span.Marks.{Marks}
 use Rattle.wax_lengths.specs.declared.span.Marks.TheVariants.{All, AfterSlash, Flags}
 use Rattle.wax_lengths.specs.declared.span.LengthSpan.{LengthSpan}
 
--- the length is one of those that are meant
+-- the length is one of those that match
 abbrev pub IsMarked : Marks → List ℕ → ℕ → Type 0
 IsMarked All s n = ⊤
 IsMarked AfterSlash s zero = ⊤

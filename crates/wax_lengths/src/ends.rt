@@ -1,6 +1,6 @@
 //! Finding in one pass which parts of a text that begin at a place a program accepts.
 ghost use Rattle.std.specs.Prelude.{◌≡◌, ◌+◌, ◌*◌, ◌<◌, ◌≤◌, OnOk, drop, length};
-ghost use Rattle.wax_bits.specs.Places.{IsEmpty};
+ghost use Rattle.wax_program.specs.Places.{IsEmpty};
 ghost use Rattle.wax_lengths.specs.Ends.{MarksBeginnings};
 
 use crate::text::Text;
@@ -10,10 +10,6 @@ use wax_program::{CompiledProgram, HeapSets, Meter, Sets, WordSets, advance, fin
 /// Fills `ends` with one flag for each part of the text that begins at `at`, from the empty one on:
 /// whether the program accepts it. Flags that are missing at the end count as `false`. Reads each
 /// instruction at most once for each character and once at the end; the meter counts these.
-///
-/// # Errors
-///
-/// Returns `AllocError` if allocation fails.
 pub fn run_ends(
     alloc: Global,
     program: &CompiledProgram,

@@ -349,10 +349,6 @@ fn lengths_of_program(
 
 /// Returns the lengths, in characters, of the parts from `at` on that the form takes. Only a
 /// program allocates.
-///
-/// # Errors
-///
-/// Returns `AllocError` if allocation fails.
 pub fn lengths_of(
     alloc: Global,
     form: &Form,

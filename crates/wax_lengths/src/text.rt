@@ -30,10 +30,6 @@ impl<'t> Model for Text<'t> {
 
 impl<'t> Text<'t> {
     /// Creates the text. Lists its characters if it isn't ASCII.
-    ///
-    /// # Errors
-    ///
-    /// Returns `AllocError` if allocation fails.
     pub fn new(alloc: Global, text: &'t str) -> Result<Text<'t>, AllocError>
         ensures { IfOk result (λ t. t ≡ chars text.now) }
     {

@@ -64,10 +64,6 @@ impl Visits {
 
     /// Fills `ends` with one flag for each part of the text that begins at `at`, from the empty one
     /// on: whether the program accepts it. Flags that are missing at the end count as `false`.
-    ///
-    /// # Errors
-    ///
-    /// Returns `AllocError` if allocation fails.
     pub fn run_ends(
         &mut self,
         alloc: Global,

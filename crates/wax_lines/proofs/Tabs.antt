@@ -4,7 +4,7 @@ use Rattle.std.specs.List.{join_with_byte}
 use Rattle.std.proofs.lemmas.List.{take_more, map-append}
 use Rattle.std.proofs.lemmas.Option.{slice_get_within, get_or_from_slice_get}
 use Rattle.std.proofs.lemmas.Str.{encodes-chars}
-use Rattle.wax_candidate.specs.Matched.{MatchedView, texts}
+use Rattle.wax_query.specs.Matched.{MatchedView, texts}
 use Rattle.wax_lines.specs.Lines.{tabbed}
 
 -- the bytes of a text are its encoding

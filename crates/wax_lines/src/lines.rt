@@ -8,8 +8,8 @@ use crate::counted::Counted;
 use std::alloc::{AllocError, Global};
 use std::io::{Read, Write};
 use thiserror::Error;
-use wax_candidate::BuildMatcher;
 use wax_query::diagnostics::NoMemory;
+use wax_query::matching::BuildMatcher;
 
 mod feed;
 mod line_writer;

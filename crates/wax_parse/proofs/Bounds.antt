@@ -6,7 +6,7 @@ use Rattle.std.proofs.lemmas.Bool.Decides.{eqb_tells}
 use borrow.Author.Tests.{ltb-true, lt-ltb}
 use Rattle.wax_token.specs.Reads.{decimal_from, IsNumber, ReadsBounds, any_number, at_least_one, exactly, at_least, between}
 use Rattle.wax_parse.specs.inner.Parser.{strip, digit_step, next_number, digits_run, digits_after, number_run, with_value, with_lower, upper_end, upper_or, read_upper, upper_after, lower_after, read_numbers, numbers_or, bounds_after, read_bounds}
-use Rattle.wax_parse.specs.inner.Reading.{Beyond}
+use Rattle.wax_parse.specs.inner.Reading.{HasSuffix}
 use Rattle.wax_parse.proofs.Runs.{none_some}
 use Rattle.wax_parse.proofs.Trees.{strip_is}
 
@@ -252,5 +252,5 @@ bounds_complete cs low high s (between ds es most e h k g) =
     ∙ ap read_bounds (closed_upper ds es s)
     ∙ numbers_after ds (44 ∷ (es ++ 62 ∷ s)) low refl h ∙ ap (with_lower low) (upper_complete es s most k) ∙ ap (λ z. Some ((low, z), s)) (sym g)
 
-pub bounds_beyond : (x : List ℕ) (low : ℕ) (high : Option ℕ) (s : List ℕ) → read_bounds x ≡ Some ((low, high), s) → Beyond x s
+pub bounds_beyond : (x : List ℕ) (low : ℕ) (high : Option ℕ) (s : List ℕ) → read_bounds x ≡ Some ((low, high), s) → HasSuffix x s
 bounds_beyond x low high s e = let k : AreBounds x ((low, high), s) = bounds_sound x low high s e in (k.0 ++ codes ">", k.2)

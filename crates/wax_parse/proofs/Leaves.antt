@@ -7,7 +7,7 @@ use Rattle.wax_token.specs.declared.token.Evaluation.TheVariants.{Eager, Lazy}
 use Rattle.wax_token.specs.Syntax.{Leaf, literal, class, separator, one, zero_or_more, tree}
 use Rattle.wax_token.specs.Reads.{is_one_of, starts_with_one_of, escapable, all_spelled, NoLiteralFollows, archetypes_text, class_text, AllPlain, Place, Past, Around, no_flags, NoWildcardFollows, TreeCloses, TreeFollows, ReadsLeaf}
 use Rattle.wax_parse.specs.inner.Parser.{at, flags_end, with_flag, after_star, star_after, put, literal_run, literal_leaf, after_tree, boundary_leaf, zero_or_more_leaf, inner_leaf, first_leaf, read_leaf, class_run, class_leaf, read_class}
-use Rattle.wax_parse.specs.inner.Reading.{IsTaken}
+use Rattle.wax_parse.specs.inner.Reading.{HasProperSuffix}
 use Rattle.wax_parse.proofs.Runs.{none_some, or_false}
 use Rattle.wax_parse.proofs.Classes.{outside, not_member, closing, class_run_complete, class_run_sound, GoodRun}
 use Rattle.wax_parse.proofs.Flags.{flags_text}
@@ -342,17 +342,17 @@ module _ (around : Around) where
       (k.0 ++ codes "/", k.1 ∙ ap (λ z. k.0 ++ z) h.2.0 ∙ sym (append_assoc k.0 (codes "/") q.rest))
   closes_takes n q (inr h) = ([], ap (λ z. z.rest) h.0)
 
-  tree_takes : (p q : Place) → TreeFrom around p q → IsTaken p.rest q.rest
+  tree_takes : (p q : Place) → TreeFrom around p q → HasProperSuffix p.rest q.rest
   tree_takes p q h = let k : (x : List ℕ) × (h.0.rest ≡ x ++ q.rest) = closes_takes h.0 q h.2 in
       (codes "**" ++ k.0, h.1.0 ∙ ap (λ z. codes "**" ++ z) k.1, omega arith)
 
   follows_takes : (p q : Place) → TreeFollows around p q → (x : List ℕ) × (p.rest ≡ x ++ q.rest)
   follows_takes p q h =
       let f : (x : List ℕ) × (p.rest ≡ x ++ h.0.rest) = flags_text p h.0 h.2 in
-      let t : IsTaken h.0.rest q.rest = tree_takes h.0 q (h.1, h.3, h.4) in
+      let t : HasProperSuffix h.0.rest q.rest = tree_takes h.0 q (h.1, h.3, h.4) in
       (f.0 ++ t.0, f.1 ∙ ap (λ z. f.0 ++ z) t.1 ∙ sym (append_assoc f.0 t.0 q.rest))
 
-  takes : (first : Bool) (l : Leaf) (p q : Place) → ReadsLeaf around first l p q → IsTaken p.rest q.rest
+  takes : (first : Bool) (l : Leaf) (p q : Place) → ReadsLeaf around first l p q → HasProperSuffix p.rest q.rest
   takes first (literal b t) p q h = (all_spelled escapable t, h.2.0, spelled_some t h.1.0)
   takes first (class negated xs) p q h = (class_text negated xs, h.2.0, class_some negated xs)
   takes first separator p q h = (codes "/", h.0.0, omega arith)
@@ -362,7 +362,7 @@ module _ (around : Around) where
   takes first (tree true) p q h = let k : (x : List ℕ) × (h.0.rest ≡ x ++ q.rest) = follows_takes h.0 q h.2 in (47 ∷ k.0, h.1.0 ∙ ap (λ z. 47 ∷ z) k.1, omega arith)
   takes first (tree false) p q h = tree_takes p q (h.1, h.2, h.3)
 
-  pub leaf_takes : (first : Bool) (l : Leaf) (p q : Place) → read_leaf around first p ≡ Some (l, q) → IsTaken p.rest q.rest
+  pub leaf_takes : (first : Bool) (l : Leaf) (p q : Place) → read_leaf around first p ≡ Some (l, q) → HasProperSuffix p.rest q.rest
   leaf_takes first l p q e = takes first l p q (subst (Good first p) e (leaf_sound first p))
 
   -- ---- no leaf begins as a flag group does

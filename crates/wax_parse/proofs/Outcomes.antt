@@ -9,7 +9,7 @@ use Rattle.wax_parse.specs.declared.parse.surroundings.Around as code
 use Rattle.wax_parse.specs.declared.parse.surroundings.Around.TheVariants as around
 use Rattle.wax_parse.specs.Accepted.{IsPlace}
 use Rattle.wax_parse.specs.inner.Parser.{around_of, at, flags_end, read_leaf}
-use Rattle.wax_parse.specs.inner.Reading.{GlobFrom, IsRefusal, Sole, Unreadable, Beyond, IsTaken}
+use Rattle.wax_parse.specs.inner.Reading.{GlobFrom, IsRefusal, Sole, Unreadable, HasSuffix, HasProperSuffix}
 use Rattle.wax_parse.proofs.Places.{token_takes}
 use Rattle.wax_parse.proofs.Flags.{flags_reached, flags_text}
 
@@ -32,18 +32,18 @@ pub as_made : {A : Type 0} (R : A → Place → Type 0) (t u : A) (q : Place) �
 as_made R t u q e s = subst (λ z. Sole R z q) (sym e) s
 
 -- the flag groups and the opening character are taken
-pub opening_taken : (c : ℕ) (p n : Place) → flags_end p ≡ at n.insensitive (c ∷ n.rest) → IsTaken p.rest n.rest
+pub opening_taken : (c : ℕ) (p n : Place) → flags_end p ≡ at n.insensitive (c ∷ n.rest) → HasProperSuffix p.rest n.rest
 opening_taken c p n e =
     let f : (x : List ℕ) × (p.rest ≡ x ++ (flags_end p).rest) = flags_text p (flags_end p) (flags_reached p) in
     (f.0 ++ c ∷ [], f.1 ∙ ap (λ z. f.0 ++ z.rest) e ∙ sym (append_assoc f.0 (c ∷ []) n.rest), omega (arith, length-append f.0 (c ∷ [])))
 
-pub flags_beyond : (p m : Place) → flags_end p ≡ m → Beyond p.rest m.rest
-flags_beyond p m e = subst (λ z. Beyond p.rest z.rest) e (flags_text p (flags_end p) (flags_reached p))
+pub flags_beyond : (p m : Place) → flags_end p ≡ m → HasSuffix p.rest m.rest
+flags_beyond p m e = subst (λ z. HasSuffix p.rest z.rest) e (flags_text p (flags_end p) (flags_reached p))
 
-pub taken_more : (p q r : List ℕ) → IsTaken p q → Beyond q r → IsTaken p r
+pub taken_more : (p q r : List ℕ) → HasProperSuffix p q → HasSuffix q r → HasProperSuffix p r
 taken_more p q r h k = (h.0 ++ k.0, h.1 ∙ ap (λ z. h.0 ++ z) k.1 ∙ sym (append_assoc h.0 k.0 r), omega (arith, h.2, length-append h.0 k.0))
 
-pub one_beyond : (c : ℕ) (p q : List ℕ) → p ≡ c ∷ q → Beyond p q
+pub one_beyond : (c : ℕ) (p q : List ℕ) → p ≡ c ∷ q → HasSuffix p q
 one_beyond c p q e = (c ∷ [], e)
 
 -- what was read inside a repetition, in the scope around it
@@ -59,5 +59,5 @@ inner_fails inner outer a depth from s e f h =
     (subst (λ z. Unreadable (GlobFrom (utf8_len (chars z)) (around_of a) depth from) × IsPlace (chars z) s) e h)
 
 -- what a leaf and the flag groups before it take
-pub leaf_taken : (around : Around) (first : Bool) (l : Leaf) (p m q : Place) → flags_end p ≡ m → read_leaf around first m ≡ Some (l, q) → IsTaken p.rest q.rest
+pub leaf_taken : (around : Around) (first : Bool) (l : Leaf) (p m q : Place) → flags_end p ≡ m → read_leaf around first m ≡ Some (l, q) → HasProperSuffix p.rest q.rest
 leaf_taken around first l p m q e f = token_takes around first l p q (ap (read_leaf around first) e ∙ f)

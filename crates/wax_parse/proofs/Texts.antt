@@ -5,7 +5,7 @@ use Rattle.std.specs.Char.{IsScalar}
 use Rattle.std.proofs.lemmas.Str.{encodes-chars, encodes-append, encodes_same, chars-append, chars_past_char, chars-nil, len_utf8_bounds, IsUtf8-encode, IsCharBoundary-at_seam}
 use Rattle.wax_token.specs.Reads.{Span, utf8_len}
 use Rattle.wax_parse.specs.Accepted.{IsPlace, first_len}
-use Rattle.wax_parse.specs.inner.Reading.{Beyond, IsTaken}
+use Rattle.wax_parse.specs.inner.Reading.{HasSuffix, HasProperSuffix}
 use Rattle.wax_token.proofs.Bytes.{bytes_len}
 use Rattle.std.proofs.Math.Seq.{take-append_seam}
 
@@ -60,32 +60,32 @@ utf8_len-append : (x y : List ℕ) → utf8_len (x ++ y) ≡ utf8_len x + utf8_l
 utf8_len-append [] y = omega arith
 utf8_len-append (c ∷ x) y = omega (arith, utf8_len-append x y)
 
-pub end_shorter : (p q : List ℕ) → Beyond p q → utf8_len q ≤ utf8_len p
+pub end_shorter : (p q : List ℕ) → HasSuffix p q → utf8_len q ≤ utf8_len p
 end_shorter p q h = omega (arith, ap utf8_len h.1, utf8_len-append h.0 q)
 
 -- the place of an end
-pub place_is : (e rest : List ℕ) → Beyond e rest → (s : Span) → s ≡ (utf8_len e - utf8_len rest, first_len rest) → IsPlace e s
+pub place_is : (e rest : List ℕ) → HasSuffix e rest → (s : Span) → s ≡ (utf8_len e - utf8_len rest, first_len rest) → IsPlace e s
 place_is e rest h s f =
     let n : utf8_len e - utf8_len rest ≡ utf8_len h.0 = omega (arith, ap utf8_len h.1 ∙ utf8_len-append h.0 rest) in
     (h.0, rest, h.1, f ∙ (λ i. (n i, first_len rest)))
 
-pub beyond_same : (p : List ℕ) → Beyond p p
+pub beyond_same : (p : List ℕ) → HasSuffix p p
 beyond_same p = ([], refl)
 
-pub beyond_more : (p q r : List ℕ) → Beyond p q → Beyond q r → Beyond p r
+pub beyond_more : (p q r : List ℕ) → HasSuffix p q → HasSuffix q r → HasSuffix p r
 beyond_more p q r h k = (h.0 ++ k.0, h.1 ∙ ap (λ z. h.0 ++ z) k.1 ∙ sym (append_assoc h.0 k.0 r))
 
-pub taken_beyond : (p q : List ℕ) → IsTaken p q → Beyond p q
+pub taken_beyond : (p q : List ℕ) → HasProperSuffix p q → HasSuffix p q
 taken_beyond p q h = (h.0, h.1)
 
-pub beyond_taken : (p q r : List ℕ) → Beyond p q → IsTaken q r → IsTaken p r
+pub beyond_taken : (p q r : List ℕ) → HasSuffix p q → HasProperSuffix q r → HasProperSuffix p r
 beyond_taken p q r h k = (h.0 ++ k.0, h.1 ∙ ap (λ z. h.0 ++ z) k.1 ∙ sym (append_assoc h.0 k.0 r), omega (arith, k.2, length-append h.0 k.0))
 
-pub taken_shorter : (p q : List ℕ) → IsTaken p q → length q < length p
+pub taken_shorter : (p q : List ℕ) → HasProperSuffix p q → length q < length p
 taken_shorter p q h = omega (arith, ap length h.1, length-append h.0 q, h.2)
 
 -- an end of the text that is as long
-pub same_end : (bs rest : List ℕ) → IsUtf8 bs → IsUtf8 rest → Beyond (chars bs) (chars rest) → length rest ≡ length bs → chars rest ≡ chars bs
+pub same_end : (bs rest : List ℕ) → IsUtf8 bs → IsUtf8 rest → HasSuffix (chars bs) (chars rest) → length rest ≡ length bs → chars rest ≡ chars bs
 same_end bs rest u v h e = go h.0 h.1 (let n : utf8_len (chars rest) ≡ utf8_len (chars bs) = sym (bytes_len rest v) ∙ e ∙ bytes_len bs u in omega (arith, n, ap utf8_len h.1, utf8_len-append h.0 (chars rest)))
   where
     go : (x : List ℕ) → chars bs ≡ x ++ chars rest → utf8_len x ≡ 0 → chars rest ≡ chars bs

@@ -6,10 +6,6 @@ ghost use Rattle.wax_partition.specs.Kept.{between, without_slash};
 use std::alloc::{AllocError, Global};
 
 /// Copies the characters whose first byte is from `from` on and before `to`.
-///
-/// # Errors
-///
-/// Returns `AllocError` if allocation fails.
 pub fn between(
     alloc: Global,
     expression: &str,
@@ -28,10 +24,6 @@ pub fn between(
 }
 
 /// Copies the text without its first `/`.
-///
-/// # Errors
-///
-/// Returns `AllocError` if allocation fails.
 pub fn without_slash(alloc: Global, text: &str) -> Result<String, AllocError>
     ensures { IfOk result (λ t. chars (string_bytes t) ≡ without_slash (chars text.now)) }
 {

@@ -32,10 +32,6 @@ use wax_token::token::{
 /// the rest, but its tokens keep their effect. Spans are those in the rest.
 ///
 /// Takes time and memory linear in the expression and the texts of its tokens.
-///
-/// # Errors
-///
-/// Returns `NoMemory` if allocation fails.
 pub fn partition<'t>(
     alloc: Global,
     tokenized: Tokenized<'t, ExpressionMetadata>,

@@ -12,10 +12,6 @@ use wax_token::token::{
 };
 
 /// Moves the spans of a token and all tokens in it to the left by `bytes`.
-///
-/// # Errors
-///
-/// Returns `AllocError` if allocation fails.
 #[cycle(shifted)]
 pub fn shifted<'t>(
     alloc: Global,
@@ -69,10 +65,6 @@ fn shifted_branch<'t>(
 }
 
 /// Moves the spans of each of the tokens to the left by `bytes`.
-///
-/// # Errors
-///
-/// Returns `AllocError` if allocation fails.
 #[cycle(shifted)]
 pub fn shifted_each<'t>(
     alloc: Global,

@@ -1,8 +1,8 @@
 //! What is known of a token and made of it, as methods.
 ghost use Rattle.std.specs.Prelude.{◌≡◌, ◌↔◌, ◌<◌, ◌≤◌, ◌∷◌, ◌++◌, [], ℕ, Bool, List, All, IfOk, IfSome};
 ghost use Rattle.std.specs.Prelude.{IsTrue, MatchOption, chars, false, string_bytes};
-ghost use Rattle.wax_alternatives.specs.Alternatives.{MeansOneOf, alternatives};
-ghost use Rattle.wax_break.specs.Sizes.{saturated_size};
+ghost use Rattle.wax_facts.specs.Alternatives.{MeansOneOf, alternatives};
+ghost use Rattle.wax_facts.specs.Sizes.{saturated_size};
 ghost use Rattle.wax_components.specs.Bounds.{BoundsComponents, SaturatedBounds};
 ghost use Rattle.wax_components.specs.Depth.{Depth, SaturatedDepth};
 ghost use Rattle.wax_components.specs.Levels.{globs_at, literals};
@@ -36,10 +36,6 @@ pub trait TokenExt<'t, A: Annotation>: Sized {
     /// alternations and repetitions don't count.
     ///
     /// Allocates the list. Takes time linear in the top-level tokens.
-    ///
-    /// # Errors
-    ///
-    /// Returns `NoMemory` if allocation fails.
     fn components<'i>(&'i self, alloc: Global) -> Result<Vec<Component<'i, 't, A>>, NoMemory>
         ensures all { IfOk result (λ cs. cs.items ≡ components (tree self.now)) }
         ensures longest { IfOk result (λ cs. All (IsComponent (tokens_of (tree self.now))) cs.items) };
@@ -48,10 +44,6 @@ pub trait TokenExt<'t, A: Annotation>: Sized {
     /// its sub-globs, level by level. For `a/{b,c*}` they are `a` and `b`.
     ///
     /// Allocates the list and two levels of sub-globs. Takes time linear in the tokens.
-    ///
-    /// # Errors
-    ///
-    /// Returns `NoMemory` if allocation fails.
     fn literals<'i>(
         &'i self,
         alloc: Global,
@@ -73,10 +65,6 @@ pub trait TokenExt<'t, A: Annotation>: Sized {
         ensures saturated_bounds { SaturatedBounds (tree self.now) (bounds result) };
 
     /// Returns the only text that the token matches, or `None` if it isn't written as one text.
-    ///
-    /// # Errors
-    ///
-    /// Returns `NoMemory` if allocation fails.
     fn text(&self, alloc: Global) -> Result<Option<String>, NoMemory>
         ensures exact { IfOk result (λ found. MatchOption found (NoText (Text (tree self.now))) (λ t.
             Text (tree self.now) (chars (string_bytes t)))) }
@@ -95,10 +83,6 @@ pub trait TokenExt<'t, A: Annotation>: Sized {
     /// Returns how many tokens the prefix takes, and the prefix, with which every path that the
     /// token matches begins. A last alternation of one branch, or a last repetition of exactly one
     /// copy, counts as the tokens in it.
-    ///
-    /// # Errors
-    ///
-    /// Returns `NoMemory` if allocation fails.
     fn invariant_text_prefix(&self, alloc: Global) -> Result<(usize, String), NoMemory>
         ensures prefix { IfOk result (λ r. Prefix (tree self.now) r.0 (chars (string_bytes r.1))) }
         ensures only { IfOk result (λ r. (n : ℕ) (p : List ℕ) → Prefix (tree self.now) n p
@@ -124,10 +108,6 @@ pub trait TokenExt<'t, A: Annotation>: Sized {
     /// `a` and `b`. Any other token is its only alternative.
     ///
     /// Takes time and memory linear in the tokens.
-    ///
-    /// # Errors
-    ///
-    /// Returns `NoMemory` if allocation fails.
     fn into_alternatives(self, alloc: Global) -> Result<Vec<Token<'t, A>>, NoMemory>
     where
         A: Drop,
@@ -177,7 +157,7 @@ impl<'t, A: Annotation> TokenExt<'t, A> for Token<'t, A> {
     where
         A: Drop,
     {
-        wax_alternatives::into_alternatives(alloc, self)
+        wax_facts::into_alternatives(alloc, self)
     }
 }
 

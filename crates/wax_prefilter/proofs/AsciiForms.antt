@@ -11,7 +11,7 @@ use Rattle.unicode.specs.CaseFolding.{fold_pairs}
 use Rattle.ucd_case.specs.FoldOtherRows.{fold_other_rows}
 use Rattle.wax_prefilter.specs.declared.pair.Pair.{Pair}
 use Rattle.wax_prefilter.specs.inner.Forms.{HasAsciiForms, IsFormOf, pairs_of_forms}
-use Rattle.wax_prefilter.specs.inner.Pairs.{LineHasOne, PairStandsAt, StandsIn}
+use Rattle.wax_prefilter.specs.inner.Pairs.{LineHasOne, PairIsAt, ContainsPair}
 use Rattle.wax_prefilter.proofs.Pairs.{part_of_line, stands_within}
 use Rattle.wax_token.specs.Meaning.{SameFold, SameText}
 
@@ -106,7 +106,7 @@ held_ascii (d ∷ held) each (suc i) = held_ascii held (λ k lt. each (suc k) (o
 
 -- a text that holds another in any case has one of its pairs
 pub alike_has : (pair : Pair) (held text x y z : List ℕ) → IsUtf8 text → chars text ≡ x ++ (y ++ z) → SameText true held y
-    → ((k : ℕ) → k < length held → HasAsciiForms (get_or held k 0)) → StandsIn held pair → LineHasOne (pairs_of_forms pair) text
+    → ((k : ℕ) → k < length held → HasAsciiForms (get_or held k 0)) → ContainsPair held pair → LineHasOne (pairs_of_forms pair) text
 alike_has pair held text x y z utf8 e h each (k, there) =
     let (ascii, long, forms) = alike held y h each in
     let front = encode_utf8_all x in
@@ -114,7 +114,7 @@ alike_has pair held text x y z utf8 e h each (k, there) =
     let within : text ≡ front ++ (y ++ encode_utf8_all z) =
     sym (encodes-chars text utf8) ∙ ap encode_utf8_all e ∙ encodes-append x (y ++ z)
     ∙ ap (λ w. front ++ w) (encodes-append y z ∙ ap (λ w. w ++ encode_utf8_all z) (encodes-IsAscii y ascii)) in
-    let stands : (p : Pair) → p.distance ≡ pair.distance → get_or y k 0 ≡ p.first → get_or y end 0 ≡ p.last → PairStandsAt p (text ++ 10 ∷ []) (length front + k) =
+    let stands : (p : Pair) → p.distance ≡ pair.distance → get_or y k 0 ≡ p.first → get_or y end 0 ≡ p.last → PairIsAt p (text ++ 10 ∷ []) (length front + k) =
     λ p same is_first is_last. stands_within p (text ++ 10 ∷ []) front y (encode_utf8_all z ++ 10 ∷ []) k (part_of_line text front y (encode_utf8_all z) within)
     (record { inside = omega (arith, there.inside, long, same); first = is_first; last = ap (λ i. get_or y i 0) (omega (arith, same)) ∙ is_last }) in
     let one : IsFormOf pair.first (get_or y k 0) = subst (λ d. IsFormOf d (get_or y k 0)) there.first (forms k (omega (arith, there.inside))) in

@@ -4,11 +4,11 @@ use Rattle.std.proofs.lemmas.Bool.{cases_lt}
 use Rattle.std.proofs.lemmas.List.{get_or-append-add, get_or_append_left, length-take, take-append-le, take-append-drop}
 use Rattle.std.proofs.Math.Seq.{take-append_seam}
 use Rattle.std.specs.List.{slice_range}
-use Rattle.wax_prefilter.specs.Facts.{NeedleView, HoldsOne, StandsAt}
+use Rattle.wax_prefilter.specs.Facts.{NeedleView, ContainsOne, ContainsAt}
 use Rattle.wax_prefilter.specs.declared.line_end.EndPair.{EndPair}
-use Rattle.wax_prefilter.specs.declared.needle.Place.TheVariants.{End}
+use Rattle.wax_prefilter.specs.declared.needle.Anchor.TheVariants.{End}
 use Rattle.wax_prefilter.specs.inner.Ends.{ComesBefore, EndsWith, EndsWithOne, IsBeforeEnd, NoneEndsBefore}
-use Rattle.wax_prefilter.specs.inner.Pairs.{PairStandsAt, NoPairBefore}
+use Rattle.wax_prefilter.specs.inner.Pairs.{PairIsAt, NoPairBefore}
 use Rattle.wax_prefilter.proofs.MeantEdges.{bytes_end, plain_text}
 use Rattle.wax_prefilter.proofs.Pairs.{end_of_line, is_drop, stands_in_rest, stands_within}
 
@@ -41,17 +41,17 @@ feed = record { pair = record { first = 10; last = 10; distance = 0 }; back = 0 
 
 -- where the pair comes before an end, it stands in the whole
 stands_before : (end : EndPair) (bytes : List ℕ) (k : ℕ) → k < length bytes → get_or bytes k 0 ≡ 10 → IsBeforeEnd (take k bytes) end
-    → PairStandsAt end.pair bytes (k - end.back)
+    → PairIsAt end.pair bytes (k - end.back)
 stands_before end bytes k inside is (few, stands) =
     let long : length (take k bytes) ≡ k = omega (arith, length-take k bytes, inside) in
     let rest : List ℕ = drop (k + 1) bytes in
     let cut : bytes ≡ [] ++ ((take k bytes ++ 10 ∷ []) ++ rest) =
     sym (take-append-drop k bytes) ∙ ap (λ z. take k bytes ++ z) (feed_here bytes k inside is)
     ∙ sym (append_assoc (take k bytes) (10 ∷ []) rest) in
-    subst (PairStandsAt end.pair bytes) (omega (arith, long))
+    subst (PairIsAt end.pair bytes) (omega (arith, long))
     (stands_within end.pair bytes [] (take k bytes ++ 10 ∷ []) rest (length (take k bytes) - end.back) cut stands)
 
--- up to the next place where the pair is found
+-- up to the next position where the pair is found
 pub none_to : (end : EndPair) (needles : List NeedleView) (bytes : List ℕ) (at n : ℕ) → ComesBefore end needles → at ≤ length bytes
     → NoneEndsBefore needles bytes (at + end.back) → NoPairBefore end.pair (slice_range bytes at (length bytes)) n
     → NoneEndsBefore needles bytes (at + n + end.back)
@@ -60,9 +60,9 @@ none_to end needles bytes at n comes low before none k below is ends = elim (cas
   | inr from ↦
       let i : ℕ = k - end.back - at in
       let same : at + i ≡ k - end.back = omega (arith, from) in
-      let there : PairStandsAt end.pair bytes (k - end.back) = stands_before end bytes k (feed_inside bytes k is) is (comes (take k bytes) ends) in
-      none i (omega (arith, below, from)) (subst (λ b. PairStandsAt end.pair b i) (sym (is_drop at bytes _ refl))
-      (stands_in_rest end.pair bytes at i (subst (PairStandsAt end.pair bytes) (sym same) there)))
+      let there : PairIsAt end.pair bytes (k - end.back) = stands_before end bytes k (feed_inside bytes k is) is (comes (take k bytes) ends) in
+      none i (omega (arith, below, from)) (subst (λ b. PairIsAt end.pair b i) (sym (is_drop at bytes _ refl))
+      (stands_in_rest end.pair bytes at i (subst (PairIsAt end.pair bytes) (sym same) there)))
 ]
 
 -- at first
@@ -106,10 +106,10 @@ pub needle_comes : (end : EndPair) (needle : NeedleView) (text held : List ℕ) 
     → IsBeforeEnd text end → ComesBefore end (needle ∷ [])
 needle_comes end needle text held utf8 is_text is (few, stands) bytes (x, y, e, valid, (i, other, lt, same, at_end)) =
     let this : other ≡ needle = sym same ∙ only needle other i lt in
-    let (w, cut) = ends_with_bytes needle text bytes held utf8 is_text is (x, y, e, valid, subst (λ n. StandsAt End n (chars y)) this at_end) in
+    let (w, cut) = ends_with_bytes needle text bytes held utf8 is_text is (x, y, e, valid, subst (λ n. ContainsAt End n (chars y)) this at_end) in
     let long : length bytes ≡ length w + length text = ap length cut ∙ length-append w text in (
       omega (arith, few, long),
-      subst (PairStandsAt end.pair (bytes ++ 10 ∷ [])) (omega (arith, long, few))
+      subst (PairIsAt end.pair (bytes ++ 10 ∷ [])) (omega (arith, long, few))
           (stands_within end.pair (bytes ++ 10 ∷ []) w (text ++ 10 ∷ []) [] (length text - end.back) (end_of_line bytes w text cut) stands),
     )
 
@@ -118,9 +118,9 @@ pub needle_comes_if : (known : Option EndPair) (needle : NeedleView) (text held 
 needle_comes_if None needle text held utf8 is_text is h = h
 needle_comes_if (Some end) needle text held utf8 is_text is h = needle_comes end needle text held utf8 is_text is h
 
--- a line that ends with one of the needles ends after the place before which none does
+-- a line that ends with one of the needles ends after the position before which none does
 pub line_ends_after : (needles : List NeedleView) (text x y z : List ℕ) (n : ℕ) → text ++ 10 ∷ [] ≡ x ++ (y ++ 10 ∷ z) → n ≤ length text
-    → NoneEndsBefore needles text n → IsUtf8 y → HoldsOne End needles (chars y) → n ≤ length (x ++ y)
+    → NoneEndsBefore needles text n → IsUtf8 y → ContainsOne End needles (chars y) → n ≤ length (x ++ y)
 line_ends_after needles text x y z n e inside none utf8 holds =
     let k : ℕ = length (x ++ y) in
     let whole : text ++ 10 ∷ [] ≡ (x ++ y) ++ 10 ∷ z = e ∙ sym (append_assoc x y (10 ∷ z)) in

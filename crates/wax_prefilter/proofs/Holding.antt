@@ -8,10 +8,10 @@ use Rattle.std.proofs.lemmas.List.{get_or_default, get_or_append_left, get_or-ap
 use Rattle.std.specs.List.{Any}
 use Rattle.wax_prefilter.proofs.MeantEdges.{first_meant, last_meant}
 use Rattle.wax_prefilter.proofs.MeantPieces.{each_meant, regroup}
-use Rattle.wax_prefilter.specs.Facts.{StandsAt, HoldsOne}
-use Rattle.wax_prefilter.specs.Known.{CanBeAfter, AllHold, MeantHold}
-use Rattle.wax_prefilter.specs.declared.needle.Place.{Place}
-use Rattle.wax_prefilter.specs.declared.needle.Place.TheVariants.{Beginning, End, Anywhere}
+use Rattle.wax_prefilter.specs.Facts.{ContainsAt, ContainsOne}
+use Rattle.wax_prefilter.specs.Known.{CanBeAfter, EachContainsOne, FactsOfMatches}
+use Rattle.wax_prefilter.specs.declared.needle.Anchor.{Anchor}
+use Rattle.wax_prefilter.specs.declared.needle.Anchor.TheVariants.{Beginning, End, Anywhere}
 use Rattle.wax_query.specs.Components.{BeginsWithSlash}
 use Rattle.wax_token.specs.Meaning.{Means, MeansEach, SameText, TreeMeans}
 use Rattle.wax_token.specs.Reads.{Span}
@@ -53,7 +53,7 @@ module _ {X : Type 0} (P : X → Type 0) where
 
 -- ---- texts
 
-pub stands_whole : (place : Place) (held : Bool × List ℕ) (text : List ℕ) → SameText held.0 held.1 text → StandsAt place held text
+pub stands_whole : (anchor : Anchor) (held : Bool × List ℕ) (text : List ℕ) → SameText held.0 held.1 text → ContainsAt anchor held text
 stands_whole Beginning held text m = (text, [], sym (append-nil text), m)
 stands_whole End held text m = ([], text, refl, m)
 stands_whole Anywhere held text m = ([], text, [], sym (append-nil text), m)
@@ -70,7 +70,7 @@ pub same_slash : (text : List ℕ) → text ≡ 47 ∷ [] → SameText false (ch
 same_slash text e = subst (λ t. SameText false t text) (sym chars_slash) (subst (SameText false (47 ∷ [])) (sym e) (refl, tt))
 
 -- a rooted tree wildcard with nothing before it
-pub slash_begins : (after : Bool) (text : List ℕ) → TreeMeans false after true text → StandsAt Beginning (false, chars (47 ∷ [])) text
+pub slash_begins : (after : Bool) (text : List ℕ) → TreeMeans false after true text → ContainsAt Beginning (false, chars (47 ∷ [])) text
 slash_begins after text h =
     let b : BeginsWithSlash text = rooted after h in
     (47 ∷ [], b.0, b.1, same_slash (47 ∷ []) refl)
@@ -79,36 +79,36 @@ slash_begins after text h =
     rooted true h = h.0
     rooted false h = h
 
-holds_at_beginning : (needles : List (Bool × List ℕ)) (text x y : List ℕ) → text ≡ x ++ y → HoldsOne Beginning needles x → HoldsOne Beginning needles text
-holds_at_beginning needles text x y e = any_weaker (λ t. StandsAt Beginning t x) (λ t. StandsAt Beginning t text) needles
+holds_at_beginning : (needles : List (Bool × List ℕ)) (text x y : List ℕ) → text ≡ x ++ y → ContainsOne Beginning needles x → ContainsOne Beginning needles text
+holds_at_beginning needles text x y e = any_weaker (λ t. ContainsAt Beginning t x) (λ t. ContainsAt Beginning t text) needles
     (λ t h. (h.0, h.1 ++ y, e ∙ ap (λ z. z ++ y) h.2 ∙ append_assoc h.0 h.1 y, h.3))
 
-holds_at_end : (needles : List (Bool × List ℕ)) (text x y : List ℕ) → text ≡ x ++ y → HoldsOne End needles y → HoldsOne End needles text
-holds_at_end needles text x y e = any_weaker (λ t. StandsAt End t y) (λ t. StandsAt End t text) needles
+holds_at_end : (needles : List (Bool × List ℕ)) (text x y : List ℕ) → text ≡ x ++ y → ContainsOne End needles y → ContainsOne End needles text
+holds_at_end needles text x y e = any_weaker (λ t. ContainsAt End t y) (λ t. ContainsAt End t text) needles
     (λ t h. (x ++ h.0, h.1, e ∙ ap (λ z. x ++ z) h.2 ∙ sym (append_assoc x h.0 h.1), h.3))
 
-holds_anywhere : (needles : List (Bool × List ℕ)) (text x y z : List ℕ) → text ≡ x ++ (y ++ z) → HoldsOne Anywhere needles y → HoldsOne Anywhere needles text
-holds_anywhere needles text x y z e = any_weaker (λ t. StandsAt Anywhere t y) (λ t. StandsAt Anywhere t text) needles
+holds_anywhere : (needles : List (Bool × List ℕ)) (text x y z : List ℕ) → text ≡ x ++ (y ++ z) → ContainsOne Anywhere needles y → ContainsOne Anywhere needles text
+holds_anywhere needles text x y z e = any_weaker (λ t. ContainsAt Anywhere t y) (λ t. ContainsAt Anywhere t text) needles
     (λ t h. (x ++ h.0, h.1, h.2 ++ z, e ∙ ap (λ w. x ++ (w ++ z)) h.3 ∙ regroup x h.0 h.1 h.2 z, h.4))
 
 -- ---- tokens one after another
 
 pub first_holds : (ts : List (Tree Span)) (t : Tree Span) (needles : List (Bool × List ℕ)) → slice_get ts 0 ≡ Some t
-    → AllHold Beginning needles (Means t) → AllHold Beginning needles (MeansEach (trees ts))
+    → EachContainsOne Beginning needles (Means t) → EachContainsOne Beginning needles (MeansEach (trees ts))
 first_holds ts t needles e known before after text alone h =
     let r : (a : Bool) × (x : List ℕ) × (y : List ℕ) × (text ≡ x ++ y) × Means t false a x =
     first_meant ts t e after text (subst (λ b. MeansEach (trees ts) b after text) alone h) in
     holds_at_beginning needles text r.1 r.2 r.3 (known false r.0 r.1 refl r.4)
 
 pub last_holds : (ts : List (Tree Span)) (t : Tree Span) (needles : List (Bool × List ℕ)) → slice_get ts (length ts - 1) ≡ Some t
-    → AllHold End needles (Means t) → AllHold End needles (MeansEach (trees ts))
+    → EachContainsOne End needles (Means t) → EachContainsOne End needles (MeansEach (trees ts))
 last_holds ts t needles e known before after text alone h =
     let r : (b : Bool) × (a : Bool) × (x : List ℕ) × (y : List ℕ) × (text ≡ x ++ y) × Means t b a y =
     last_meant ts t e before after text h in
     holds_at_end needles text r.2 r.3 r.4 (known r.0 r.1 r.3 tt r.5)
 
 pub one_holds : (ts : List (Tree Span)) (i : ℕ) (t : Tree Span) (needles : List (Bool × List ℕ)) → i < length ts → t ≡ get_or ts i t
-    → AllHold Anywhere needles (Means t) → AllHold Anywhere needles (MeansEach (trees ts))
+    → EachContainsOne Anywhere needles (Means t) → EachContainsOne Anywhere needles (MeansEach (trees ts))
 one_holds ts i t needles lt e known before after text alone h =
     let r : (b : Bool) × (a : Bool) × (x : List ℕ) × (y : List ℕ) × (z : List ℕ) × (text ≡ x ++ (y ++ z)) × Means t b a y =
     each_meant ts i t lt e before after text h in
@@ -122,18 +122,18 @@ members_meant (concatenation a ts) text h = h
 members_meant (repetition a t low high) text h = h
 
 pub members_hold : (t : Tree Span) (ts : Trees Span) (needles : List (Bool × List ℕ)) → ts ≡ members t
-    → AllHold Anywhere needles (MeansEach ts) → (text : List ℕ) → Means t false false text → HoldsOne Anywhere needles text
+    → EachContainsOne Anywhere needles (MeansEach ts) → (text : List ℕ) → Means t false false text → ContainsOne Anywhere needles text
 members_hold t ts needles e known text h =
     known false false text tt (subst (λ us. MeansEach us false false text) (sym e) (members_meant t text h))
 
 -- ---- facts
 
-at_front : (place : Place) → CanBeAfter place false
+at_front : (anchor : Anchor) → CanBeAfter anchor false
 at_front Beginning = refl
 at_front End = tt
 at_front Anywhere = tt
 
-pub more_facts : (ts : Trees Span) (facts : List (Place × List (Bool × List ℕ))) (place : Place) (needles : List (Bool × List ℕ))
-    → MeantHold ts facts → AllHold place needles (MeansEach ts) → MeantHold ts (facts ++ (place, needles) ∷ [])
-more_facts ts facts place needles pass known text h =
-    All-push (λ fact. HoldsOne fact.0 fact.1 text) facts (place, needles) (pass text h) (known false false text (at_front place) h)
+pub more_facts : (ts : Trees Span) (facts : List (Anchor × List (Bool × List ℕ))) (anchor : Anchor) (needles : List (Bool × List ℕ))
+    → FactsOfMatches ts facts → EachContainsOne anchor needles (MeansEach ts) → FactsOfMatches ts (facts ++ (anchor, needles) ∷ [])
+more_facts ts facts anchor needles pass known text h =
+    All-push (λ fact. ContainsOne fact.0 fact.1 text) facts (anchor, needles) (pass text h) (known false false text (at_front anchor) h)

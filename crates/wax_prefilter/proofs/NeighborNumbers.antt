@@ -8,22 +8,22 @@ use Rattle.wax_prefilter.specs.inner.Neighbors.{AreNeighbors, neighbors_number}
 abbrev pub number_at : List ℕ → ℕ → ℕ
 number_at text k = neighbors_number (slice_index text k) (slice_index text (k + 1))
 
--- what is known of the neighbors before a place
+-- what is known of the neighbors before a position
 abbrev pub AreNeighborsTo : ℕ → List ℕ → List Bool → Type 0
-AreNeighborsTo place text flags = (k : ℕ) → k + 1 < place → get_or flags (number_at text k) false ≡ true
+AreNeighborsTo position text flags = (k : ℕ) → k + 1 < position → get_or flags (number_at text k) false ≡ true
 
-pub neighbors_more : (text : List ℕ) (flags : List Bool) (place number : ℕ) → number < length flags → 1 ≤ place
-    → number ≡ neighbors_number (slice_index text (place - 1)) (slice_index text place)
-    → AreNeighborsTo place text flags → AreNeighborsTo (place + 1) text (set flags number true)
-neighbors_more text flags place number inside past is before k lt = elim (cases_eq (number_at text k) number) [
+pub neighbors_more : (text : List ℕ) (flags : List Bool) (position number : ℕ) → number < length flags → 1 ≤ position
+    → number ≡ neighbors_number (slice_index text (position - 1)) (slice_index text position)
+    → AreNeighborsTo position text flags → AreNeighborsTo (position + 1) text (set flags number true)
+neighbors_more text flags position number inside past is before k lt = elim (cases_eq (number_at text k) number) [
   | inl same ↦ ap (λ i. get_or (set flags number true) i false) same ∙ get_or-set_same flags number true false inside
-  | inr other ↦ get_or-set_other flags number (number_at text k) true false other ∙ before k (elim (cases_eq (k + 1) place) [
+  | inr other ↦ get_or-set_other flags number (number_at text k) true false other ∙ before k (elim (cases_eq (k + 1) position) [
     | inl last ↦ absurd (other ((λ i. neighbors_number (slice_index text (here last i)) (slice_index text (last i))) ∙ sym is))
     | inr earlier ↦ omega (arith, lt, earlier)
   ])
 ]
   where
-    here : k + 1 ≡ place → k ≡ place - 1
+    here : k + 1 ≡ position → k ≡ position - 1
     here e = omega (arith, e)
 
 -- the neighbors in a part are neighbors in the whole

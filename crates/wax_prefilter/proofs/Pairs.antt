@@ -3,16 +3,16 @@ use Rattle.std.proofs.Common.{◌≡◌, ℕ, ◌+◌, ◌-◌, ◌<◌, ◌≤�
 use Rattle.std.proofs.lemmas.Bool.{cases_lt}
 use Rattle.std.proofs.lemmas.List.{get_or_append_left, get_or-append-add, get_or_default, get_or-drop, length-drop, take_all}
 use Rattle.std.specs.List.{slice_range}
-use Rattle.wax_prefilter.specs.Facts.{NeedleView, StandsAt}
-use Rattle.wax_prefilter.specs.declared.needle.Place.{Place}
-use Rattle.wax_prefilter.specs.declared.needle.Place.TheVariants.{Beginning, End, Anywhere}
+use Rattle.wax_prefilter.specs.Facts.{NeedleView, ContainsAt}
+use Rattle.wax_prefilter.specs.declared.needle.Anchor.{Anchor}
+use Rattle.wax_prefilter.specs.declared.needle.Anchor.TheVariants.{Beginning, End, Anywhere}
 use Rattle.wax_prefilter.specs.declared.pair.Pair.{Pair}
-use Rattle.wax_prefilter.specs.inner.Pairs.{AddsPairs, PairStandsAt, LineHasOne, NoneStandsBefore, StandsIn}
+use Rattle.wax_prefilter.specs.inner.Pairs.{AddsPairs, PairIsAt, LineHasOne, NoPairsBefore, ContainsPair}
 use Rattle.wax_prefilter.proofs.Holding.{any_alone, any_left, any_right}
 use Rattle.wax_token.specs.Meaning.{SameText}
 
--- what stands at a place stands somewhere
-pub stands_somewhere : (place : Place) (held : Bool × List ℕ) (text : List ℕ) → StandsAt place held text
+-- what is at an anchor is somewhere
+pub stands_somewhere : (anchor : Anchor) (held : Bool × List ℕ) (text : List ℕ) → ContainsAt anchor held text
     → (x : List ℕ) × (y : List ℕ) × (z : List ℕ) × (text ≡ x ++ (y ++ z)) × SameText held.0 held.1 y
 stands_somewhere Beginning held text (x, y, e, h) = ([], x, y, e, h)
 stands_somewhere End held text (x, y, e, h) = (x, y, [], e ∙ ap (λ w. x ++ w) (sym (append-nil y)), h)
@@ -28,7 +28,7 @@ pub long_within : (text x y z : List ℕ) → text ≡ x ++ (y ++ z) → length 
 long_within text x y z e = omega (arith, ap length e, length-append x (y ++ z), length-append y z)
 
 -- where the pair stands in a part, it stands in the whole
-pub stands_within : (pair : Pair) (text x y z : List ℕ) (k : ℕ) → text ≡ x ++ (y ++ z) → PairStandsAt pair y k → PairStandsAt pair text (length x + k)
+pub stands_within : (pair : Pair) (text x y z : List ℕ) (k : ℕ) → text ≡ x ++ (y ++ z) → PairIsAt pair y k → PairIsAt pair text (length x + k)
 stands_within pair text x y z k e stands = record {
   inside = omega (arith, stands.inside, long_within text x y z e);
   first = byte_within text x y z k e (omega (arith, stands.inside)) ∙ stands.first;
@@ -36,9 +36,9 @@ stands_within pair text x y z k e stands = record {
 }
 
 -- a part in which the pair stands
-pub part_has : (pair : Pair) (text x y z : List ℕ) → text ++ 10 ∷ [] ≡ x ++ (y ++ z) → StandsIn y pair → LineHasOne (pair ∷ []) text
+pub part_has : (pair : Pair) (text x y z : List ℕ) → text ++ 10 ∷ [] ≡ x ++ (y ++ z) → ContainsPair y pair → LineHasOne (pair ∷ []) text
 part_has pair text x y z e (k, stands) =
-    (length x + k, any_alone (λ p. PairStandsAt p (text ++ 10 ∷ []) (length x + k)) pair (stands_within pair (text ++ 10 ∷ []) x y z k e stands))
+    (length x + k, any_alone (λ p. PairIsAt p (text ++ 10 ∷ []) (length x + k)) pair (stands_within pair (text ++ 10 ∷ []) x y z k e stands))
 
 pub part_of_line : (text x y z : List ℕ) → text ≡ x ++ (y ++ z) → text ++ 10 ∷ [] ≡ x ++ (y ++ (z ++ 10 ∷ []))
 part_of_line text x y z e =
@@ -50,7 +50,7 @@ end_of_line text x y e =
 
 -- a byte of a text, and the line feed after the text
 pub stands_to_feed : (pair : Pair) (y : List ℕ) (k : ℕ) → k < length y → get_or y k 0 ≡ pair.first → 10 ≡ pair.last → length y ≡ k + pair.distance
-    → PairStandsAt pair (y ++ 10 ∷ []) k
+    → PairIsAt pair (y ++ 10 ∷ []) k
 stands_to_feed pair y k some first last long = record {
   inside = omega (arith, long, length-append y (10 ∷ []));
   first = get_or_append_left y (10 ∷ []) 0 k some ∙ first;
@@ -60,42 +60,42 @@ stands_to_feed pair y k some first last long = record {
 -- ---- several pairs
 
 pub more_left : (xs ys : List Pair) (text : List ℕ) → LineHasOne xs text → LineHasOne (xs ++ ys) text
-more_left xs ys text (k, one) = (k, any_left (λ p. PairStandsAt p (text ++ 10 ∷ []) k) xs ys one)
+more_left xs ys text (k, one) = (k, any_left (λ p. PairIsAt p (text ++ 10 ∷ []) k) xs ys one)
 
 pub more_right : (xs ys : List Pair) (text : List ℕ) → LineHasOne ys text → LineHasOne (xs ++ ys) text
-more_right xs ys text (k, one) = (k, any_right (λ p. PairStandsAt p (text ++ 10 ∷ []) k) xs ys one)
+more_right xs ys text (k, one) = (k, any_right (λ p. PairIsAt p (text ++ 10 ∷ []) k) xs ys one)
 
--- each text that has one of the first needles at the place has one of the pairs
-abbrev pub HavePairs : Place → List NeedleView → ℕ → List Pair → Type 0
-HavePairs place needles n pairs = (k : ℕ) (needle : NeedleView) → k < n → get_or needles k needle ≡ needle
-    → (text : List ℕ) → IsUtf8 text → StandsAt place needle (chars text) → LineHasOne pairs text
+-- each text that has one of the first needles at the anchor has one of the pairs
+abbrev pub HavePairs : Anchor → List NeedleView → ℕ → List Pair → Type 0
+HavePairs anchor needles n pairs = (k : ℕ) (needle : NeedleView) → k < n → get_or needles k needle ≡ needle
+    → (text : List ℕ) → IsUtf8 text → ContainsAt anchor needle (chars text) → LineHasOne pairs text
 
-pub next_has : (place : Place) (needles : List NeedleView) (i : ℕ) (needle : NeedleView) (old new : List Pair) (known : Bool) (IsSo : List ℕ → Type 0)
-    → i < length needles → needle ≡ get_or needles i needle → HavePairs place needles i old
-    → AddsPairs old new known IsSo → IsTrue known → ((text : List ℕ) → StandsAt place needle text → IsSo text) → HavePairs place needles (i + 1) new
-next_has place needles i needle old new known IsSo lt is before (added, more, has) is_known so k other below there text utf8 stands =
+pub next_has : (anchor : Anchor) (needles : List NeedleView) (i : ℕ) (needle : NeedleView) (old new : List Pair) (known : Bool) (IsSo : List ℕ → Type 0)
+    → i < length needles → needle ≡ get_or needles i needle → HavePairs anchor needles i old
+    → AddsPairs old new known IsSo → IsTrue known → ((text : List ℕ) → ContainsAt anchor needle text → IsSo text) → HavePairs anchor needles (i + 1) new
+next_has anchor needles i needle old new known IsSo lt is before (added, more, has) is_known so k other below there text utf8 stands =
     subst (λ pairs. LineHasOne pairs text) (sym more) (elim (cases_lt k i) [
       | inl less ↦ more_left old added text (before k other less there text utf8 stands)
       | inr from ↦
           let here : k ≡ i = omega (arith, below, from) in
           let same : other ≡ needle = sym there ∙ ap (λ j. get_or needles j other) here ∙ get_or_default needles i other needle lt ∙ sym is in
-          more_right old added text (has is_known text utf8 (so (chars text) (subst (λ n. StandsAt place n (chars text)) same stands)))
+          more_right old added text (has is_known text utf8 (so (chars text) (subst (λ n. ContainsAt anchor n (chars text)) same stands)))
     ])
 
--- a line that has one of the pairs ends after the place before which none stands
+-- a line that has one of the pairs ends after the position before which none stands
 pub ends_after : (pairs : List Pair) (text x y z : List ℕ) (n : ℕ) → text ++ 10 ∷ [] ≡ x ++ (y ++ 10 ∷ z) → n ≤ length text
-    → NoneStandsBefore pairs text n → LineHasOne pairs y → n ≤ length (x ++ y)
+    → NoPairsBefore pairs text n → LineHasOne pairs y → n ≤ length (x ++ y)
 ends_after pairs text x y z n e inside none (k, (i, pair, lt, is, stands)) =
     let line : List ℕ = y ++ 10 ∷ [] in
     let whole : List ℕ = text ++ 10 ∷ [] in
     let part : whole ≡ x ++ (line ++ z) = e ∙ ap (λ w. x ++ w) (sym (append_assoc y (10 ∷ []) z)) in
-    let there : PairStandsAt pair whole (length x + k) = stands_within pair whole x line z k part stands in
+    let there : PairIsAt pair whole (length x + k) = stands_within pair whole x line z k part stands in
     let long : length line ≡ length y + 1 = length-append y (10 ∷ []) in
     let both : length (x ++ y) ≡ length x + length y = length-append x y in
     elim (cases_lt (length x + k + pair.distance) (length text)) [
       | inr beyond ↦ omega (arith, beyond, inside, stands.inside, long, both)
       | inl within ↦
-          let here : PairStandsAt pair text (length x + k) = record {
+          let here : PairIsAt pair text (length x + k) = record {
             inside = within;
             first = sym (get_or_append_left text (10 ∷ []) 0 (length x + k) (omega (arith, within))) ∙ there.first;
             last = sym (get_or_append_left text (10 ∷ []) 0 (length x + k + pair.distance) within) ∙ there.last;
@@ -108,22 +108,22 @@ ends_after pairs text x y z n e inside none (k, (i, pair, lt, is, stands)) =
 
 -- ---- places in the rest of some bytes
 
--- the bytes from a place on
+-- the bytes from a position on
 pub is_drop : (n : ℕ) (bytes rest : List ℕ) → rest ≡ slice_range bytes n (length bytes) → rest ≡ drop n bytes
 is_drop n bytes rest e = e ∙ take_all _ _ (omega (arith, length-drop n bytes))
 
-pub stands_in_rest : (pair : Pair) (bytes : List ℕ) (at k : ℕ) → PairStandsAt pair bytes (at + k) → PairStandsAt pair (drop at bytes) k
+pub stands_in_rest : (pair : Pair) (bytes : List ℕ) (at k : ℕ) → PairIsAt pair bytes (at + k) → PairIsAt pair (drop at bytes) k
 stands_in_rest pair bytes at k stands = record {
   inside = omega (arith, stands.inside, length-drop at bytes);
   first = get_or-drop at bytes k 0 ∙ stands.first;
   last = get_or-drop at bytes (k + pair.distance) 0 ∙ ap (λ i. get_or bytes i 0) (omega arith) ∙ stands.last;
 }
 
-pub none_further : (pairs : List Pair) (bytes : List ℕ) (at n : ℕ) → NoneStandsBefore pairs bytes at
-    → NoneStandsBefore pairs (slice_range bytes at (length bytes)) n → NoneStandsBefore pairs bytes (at + n)
+pub none_further : (pairs : List Pair) (bytes : List ℕ) (at n : ℕ) → NoPairsBefore pairs bytes at
+    → NoPairsBefore pairs (slice_range bytes at (length bytes)) n → NoPairsBefore pairs bytes (at + n)
 none_further pairs bytes at n before further k lt (i, pair, below, is, stands) = elim (cases_lt k at) [
   | inl less ↦ before k less (i, pair, below, is, stands)
   | inr from ↦
       let same : at + (k - at) ≡ k = omega (arith, from) in
-      subst (λ b. NoneStandsBefore pairs b n) (is_drop at bytes _ refl) further (k - at) (omega (arith, lt, from)) (i, pair, below, is, stands_in_rest pair bytes at (k - at) (subst (PairStandsAt pair bytes) (sym same) stands))
+      subst (λ b. NoPairsBefore pairs b n) (is_drop at bytes _ refl) further (k - at) (omega (arith, lt, from)) (i, pair, below, is, stands_in_rest pair bytes at (k - at) (subst (PairIsAt pair bytes) (sym same) stands))
 ]

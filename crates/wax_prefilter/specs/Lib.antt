@@ -1,3 +1,5 @@
+pub mod Below
+pub mod Compiled
 pub mod Facts
 pub mod Known
 pub mod Literals

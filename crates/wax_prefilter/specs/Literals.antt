@@ -1,7 +1,7 @@
 -- What is known of the literals of many patterns.
 use Rattle.std.specs.Prelude.{ℕ, Bool, IsTrue, List}
-use Rattle.wax_prefilter.specs.Facts.{NeedleView, HoldsOne}
-use Rattle.wax_prefilter.specs.declared.needle.Place.TheVariants.{Anywhere}
+use Rattle.wax_prefilter.specs.Facts.{NeedleView, ContainsOne}
+use Rattle.wax_prefilter.specs.declared.needle.Anchor.TheVariants.{Anywhere}
 
 -- whether something is known, and the literals
 abbrev pub LiteralsView : Type 0
@@ -9,4 +9,4 @@ LiteralsView = Bool × List NeedleView
 
 -- one of the literals is in the text, or nothing is known
 abbrev pub MayPass : LiteralsView → List ℕ → Type 0
-MayPass literals text = IsTrue literals.0 → HoldsOne Anywhere literals.1 text
+MayPass literals text = IsTrue literals.0 → ContainsOne Anywhere literals.1 text

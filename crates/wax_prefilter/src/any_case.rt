@@ -29,7 +29,7 @@ pub fn begins_in_any_case(text: &str, beginning: &str) -> bool
 
 /// Returns whether the text contains `held` in any case. In the worst case, takes time proportional
 /// to the product of their lengths.
-pub fn holds_in_any_case(text: &str, held: &str) -> bool
+pub fn contains_in_any_case(text: &str, held: &str) -> bool
     ensures { (x y z : List ℕ) → chars text.now ≡ x ++ (y ++ z)
         → SameText true (chars held.now) y → IsTrue result }
 {
@@ -69,10 +69,6 @@ fn has_ascii_forms(byte: u8) -> bool
 }
 
 /// Appends the pairs of two ASCII characters in both cases.
-///
-/// # Errors
-///
-/// Returns `AllocError` if allocation fails.
 pub fn add_forms(pair: Pair, pairs: &mut Vec<Pair>) -> Result<(), AllocError>
     ensures { OnOk result (pairs.new.items ≡ pairs.old.items ++ pairs_of_forms pair) }
 {

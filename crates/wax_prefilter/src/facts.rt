@@ -3,9 +3,9 @@ ghost use Rattle.std.specs.Prelude.{◌≡◌, ◌<◌, IfOk, IfSome, OnOk, char
 ghost use Rattle.wax_token.specs.Meaning.{LeafMeans, Means, MeansEach, MeansSome};
 ghost use Rattle.wax_token.specs.View.{leaf_of, wildcard_leaf};
 ghost use Rattle.wax_token.specs.Words.{trees};
-ghost use Rattle.wax_prefilter.specs.Known.{AllHold, MeantHold, AllStand};
+ghost use Rattle.wax_prefilter.specs.Known.{EachContainsOne, FactsOfMatches, EachContains};
 
-use crate::needle::{Needle, Place};
+use crate::needle::{Anchor, Needle};
 use crate::prefilter::Fact;
 use std::alloc::{AllocError, Global};
 use wax_query::diagnostics::NoMemory;
@@ -19,84 +19,76 @@ pub const MOST_NEEDLES: usize = 256;
 
 /// Returns facts about every text that the tokens match: how it ends, how it begins, and what it
 /// contains.
-///
-/// # Errors
-///
-/// Returns `NoMemory` if allocation fails.
 pub fn all_facts<'t>(
     alloc: Global,
     tokens: &[Token<'t, ExpressionMetadata>],
 ) -> Result<Vec<Fact>, NoMemory>
-    ensures { IfOk result (λ facts. MeantHold (trees tokens.now) facts.items) }
+    ensures { IfOk result (λ facts. FactsOfMatches (trees tokens.now) facts.items) }
 {
     let mut facts = Vec::new(alloc);
-    let ends = add_edge(alloc, Place::End, tokens, &mut facts)?;
-    let begins = add_edge(alloc, Place::Beginning, tokens, &mut facts)?;
+    let ends = add_affix(alloc, Anchor::End, tokens, &mut facts)?;
+    let begins = add_affix(alloc, Anchor::Beginning, tokens, &mut facts)?;
     for i in begins as usize..tokens.len().saturating_sub(ends as usize) {
         if facts.len() >= MOST_FACTS {
             break;
         }
-        add_within(alloc, tokens, i, &mut facts)?;
+        add_inner(alloc, tokens, i, &mut facts)?;
     }
     Ok(facts)
 }
 
 // Adds what the texts contain for one of the tokens, if that is known.
-fn add_within<'t>(
+fn add_inner<'t>(
     alloc: Global,
     tokens: &[Token<'t, ExpressionMetadata>],
     i: usize,
     facts: &mut Vec<Fact>,
 ) -> Result<(), NoMemory>
     requires in_range { i < length tokens.now }
-    requires facts { MeantHold (trees tokens.now) facts.old.items }
-    ensures { OnOk result (MeantHold (trees tokens.now) facts.new.items) }
+    requires facts { FactsOfMatches (trees tokens.now) facts.old.items }
+    ensures { OnOk result (FactsOfMatches (trees tokens.now) facts.new.items) }
 {
-    let Some(needles) = needles_of(alloc, Place::Anywhere, &tokens[i])? else {
+    let Some(needles) = needles_of(alloc, Anchor::Anywhere, &tokens[i])? else {
         return Ok(());
     };
-    Fact::add(facts, Place::Anywhere, needles)?;
+    Fact::add(facts, Anchor::Anywhere, needles)?;
     Ok(())
 }
 
 // Adds how the texts begin or end. Returns whether that is known.
-fn add_edge<'t>(
+fn add_affix<'t>(
     alloc: Global,
-    place: Place,
+    anchor: Anchor,
     tokens: &[Token<'t, ExpressionMetadata>],
     facts: &mut Vec<Fact>,
 ) -> Result<bool, NoMemory>
-    requires { MeantHold (trees tokens.now) facts.old.items }
-    ensures { OnOk result (MeantHold (trees tokens.now) facts.new.items) }
+    requires { FactsOfMatches (trees tokens.now) facts.old.items }
+    ensures { OnOk result (FactsOfMatches (trees tokens.now) facts.new.items) }
 {
-    let Some(needles) = needles_of_each(alloc, place, tokens)? else {
+    let Some(needles) = needles_of_each(alloc, anchor, tokens)? else {
         return Ok(false);
     };
-    Fact::add(facts, place, needles)?;
+    Fact::add(facts, anchor, needles)?;
     Ok(true)
 }
 
-/// Returns needles of which every matching text has at least one at the place, if any are known.
-///
-/// # Errors
-///
-/// Returns `NoMemory` if allocation fails.
+/// Returns needles of which every matching text has at least one at the anchor, if any are known.
 #[cycle(needles_of)]
 pub fn needles_of<'t>(
     alloc: Global,
-    place: Place,
+    anchor: Anchor,
     token: &Token<'t, ExpressionMetadata>,
 ) -> Result<Option<Vec<Needle>>, NoMemory>
     ensures { IfOk result (λ known. IfSome known (λ v.
-        AllHold place v.items (Means token.now))) }
+        EachContainsOne anchor v.items (Means token.now))) }
 {
     match token.topology() {
         Topology::Branch(branch) => match branch {
-            BranchKind::Alternation(a) => needles_of_some(alloc, place, a.tokens.as_slice()),
-            BranchKind::Concatenation(c) => needles_of_each(alloc, place, c.tokens.as_slice()),
+            BranchKind::Alternation(a) => needles_of_some(alloc, anchor, a.tokens.as_slice()),
+            BranchKind::Concatenation(c) => needles_of_each(alloc, anchor, c.tokens.as_slice()),
             BranchKind::Repetition(_) => Ok(None),
         },
-        Topology::Leaf(leaf) => Ok(needles_of_leaf(alloc, place, leaf)?),
+        Topology::Leaf(leaf) => Ok(needles_of_leaf(alloc, anchor, leaf)?),
     }
 }
 
@@ -105,22 +97,22 @@ pub fn needles_of<'t>(
 #[tactic(auto, using(crate::proofs::MeantEdges::read_size))]
 fn needles_of_each<'t>(
     alloc: Global,
-    place: Place,
+    anchor: Anchor,
     tokens: &[Token<'t, ExpressionMetadata>],
 ) -> Result<Option<Vec<Needle>>, NoMemory>
     ensures { IfOk result (λ known. IfSome known (λ v.
-        AllHold place v.items (MeansEach (trees tokens.now)))) }
+        EachContainsOne anchor v.items (MeansEach (trees tokens.now)))) }
 {
-    match place {
-        Place::Beginning => match tokens.first() {
-            Some(token) => needles_of(alloc, Place::Beginning, token),
+    match anchor {
+        Anchor::Beginning => match tokens.first() {
+            Some(token) => needles_of(alloc, Anchor::Beginning, token),
             None => Ok(None),
         },
-        Place::End => match tokens.last() {
-            Some(token) => needles_of(alloc, Place::End, token),
+        Anchor::End => match tokens.last() {
+            Some(token) => needles_of(alloc, Anchor::End, token),
             None => Ok(None),
         },
-        Place::Anywhere => needles_of_any(alloc, tokens),
+        Anchor::Anywhere => needles_of_any(alloc, tokens),
     }
 }
 
@@ -132,10 +124,10 @@ fn needles_of_any<'t>(
     tokens: &[Token<'t, ExpressionMetadata>],
 ) -> Result<Option<Vec<Needle>>, NoMemory>
     ensures { IfOk result (λ known. IfSome known (λ v.
-        AllHold Place.Anywhere v.items (MeansEach (trees tokens.now)))) }
+        EachContainsOne Anchor.Anywhere v.items (MeansEach (trees tokens.now)))) }
 {
     for token in tokens {
-        let needles = needles_of(alloc, Place::Anywhere, token)?;
+        let needles = needles_of(alloc, Anchor::Anywhere, token)?;
         if needles.is_some() {
             return Ok(needles);
         }
@@ -148,15 +140,15 @@ fn needles_of_any<'t>(
 #[tactic(auto, using(wax_token::proofs::Sizes::element_size))]
 fn needles_of_some<'t>(
     alloc: Global,
-    place: Place,
+    anchor: Anchor,
     tokens: &[Token<'t, ExpressionMetadata>],
 ) -> Result<Option<Vec<Needle>>, NoMemory>
     ensures { IfOk result (λ known. IfSome known (λ v.
-        AllHold place v.items (MeansSome (trees tokens.now)))) }
+        EachContainsOne anchor v.items (MeansSome (trees tokens.now)))) }
 {
     let mut all = Vec::new(alloc);
     for token in tokens {
-        let Some(mut needles) = needles_of(alloc, place, token)? else {
+        let Some(mut needles) = needles_of(alloc, anchor, token)? else {
             return Ok(None);
         };
         all.append(&mut needles)?;
@@ -169,13 +161,13 @@ fn needles_of_some<'t>(
 
 fn needles_of_leaf(
     alloc: Global,
-    place: Place,
+    anchor: Anchor,
     leaf: &LeafKind<'_>,
 ) -> Result<Option<Vec<Needle>>, AllocError>
     ensures { IfOk result (λ known. IfSome known (λ v.
-        AllHold place v.items (LeafMeans (leaf_of leaf.now)))) }
+        EachContainsOne anchor v.items (LeafMeans (leaf_of leaf.now)))) }
 {
-    let Some((text, is_case_insensitive)) = text_of(place, leaf) else {
+    let Some((text, is_case_insensitive)) = text_of(anchor, leaf) else {
         return Ok(None);
     };
     let mut needles = Vec::new(alloc);
@@ -183,32 +175,32 @@ fn needles_of_leaf(
     Ok(Some(needles))
 }
 
-// Returns the text at the place, and whether in any case. Returns `None` if testing for it would
+// Returns the text at the anchor, and whether in any case. Returns `None` if testing for it would
 // rarely reject a text.
-fn text_of<'i>(place: Place, leaf: &'i LeafKind<'_>) -> Option<(&'i str, bool)>
-    ensures { IfSome result (λ t. AllStand place (t.1, chars t.0.now) (LeafMeans (leaf_of leaf.now))) }
+fn text_of<'i>(anchor: Anchor, leaf: &'i LeafKind<'_>) -> Option<(&'i str, bool)>
+    ensures { IfSome result (λ t. EachContains anchor (t.1, chars t.0.now) (LeafMeans (leaf_of leaf.now))) }
 {
     match leaf {
-        LeafKind::Literal(literal) => match place {
-            Place::End if literal.is_case_insensitive() => None,
+        LeafKind::Literal(literal) => match anchor {
+            Anchor::End if literal.is_case_insensitive() => None,
             _ => Some((literal.text(), literal.is_case_insensitive())),
         },
-        LeafKind::Separator(_) => match place {
-            Place::Anywhere => None,
+        LeafKind::Separator(_) => match anchor {
+            Anchor::Anywhere => None,
             _ => Some(("/", false)),
         },
-        LeafKind::Wildcard(wildcard) => text_of_wildcard(place, wildcard),
+        LeafKind::Wildcard(wildcard) => text_of_wildcard(anchor, wildcard),
         LeafKind::Class(_) => None,
     }
 }
 
-fn text_of_wildcard(place: Place, wildcard: &Wildcard) -> Option<(&'static str, bool)>
+fn text_of_wildcard(anchor: Anchor, wildcard: &Wildcard) -> Option<(&'static str, bool)>
     ensures { IfSome result (λ t.
-        AllStand place (t.1, chars t.0.now) (LeafMeans (wildcard_leaf wildcard.now))) }
+        EachContains anchor (t.1, chars t.0.now) (LeafMeans (wildcard_leaf wildcard.now))) }
 {
     match wildcard {
-        Wildcard::Tree { has_root } => match place {
-            Place::Beginning if *has_root => Some(("/", false)),
+        Wildcard::Tree { has_root } => match anchor {
+            Anchor::Beginning if *has_root => Some(("/", false)),
             _ => None,
         },
         _ => None,

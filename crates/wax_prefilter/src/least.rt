@@ -3,7 +3,7 @@ ghost use Rattle.std.specs.Prelude.{◌≡◌};
 ghost use Rattle.wax_token.specs.Meaning.{LeafMeans, Means, MeansEach, MeansSome};
 ghost use Rattle.wax_token.specs.View.{leaf_of};
 ghost use Rattle.wax_token.specs.Words.{trees};
-ghost use Rattle.wax_prefilter.specs.Known.{IsAtMostAll};
+ghost use Rattle.wax_prefilter.specs.Known.{IsLeastLength};
 
 use wax_token::token::{BranchKind, ExpressionMetadata, LeafKind, Token, Topology, Wildcard};
 
@@ -12,7 +12,7 @@ use wax_token::token::{BranchKind, ExpressionMetadata, LeafKind, Token, Topology
 #[cycle(least_of)]
 #[tactic(auto, using(wax_token::proofs::Sizes::element_size))]
 pub fn least_of_each<'t>(tokens: &[Token<'t, ExpressionMetadata>]) -> usize
-    ensures { IsAtMostAll result (MeansEach (trees tokens.now)) }
+    ensures { IsLeastLength result (MeansEach (trees tokens.now)) }
 {
     let mut sum: usize = 0;
     for token in tokens {
@@ -23,7 +23,7 @@ pub fn least_of_each<'t>(tokens: &[Token<'t, ExpressionMetadata>]) -> usize
 
 #[cycle(least_of)]
 fn least_of<'t>(token: &Token<'t, ExpressionMetadata>) -> usize
-    ensures { IsAtMostAll result (Means token.now) }
+    ensures { IsLeastLength result (Means token.now) }
 {
     match token.topology() {
         Topology::Branch(branch) => match branch {
@@ -38,7 +38,7 @@ fn least_of<'t>(token: &Token<'t, ExpressionMetadata>) -> usize
 #[cycle(least_of)]
 #[tactic(auto, using(wax_token::proofs::Sizes::element_size))]
 fn least_of_some<'t>(tokens: &[Token<'t, ExpressionMetadata>]) -> usize
-    ensures { IsAtMostAll result (MeansSome (trees tokens.now)) }
+    ensures { IsLeastLength result (MeansSome (trees tokens.now)) }
 {
     let mut least = usize::MAX;
     for token in tokens {
@@ -48,7 +48,7 @@ fn least_of_some<'t>(tokens: &[Token<'t, ExpressionMetadata>]) -> usize
 }
 
 fn least_of_leaf(leaf: &LeafKind<'_>) -> usize
-    ensures { IsAtMostAll result (LeafMeans (leaf_of leaf.now)) }
+    ensures { IsLeastLength result (LeafMeans (leaf_of leaf.now)) }
 {
     match leaf {
         LeafKind::Literal(literal) => literal.text().chars().count(),

@@ -3,6 +3,7 @@
 #![tactic(auto)]
 
 mod any_case;
+mod compiled;
 mod facts;
 mod folder;
 mod least;
@@ -13,6 +14,7 @@ mod neighbors;
 mod pair;
 mod prefilter;
 
+pub use compiled::CompiledTokens;
 pub use folder::{folder_of, is_within};
 pub use literals::Literals;
 pub use prefilter::Prefilter;

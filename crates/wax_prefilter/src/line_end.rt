@@ -35,8 +35,8 @@ impl EndPair {
         ensures { IfSome result (IsBeforeEnd bytes.now) }
     {
         if bytes.len() > MOST_SHORT {
-            let (place, pair) = Pair::rarest_of(bytes)?;
-            let back = bytes.len() - place;
+            let (position, pair) = Pair::rarest_of(bytes)?;
+            let back = bytes.len() - position;
             return Some(EndPair { pair, back });
         }
         if bytes.len() < 2 {
@@ -58,9 +58,9 @@ impl EndPair {
     }
 }
 
-/// Returns a place before which no line feed comes after one of the needles: that of the first line
-/// feed that may do so, unless it is near the end. Takes time proportional to the place and, for each
-/// place before it where the pair is found, to the number of needles.
+/// Returns a position before which no line feed comes after one of the needles: that of the first line
+/// feed that may do so, unless it is near the end. Takes time proportional to the position and, for each
+/// position before it where the pair is found, to the number of needles.
 #[inline(always)]
 pub fn find_line_end(end: EndPair, needles: &[Needle], bytes: &[u8]) -> usize
     requires { ComesBefore end needles.now }
@@ -69,20 +69,20 @@ pub fn find_line_end(end: EndPair, needles: &[Needle], bytes: &[u8]) -> usize
 {
     let mut at = 0;
     while at < bytes.len() {
-        let place = at + end.pair.find(&bytes[at..]);
-        if bytes.len() - place <= end.back {
-            return place;
+        let position = at + end.pair.find(&bytes[at..]);
+        if bytes.len() - position <= end.back {
+            return position;
         }
-        let feed = place + end.back;
+        let feed = position + end.back;
         if is_line_end(needles, bytes, feed) {
             return feed;
         }
-        at = place + 1;
+        at = position + 1;
     }
     at
 }
 
-// Returns whether a line may end at the place, with one of the needles before it.
+// Returns whether a line may end at the position, with one of the needles before it.
 #[inline(always)]
 fn is_line_end(needles: &[Needle], bytes: &[u8], feed: usize) -> bool
     requires { feed < length bytes.now }

@@ -2,13 +2,13 @@
 ghost use Rattle.std.specs.Prelude.{ℕ, IfOk, IfSome, IsTrue, List, OnOk, chars, false};
 ghost use Rattle.wax_token.specs.Meaning.{Means, MeansEach};
 ghost use Rattle.wax_token.specs.Words.{trees};
-ghost use Rattle.wax_prefilter.specs.Facts.{HoldsOne};
-ghost use Rattle.wax_prefilter.specs.Known.{AllHold};
+ghost use Rattle.wax_prefilter.specs.Facts.{ContainsOne};
+ghost use Rattle.wax_prefilter.specs.Known.{EachContainsOne};
 ghost use Rattle.wax_prefilter.specs.Literals.{MayPass};
-ghost use Rattle.wax_prefilter.specs.declared.needle.Place.TheVariants.{Anywhere};
+ghost use Rattle.wax_prefilter.specs.declared.needle.Anchor.TheVariants.{Anywhere};
 
 use crate::facts::{MOST_NEEDLES, needles_of};
-use crate::needle::{Needle, Place, least_len};
+use crate::needle::{Anchor, Needle, least_len};
 use crate::neighbors::neighbors_of;
 use std::alloc::{AllocError, Global};
 use std::marker::Model;
@@ -44,10 +44,6 @@ impl Literals {
     /// Adds those of a pattern: of the tokens that follow one another in it, those of the token whose
     /// shortest literal is longest. Takes time proportional to the pattern's tokens and literals, and
     /// none if nothing is known.
-    ///
-    /// # Errors
-    ///
-    /// Returns `NoMemory` if allocation fails.
     pub fn add<'t>(
         &mut self,
         alloc: Global,
@@ -73,14 +69,14 @@ impl Literals {
     pub fn may_match(&self, text: &str) -> bool
         ensures { MayPass self.now (chars text.now) → IsTrue result }
     {
-        !self.is_known || holds_one(&self.needles, text)
+        !self.is_known || may_contain_one(&self.needles, text)
     }
 
     // Adds needles, unless there are too many then.
     fn append(&mut self, alloc: Global, mut needles: Vec<Needle>) -> Result<(), AllocError>
         ensures keeps { OnOk result ((text : List ℕ) → MayPass self.old text → MayPass self.new text) }
         ensures adds { OnOk result ((text : List ℕ)
-            → HoldsOne Anywhere needles.items text → MayPass self.new text) }
+            → ContainsOne Anywhere needles.items text → MayPass self.new text) }
     {
         self.needles.append(&mut needles)?;
         if self.needles.len() > MOST_NEEDLES {
@@ -106,12 +102,12 @@ fn longest_needles<'t>(
     tokens: &[Token<'t, ExpressionMetadata>],
 ) -> Result<Option<Vec<Needle>>, NoMemory>
     ensures { IfOk result (λ known. IfSome known (λ v.
-        AllHold Anywhere v.items (MeansEach (trees tokens.now)))) }
+        EachContainsOne Anywhere v.items (MeansEach (trees tokens.now)))) }
 {
     let mut longest = None;
     let mut greatest = 0;
     for token in tokens {
-        let Some(needles) = needles_of(alloc, Place::Anywhere, token)? else {
+        let Some(needles) = needles_of(alloc, Anchor::Anywhere, token)? else {
             continue;
         };
         let len = least_len(&needles);
@@ -125,12 +121,12 @@ fn longest_needles<'t>(
 
 /// Returns `false` only if the text contains none of the needles. Takes less time than a search for each
 /// of them, if there are more than a few.
-pub fn holds_one(needles: &[Needle], text: &str) -> bool
-    ensures { HoldsOne Anywhere needles.now (chars text.now) → IsTrue result }
+pub fn may_contain_one(needles: &[Needle], text: &str) -> bool
+    ensures { ContainsOne Anywhere needles.now (chars text.now) → IsTrue result }
 {
     let neighbors = neighbors_of(text.as_bytes());
     for needle in needles {
-        if needle.may_be_among(&neighbors) && needle.can_stand_at(Place::Anywhere, text) {
+        if needle.may_be_among(&neighbors) && needle.may_be_at(Anchor::Anywhere, text) {
             return true;
         }
     }

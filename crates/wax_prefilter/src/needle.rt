@@ -1,23 +1,23 @@
-//! Needles: texts that others contain at some place.
+//! Needles: texts that others begin with, end with, or contain.
 ghost use Rattle.std.specs.Prelude.{◌≡◌, ℕ, IsTrue, IfOk, IfSome, List, [], ◌∷◌, ◌++◌, chars, true, false};
 ghost use Rattle.std.specs.Str.{IsUtf8};
 ghost use Rattle.wax_token.specs.Meaning.{SameText};
-ghost use Rattle.wax_prefilter.specs.Facts.{StandsAt};
-ghost use Rattle.wax_prefilter.specs.declared.needle.Place.{Place};
+ghost use Rattle.wax_prefilter.specs.Facts.{ContainsAt};
+ghost use Rattle.wax_prefilter.specs.declared.needle.Anchor.{Anchor};
 ghost use Rattle.wax_prefilter.specs.inner.Ends.{ComesBefore, EndsWith};
 ghost use Rattle.wax_prefilter.specs.inner.Neighbors.{AreNeighbors};
 ghost use Rattle.wax_prefilter.specs.inner.Pairs.{AddsPairs};
 
-use crate::any_case::{add_forms, ascii_forms_len, begins_in_any_case, holds_in_any_case};
+use crate::any_case::{add_forms, ascii_forms_len, begins_in_any_case, contains_in_any_case};
 use crate::line_end::{EndPair, is_end};
-use crate::neighbors::{Neighbors, may_hold};
+use crate::neighbors::{Neighbors, may_contain};
 use crate::pair::Pair;
 use std::alloc::{AllocError, Global};
 use std::marker::Model;
 
-/// Where a text contains a needle.
+/// Where in a text a needle is.
 #[derive(Clone, Copy)]
-pub enum Place {
+pub enum Anchor {
     Beginning,
     End,
     Anywhere,
@@ -59,9 +59,9 @@ impl Needle {
     #[inline]
     pub fn may_be_among(&self, neighbors: &Neighbors) -> bool
         ensures { (text : List ℕ) → IsUtf8 text → AreNeighbors text neighbors.now
-            → StandsAt Place.Anywhere self.now (chars text) → IsTrue result }
+            → ContainsAt Anchor.Anywhere self.now (chars text) → IsTrue result }
     {
-        self.is_case_insensitive || may_hold(neighbors, self.text.as_str().as_bytes())
+        self.is_case_insensitive || may_contain(neighbors, self.text.as_str().as_bytes())
     }
 
     /// Returns the number of bytes.
@@ -74,17 +74,13 @@ impl Needle {
         self.text.len() <= 2
     }
 
-    /// Appends pairs such that each text that has the needle, at any place, has one of them: the two
+    /// Appends pairs such that each text that has the needle anywhere has one of them: the two
     /// rarest bytes of the needle. For a needle in any case, appends these bytes in both cases, and
     /// looks only at the bytes before the first that has forms past ASCII. Returns `false` if there
     /// are fewer than two bytes.
-    ///
-    /// # Errors
-    ///
-    /// Returns `AllocError` if allocation fails.
     pub fn add_pairs(&self, pairs: &mut Vec<Pair>) -> Result<bool, AllocError>
         ensures { IfOk result (λ known. AddsPairs pairs.old.items pairs.new.items known
-            (λ text. (place : Place) × StandsAt place self.now text)) }
+            (λ text. (anchor : Anchor) × ContainsAt anchor self.now text)) }
     {
         let bytes = self.text.as_str().as_bytes();
         if !self.is_case_insensitive {
@@ -112,16 +108,16 @@ impl Needle {
         EndPair::of(self.text.as_str().as_bytes())
     }
 
-    /// Returns whether the text may have the needle at the place. Always returns `true` for a
+    /// Returns whether the text may have the needle at the anchor. Always returns `true` for a
     /// needle in any case at the end.
     #[inline]
-    pub fn can_stand_at(&self, place: Place, text: &str) -> bool
-        ensures { StandsAt place self.now (chars text.now) → IsTrue result }
+    pub fn may_be_at(&self, anchor: Anchor, text: &str) -> bool
+        ensures { ContainsAt anchor self.now (chars text.now) → IsTrue result }
     {
-        match place {
-            Place::Beginning => self.begins(text),
-            Place::End => self.ends(text),
-            Place::Anywhere => self.is_held(text),
+        match anchor {
+            Anchor::Beginning => self.begins(text),
+            Anchor::End => self.ends(text),
+            Anchor::Anywhere => self.may_be_in(text),
         }
     }
 
@@ -152,13 +148,13 @@ impl Needle {
         self.is_case_insensitive || text.as_bytes().ends_with(self.text.as_str().as_bytes())
     }
 
-    fn is_held(&self, text: &str) -> bool
+    fn may_be_in(&self, text: &str) -> bool
         ensures { (x y z : List ℕ) → chars text.now ≡ x ++ (y ++ z)
             → SameText self.now.0 self.now.1 y → IsTrue result }
     {
         let held = self.text.as_str();
         if self.is_case_insensitive {
-            return holds_in_any_case(text, held);
+            return contains_in_any_case(text, held);
         }
         text.contains(held)
     }

@@ -15,20 +15,20 @@ pub fn neighbors_of(text: &[u8]) -> Neighbors
     ensures { AreNeighbors text.now result }
 {
     let mut neighbors = [false; NUMBERS];
-    for place in 1..text.len() {
-        neighbors[number_of(text[place - 1], text[place])] = true;
+    for position in 1..text.len() {
+        neighbors[number_of(text[position - 1], text[position])] = true;
     }
     neighbors
 }
 
 /// Returns `false` only if a text with these neighbors doesn't contain `held`.
 #[inline]
-pub fn may_hold(neighbors: &Neighbors, held: &[u8]) -> bool
+pub fn may_contain(neighbors: &Neighbors, held: &[u8]) -> bool
     ensures { (text x z : List ℕ) → AreNeighbors text neighbors.now
         → text ≡ x ++ (held.now ++ z) → IsTrue result }
 {
-    for place in 1..held.len() {
-        if !neighbors[number_of(held[place - 1], held[place])] {
+    for position in 1..held.len() {
+        if !neighbors[number_of(held[position - 1], held[position])] {
             return false;
         }
     }

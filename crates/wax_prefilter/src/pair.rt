@@ -2,18 +2,18 @@
 ghost use Rattle.std.specs.List.{position_or_len};
 ghost use Rattle.std.specs.Prelude.{◌≡◌, ◌<◌, ◌≤◌, ◌+◌, ◌++◌, ◌∷◌, [], All, IfSome, length, map};
 ghost use Rattle.std.specs.Simd.Lanes.{mask_l};
-ghost use Rattle.wax_prefilter.specs.inner.Pairs.{NoPairBefore, NoneStandsBefore, PairStandsAt};
+ghost use Rattle.wax_prefilter.specs.inner.Pairs.{NoPairBefore, NoPairsBefore, PairIsAt};
 ghost use Rattle.wax_prefilter.specs.inner.Pairs.{ZeroWhere, is_zero};
 
 use std::simd::prelude::*;
 
-/// How many places are looked at together.
+/// How many positions are looked at together.
 const LANES: usize = 32;
 
 /// The characters that are most common in the paths of a Debian system, the most common one first.
 const COMMON: &[u8] = b"/otsnerlaciu.hp_-ymdg1b6x3vkf842w705z9jqEASMCRPITDLNGVOBQ+FHUWX";
 
-/// Two bytes at a distance. Few places have both, and they are found much faster than a whole text
+/// Two bytes at a distance. Few positions have both, and they are found much faster than a whole text
 /// that begins and ends with them.
 #[derive(Clone, Copy)]
 pub struct Pair {
@@ -22,11 +22,11 @@ pub struct Pair {
     pub distance: usize,
 }
 
-/// Returns a place before which none of the pairs stands: that of the first one, unless it is near
-/// the end. Takes time proportional to the place and to the number of pairs.
+/// Returns a position before which none of the pairs stands: that of the first one, unless it is near
+/// the end. Takes time proportional to the position and to the number of pairs.
 #[inline(never)]
 pub fn find_first(pairs: &[Pair], bytes: &[u8]) -> usize
-    ensures before { NoneStandsBefore pairs.now bytes.now result }
+    ensures before { NoPairsBefore pairs.now bytes.now result }
     ensures inside { result ≤ length bytes.now }
 {
     if pairs.len() == 1 {
@@ -37,9 +37,9 @@ pub fn find_first(pairs: &[Pair], bytes: &[u8]) -> usize
     };
     let mut at = 0;
     while lasts.len() - at >= LANES {
-        let place = first_place(pairs, &bytes[at..]);
-        if place < LANES {
-            return at + place;
+        let position = first_position(pairs, &bytes[at..]);
+        if position < LANES {
+            return at + position;
         }
         at += LANES;
     }
@@ -56,12 +56,12 @@ fn greatest_distance(pairs: &[Pair]) -> usize
     greatest
 }
 
-// Returns the first of the first places where one of the pairs stands, or the number of these places.
+// Returns the first of the first positions where one of the pairs stands, or the number of these positions.
 #[inline(always)]
-fn first_place(pairs: &[Pair], bytes: &[u8]) -> usize
+fn first_position(pairs: &[Pair], bytes: &[u8]) -> usize
     requires lanes { LANES ≤ length bytes.now }
     requires room { All (λ pair. pair.distance + LANES ≤ length bytes.now) pairs.now }
-    ensures before { NoneStandsBefore pairs.now bytes.now result }
+    ensures before { NoPairsBefore pairs.now bytes.now result }
     ensures inside { result ≤ LANES }
 {
     let front = u8x32::from_slice(bytes);
@@ -102,7 +102,7 @@ fn rarity(byte: u8) -> usize {
     }
 }
 
-/// Returns the place of the rarest of the bytes, apart from the byte at the place `other`.
+/// Returns the position of the rarest of the bytes, apart from the byte at the position `other`.
 pub fn rarest_but(other: usize, bytes: &[u8]) -> usize
     requires some { 1 ≤ length bytes.now }
     requires more { other ≡ 0 → 2 ≤ length bytes.now }
@@ -122,10 +122,10 @@ pub fn rarest_but(other: usize, bytes: &[u8]) -> usize
 }
 
 impl Pair {
-    /// Returns the two of the bytes that are rarest in paths, with the place of the first of them, or
+    /// Returns the two of the bytes that are rarest in paths, with the position of the first of them, or
     /// `None` if there are fewer than two.
     pub fn rarest_of(bytes: &[u8]) -> Option<(usize, Pair)>
-        ensures { IfSome result (λ found. PairStandsAt found.1 bytes.now found.0) }
+        ensures { IfSome result (λ found. PairIsAt found.1 bytes.now found.0) }
     {
         if bytes.len() < 2 {
             return None;

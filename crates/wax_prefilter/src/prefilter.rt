@@ -3,16 +3,16 @@ ghost use Rattle.std.specs.Prelude.{◌≡◌, ◌≤◌, ℕ, List, [], ◌∷�
 ghost use Rattle.std.specs.Prelude.{length};
 ghost use Rattle.std.specs.Str.{IsUtf8};
 ghost use Rattle.wax_token.specs.Words.{trees};
-ghost use Rattle.wax_prefilter.specs.Facts.{HoldsOne, PassesFacts};
-ghost use Rattle.wax_prefilter.specs.Known.{MeantPass};
+ghost use Rattle.wax_prefilter.specs.Facts.{ContainsOne, PassesFacts};
+ghost use Rattle.wax_prefilter.specs.Known.{MatchesPass};
 ghost use Rattle.wax_prefilter.specs.inner.Ends.{ComesBefore, IsOfFirst, NoneEndsBefore};
 ghost use Rattle.wax_prefilter.specs.inner.Pairs.{ArePairsOf, LineHasOne};
 
 use crate::facts::all_facts;
 use crate::least::least_of_each;
 use crate::line_end::{EndPair, FEED, find_line_end};
-use crate::literals::holds_one;
-use crate::needle::{Needle, Place};
+use crate::literals::may_contain_one;
+use crate::needle::{Anchor, Needle};
 use crate::pair::{Pair, find_first};
 use std::alloc::{AllocError, Global};
 use std::marker::Model;
@@ -25,11 +25,11 @@ const MOST_PAIRS: usize = 8;
 /// The greatest number of texts that are searched for in less time than a matcher takes.
 const FEW_NEEDLES: usize = 4;
 
-/// A fact about matching texts: each has one of the needles at the place. Contracts see both as a
+/// A fact about matching texts: each has one of the needles there. Contracts see both as a
 /// pair.
 #[derive(Drop)]
 pub struct Fact {
-    place: Place,
+    anchor: Anchor,
     needles: Vec<Needle>,
 }
 
@@ -38,19 +38,19 @@ impl Model for Fact {
 
     ghost Value = { FactView };
 
-    ghost view = { λ f. (f.place, f.needles.items) };
+    ghost view = { λ f. (f.anchor, f.needles.items) };
 }
 
 impl Fact {
     /// Appends a fact.
-    ///
-    /// # Errors
-    ///
-    /// Returns `AllocError` if allocation fails.
-    pub fn add(facts: &mut Vec<Fact>, place: Place, needles: Vec<Needle>) -> Result<(), AllocError>
-        ensures { OnOk result (facts.new.items ≡ facts.old.items ++ (place, needles.items) ∷ []) }
+    pub fn add(
+        facts: &mut Vec<Fact>,
+        anchor: Anchor,
+        needles: Vec<Needle>,
+    ) -> Result<(), AllocError>
+        ensures { OnOk result (facts.new.items ≡ facts.old.items ++ (anchor, needles.items) ∷ []) }
     {
-        facts.push(Fact { place, needles })?;
+        facts.push(Fact { anchor, needles })?;
         Ok(())
     }
 
@@ -60,8 +60,8 @@ impl Fact {
         if self.needles.len() > FEW_NEEDLES {
             return true;
         }
-        match (self.place, self.needles.first()) {
-            (Place::Anywhere, Some(needle)) => needle.is_case_insensitive() || needle.is_short(),
+        match (self.anchor, self.needles.first()) {
+            (Anchor::Anywhere, Some(needle)) => needle.is_case_insensitive() || needle.is_short(),
             _ => false,
         }
     }
@@ -69,11 +69,11 @@ impl Fact {
     /// Returns a pair that is found before the end of all lines for which the fact holds, or `None` if
     /// it isn't about ends, or has too many needles.
     fn end_pair(&self) -> Option<EndPair>
-        ensures { IfSome result (λ end. (self.now.0 ≡ Place.End) × ComesBefore end self.now.1) }
+        ensures { IfSome result (λ end. (self.now.0 ≡ Anchor.End) × ComesBefore end self.now.1) }
     {
-        match (self.place, self.needles.as_slice()) {
-            (Place::End, [needle]) => needle.end_pair(),
-            (Place::End, needles) if needles.len() <= MOST_PAIRS => Some(FEED),
+        match (self.anchor, self.needles.as_slice()) {
+            (Anchor::End, [needle]) => needle.end_pair(),
+            (Anchor::End, needles) if needles.len() <= MOST_PAIRS => Some(FEED),
             _ => None,
         }
     }
@@ -82,7 +82,7 @@ impl Fact {
     /// are too many.
     fn pairs(&self, alloc: Global) -> Result<Option<Vec<Pair>>, AllocError>
         ensures { IfOk result (λ known. IfSome known (λ pairs. (text : List ℕ) → IsUtf8 text
-            → HoldsOne self.now.0 self.now.1 (chars text) → LineHasOne pairs.items text)) }
+            → ContainsOne self.now.0 self.now.1 (chars text) → LineHasOne pairs.items text)) }
     {
         let mut pairs = Vec::new(alloc);
         for needle in &self.needles {
@@ -94,7 +94,7 @@ impl Fact {
         Ok(Some(pairs))
     }
 
-    /// Returns a place before which no line feed comes after one of the needles. The line feed is given
+    /// Returns a position before which no line feed comes after one of the needles. The line feed is given
     /// as it is, so that the search for it is compiled by itself.
     #[inline(never)]
     fn find_line_end(&self, end: EndPair, bytes: &[u8]) -> usize
@@ -110,24 +110,27 @@ impl Fact {
     }
 
     fn may_hold(&self, text: &str, at_once: bool) -> bool
-        ensures { HoldsOne self.now.0 self.now.1 (chars text.now) → IsTrue result }
+        ensures { ContainsOne self.now.0 self.now.1 (chars text.now) → IsTrue result }
     {
         if at_once && self.takes_long() {
             return true;
         }
-        match self.place {
-            Place::Anywhere if self.needles.len() > FEW_NEEDLES => holds_one(&self.needles, text),
-            place => one_stands(&self.needles, place, text),
+        match self.anchor {
+            Anchor::Anywhere if self.needles.len() > FEW_NEEDLES => may_contain_one(
+                &self.needles,
+                text,
+            ),
+            anchor => one_may_be_at(&self.needles, anchor, text),
         }
     }
 }
 
-/// Returns whether one of the needles is at the place.
-fn one_stands(needles: &[Needle], place: Place, text: &str) -> bool
-    ensures { HoldsOne place needles.now (chars text.now) → IsTrue result }
+/// Returns whether one of the needles is at the anchor.
+fn one_may_be_at(needles: &[Needle], anchor: Anchor, text: &str) -> bool
+    ensures { ContainsOne anchor needles.now (chars text.now) → IsTrue result }
 {
     for needle in needles {
-        if needle.can_stand_at(place, text) {
+        if needle.may_be_at(anchor, text) {
             return true;
         }
     }
@@ -194,15 +197,11 @@ impl Model for Prefilter {
 impl Prefilter {
     /// Collects facts about all texts that the tokens match, one after another. Takes time and
     /// memory linear in the tokens and their literals.
-    ///
-    /// # Errors
-    ///
-    /// Returns `NoMemory` if allocation fails.
     pub fn new<'t>(
         alloc: Global,
         tokens: &[Token<'t, ExpressionMetadata>],
     ) -> Result<Prefilter, NoMemory>
-        ensures { IfOk result (MeantPass (trees tokens.now)) }
+        ensures { IfOk result (MatchesPass (trees tokens.now)) }
     {
         let facts = all_facts(alloc, tokens)?;
         let pairs = fewest_pairs(alloc, &facts)?;

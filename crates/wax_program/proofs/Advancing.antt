@@ -8,9 +8,9 @@ use Rattle.wax_program.specs.declared.instruction.Test.{Test}
 use Rattle.wax_program.specs.declared.instruction.Instruction.{Instruction}
 use Rattle.wax_program.specs.declared.instruction.Instruction.TheVariants.{Check, Repeat, Components, Fork, Jump, Back, End}
 use Rattle.wax_program.specs.Machine.{PassesTest, Moves, AcceptsIn, Accepts}
-use Rattle.wax_bits.specs.Places.{HoldsPlace, IsEmpty, member_count}
+use Rattle.wax_program.specs.Places.{HoldsPlace, IsEmpty, member_count}
 use Rattle.wax_program.specs.Threads.{IsDone, Position, IsReached, Taken, Inserted, InsertedNext, AnyOf, Led, Handled, Followed, Round, Advances, Stays}
-use Rattle.wax_bits.proofs.Members.{members_some}
+use Rattle.wax_program.proofs.Members.{members_some}
 use Rattle.wax_program.proofs.Steps.{after_test, after_last, after_one, after_any, after_slash, after_fork, after_jump, after_back}
 
 -- ---- one place

@@ -3,8 +3,8 @@ use Rattle.std.proofs.Common.{◌≡◌, ◌↔◌, ◌⊎◌, ℕ, zero, suc, �
 use Rattle.std.proofs.lemmas.Bool.{cases_eq, cases_lt}
 use Rattle.std.proofs.lemmas.List.{get_or_past}
 use Rattle.std.proofs.lemmas.Option.{slice_get_within}
-use Rattle.wax_bits.specs.Places.{HoldsPlace, member_count}
-use Rattle.wax_bits.proofs.Members.{added_only, members_set, members_within}
+use Rattle.wax_program.specs.Places.{HoldsPlace, member_count}
+use Rattle.wax_program.proofs.Members.{added_only, members_set, members_within}
 use Rattle.wax_token.specs.Decided.{Decided, both, either, is_true}
 use Rattle.wax_program.specs.declared.instruction.Instruction.{Instruction}
 use Rattle.wax_program.specs.declared.instruction.Instruction.TheVariants.{Check, Repeat, Components, Fork, Jump, Back, End}

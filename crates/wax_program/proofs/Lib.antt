@@ -1,4 +1,5 @@
 pub mod Advancing
+pub mod BitFlags
 pub mod Deciding
 pub mod Finding
 pub mod Folded
@@ -7,10 +8,12 @@ pub mod Leading
 pub mod Lists
 pub mod Marking
 pub mod Marks
+pub mod Members
 pub mod Opens
 pub mod Others
 mod Slashes
-pub mod Taking
-pub mod Tested
 pub mod Staying
 pub mod Steps
+pub mod Taking
+pub mod Tested
+pub mod Words

@@ -1,7 +1,7 @@
 -- PlaceFlags that are added.
 use Rattle.std.proofs.Common.{◌≡◌, ◌⊎◌, ℕ, ◌+◌, ◌*◌, ◌<◌, ◌≤◌, Bool, true, Some, List, [], length, set, slice_get, inl, inr, refl, sym, ◌∙◌, ap, subst, arith}
-use Rattle.wax_bits.specs.Places.{HoldsPlace, Within, member_count}
-use Rattle.wax_bits.proofs.Members.{added_keeps, added_only, has_added, members_set, members_within}
+use Rattle.wax_program.specs.Places.{HoldsPlace, Within, member_count}
+use Rattle.wax_program.proofs.Members.{added_keeps, added_only, has_added, members_set, members_within}
 use Rattle.wax_program.specs.declared.instruction.Instruction.{Instruction}
 use Rattle.wax_program.specs.declared.onward.Ahead.{Ahead}
 use Rattle.wax_program.specs.declared.onward.Ahead.TheVariants.{Rest, Path, Below}

@@ -9,10 +9,10 @@ use Rattle.wax_program.specs.declared.instruction.Instruction.TheVariants.{Check
 use Rattle.wax_program.specs.declared.steady.Steady.{Steady}
 use Rattle.wax_program.specs.declared.steady.Watched.{Watched}
 use Rattle.wax_program.specs.declared.steady.Watched.TheVariants.{Nothing, CheckAt, Unknown}
-use Rattle.wax_bits.specs.Bits.{places_of}
+use Rattle.wax_program.specs.Bits.{places_of}
 use Rattle.wax_program.specs.Machine.{PassesTest, Moves, AcceptsIn}
 use Rattle.wax_program.specs.Steady.{Alike, LedBack, ActsAlike, IsAbsorbing, IsKnown, MissesWatched, Noted, NotedMiss, NotedRepeat}
-use Rattle.wax_bits.specs.Places.{HoldsPlace}
+use Rattle.wax_program.specs.Places.{HoldsPlace}
 use Rattle.wax_program.specs.Threads.{Position, IsDone, IsReached, Taken, Followed, Round, Led, AnyOf, Advances}
 use Rattle.wax_program.proofs.Advancing.{in_range, round_end, was_read}
 

@@ -9,6 +9,6 @@ use Rattle.wax_program.specs.Machine.{PassesTest}
 abbrev pub IsCheckOf : Instruction → ℕ → Bool → Type 0
 IsCheckOf i c passes = (t : Test) × (i ≡ Check t) × (IsTrue passes ↔ PassesTest t c)
 
--- the same of the instruction at a place
+-- this holds of the instruction at a place
 abbrev pub IsCheckAt : List Instruction → ℕ → ℕ → Bool → Type 0
 IsCheckAt code at c passes = (i : Instruction) × (slice_get code at ≡ Some i) × IsCheckOf i c passes

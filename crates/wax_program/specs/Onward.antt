@@ -1,7 +1,7 @@
 -- What may follow from a place of a program on.
 use Rattle.std.specs.Prelude.{◌≡◌, ◌≢◌, ◌↔◌, ℕ, Bool, true, List, ◌∷◌, not, ◌==◌, ◌||◌, if◌then◌else◌}
 use Rattle.unicode.specs.CaseFolding.{simple_fold}
-use Rattle.wax_bits.specs.Places.{HoldsPlace}
+use Rattle.wax_program.specs.Places.{HoldsPlace}
 use Rattle.wax_program.specs.declared.instruction.Instruction.{Instruction}
 use Rattle.wax_program.specs.declared.instruction.Test.{Test}
 use Rattle.wax_program.specs.declared.onward.Ahead.{Ahead}

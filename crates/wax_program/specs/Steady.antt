@@ -9,11 +9,11 @@ use Rattle.wax_program.specs.declared.instruction.Instruction.TheVariants.{Jump,
 use Rattle.wax_program.specs.declared.steady.Steady.{Steady}
 use Rattle.wax_program.specs.declared.steady.Watched.{Watched}
 use Rattle.wax_program.specs.declared.steady.Watched.TheVariants.{Nothing, CheckAt, Unknown}
-use Rattle.wax_bits.specs.Bits.{places_of}
+use Rattle.wax_program.specs.Bits.{places_of}
 use Rattle.wax_program.specs.Machine.{PassesTest, mark}
 use Rattle.wax_program.specs.Threads.{Advances}
 
--- no check that stands at the place takes the character
+-- no check at the place takes the character
 abbrev pub Misses : List Instruction → ℕ → ℕ → Type 0
 Misses code k c = (t : Test) → slice_get code k ≡ Some (Check t) → PassesTest t c → ⊥
 

@@ -1,7 +1,7 @@
 -- Sets of places in a program, as flags.
 use Rattle.std.specs.Prelude.{◌≡◌, ◌≢◌, ℕ, ◌+◌, ◌-◌, ◌<◌, ◌≤◌, ◌*◌, Bool, ◌⊎◌, ◌↔◌, List, [], ◌∷◌}
 use Rattle.std.specs.Prelude.{length, Contains, Some, slice_get}
-use Rattle.wax_bits.specs.Places.{HoldsPlace, Within, member_count}
+use Rattle.wax_program.specs.Places.{HoldsPlace, Within, member_count}
 use Rattle.wax_program.specs.declared.instruction.Instruction.{Instruction}
 use Rattle.wax_program.specs.declared.instruction.Instruction.TheVariants.{Check, Repeat, Components, Fork}
 use Rattle.wax_program.specs.declared.instruction.Instruction.TheVariants.{Jump, Back, End}
@@ -98,7 +98,7 @@ Led (Jump n) c k p = ReachedBelow p (k + 1 + n)
 Led (Back n) c k p = ReachedBelow p (k - n)
 Led (End low high) c k p = (number : ℕ) → c ≢ mark number
 
--- the same for whichever instruction stands at k
+-- the same for whichever instruction is at k
 abbrev pub Handled : List Instruction → ℕ → Position → ℕ → Type 0
 Handled code c p k = (i : Instruction) → slice_get code k ≡ Some i → Led i c k p
 

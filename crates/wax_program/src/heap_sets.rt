@@ -1,12 +1,12 @@
 //! The sets of places of a run, for programs of any length.
 ghost use Rattle.std.specs.Prelude.{◌≡◌, IfOk};
-ghost use Rattle.wax_bits.specs.Places.{IsEmpty};
+ghost use Rattle.wax_program.specs.Places.{IsEmpty};
 
+use crate::bits::Set;
 use crate::sets::Sets;
 use std::alloc::{AllocError, Global};
 use std::marker::Model;
 use std::mem;
-use wax_bits::Set;
 
 /// Three sets, each a list of words. They are allocated once for each run.
 #[derive(Drop)]
@@ -35,10 +35,6 @@ impl Model for HeapSets {
 
 impl HeapSets {
     /// Creates empty sets for a program of `size` instructions.
-    ///
-    /// # Errors
-    ///
-    /// Returns `AllocError` if allocation fails.
     pub fn new(alloc: Global, size: usize) -> Result<HeapSets, AllocError>
         ensures size { IfOk result (λ r. r.size ≡ size) }
         ensures pending { IfOk result (λ r. IsEmpty r.pending) }

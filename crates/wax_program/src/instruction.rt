@@ -46,10 +46,6 @@ impl Model for BoxedClass {
 
 impl BoxedClass {
     /// Copies the class.
-    ///
-    /// # Errors
-    ///
-    /// Returns `AllocError` if allocation fails.
     pub fn copied(alloc: Global, class: &Class) -> Result<BoxedClass, AllocError>
         ensures { IfOk result (λ b. b ≡ class.now) }
     {

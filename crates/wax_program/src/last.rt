@@ -22,10 +22,6 @@ const LANES: usize = 32;
 
 /// Returns whether a program that depends only on the last component of a text accepts the text. Reads
 /// only that component. Takes as many visits as [`run`], where a byte before the component is one.
-///
-/// # Errors
-///
-/// Returns `NoMemory` if allocation fails.
 pub fn run_last(
     alloc: Global,
     program: &CompiledProgram,

@@ -2,7 +2,7 @@
 ghost use Rattle.std.specs.Prelude.{◌≡◌, ◌+◌, ◌*◌, ◌<◌, ◌≤◌, ◌↔◌, IsTrue, IfOk, chars, length, min};
 ghost use Rattle.wax_program.specs.Machine.{Accepts};
 ghost use Rattle.wax_program.specs.Meter.{most_ticks};
-ghost use Rattle.wax_bits.specs.Places.{IsEmpty};
+ghost use Rattle.wax_program.specs.Places.{IsEmpty};
 
 use crate::heap_sets::HeapSets;
 use crate::machine::{CompiledProgram, Meter};
@@ -19,10 +19,6 @@ use wax_query::diagnostics::NoMemory;
 /// Reads at most `program.len()` instructions for each character, and as many at the end; the meter
 /// counts each of them. Stops once the rest of the text can't change the result. Allocates three
 /// bits for each instruction at the start, and nothing for a program of fewer than 64 instructions.
-///
-/// # Errors
-///
-/// Returns `NoMemory` if allocation fails.
 pub fn run(
     alloc: Global,
     program: &CompiledProgram,

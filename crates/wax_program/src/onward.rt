@@ -2,18 +2,18 @@
 ghost use Rattle.std.specs.Prelude.{◌≡◌, ◌+◌, ◌*◌, ◌<◌, ◌≤◌, ◌↔◌, ℕ, IfOk, IsFalse, IsTrue, chars, length};
 ghost use Rattle.wax_program.specs.Machine.{PassesTest};
 ghost use Rattle.wax_program.specs.Onward.{AreFlagsOf, TakesOther, ahead_of, flags_for};
-ghost use Rattle.wax_bits.specs.Places.{HoldsPlace};
+ghost use Rattle.wax_program.specs.Places.{HoldsPlace};
 ghost use Rattle.wax_program.specs.declared.instruction.Instruction.TheVariants.{Components};
 ghost use Rattle.wax_program.specs.inner.Leads.{AreSound, Gains, Holds, HoldsAfter, IsClosedAt, IsClosedFor};
 ghost use Rattle.wax_program.specs.inner.Leads.{HaveRoom, LeadsAt, LeadsBy, LeadsOn, Marks, flag_count};
 ghost use Rattle.wax_program.specs.inner.Leads.{TakesMark, onward_by_other, onward_by_slash};
 
+use crate::bits::Set;
 use crate::instruction::{Instruction, Test};
 use crate::last::last_name;
 use crate::machine::{CompiledProgram, Meter, Visits};
 use std::alloc::{AllocError, Global};
 use std::marker::Model;
-use wax_bits::Set;
 
 /// What a text is that is still to come. A plain path is one or more names with a `/` between each
 /// two, which aren't empty.
@@ -96,10 +96,6 @@ impl Model for Onward {
 
 impl Onward {
     /// Finds these places of a program: goes through it from its end until no place is added.
-    ///
-    /// # Errors
-    ///
-    /// Returns `AllocError` if allocation fails.
     pub fn new(
         alloc: Global,
         program: &CompiledProgram,

@@ -1,11 +1,11 @@
 //! The sets of places of a run, for programs of fewer than 64 instructions.
 ghost use Rattle.std.specs.Prelude.{◌≡◌, ◌<◌};
-ghost use Rattle.wax_bits.specs.Places.{IsEmpty};
+ghost use Rattle.wax_program.specs.Places.{IsEmpty};
 
+use crate::bits::Word;
 use crate::sets::Sets;
 use std::marker::Model;
 use std::mem;
-use wax_bits::Word;
 
 /// Three sets of one word each. They don't allocate.
 #[derive(Drop)]

@@ -2,7 +2,9 @@ pub mod Below
 pub mod Components
 pub mod Labels
 pub mod Lending
+pub mod Matched
 pub mod Outcome
+pub mod Parts
 pub mod Ranges
 pub mod Spans
 pub mod Variances

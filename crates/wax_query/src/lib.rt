@@ -3,4 +3,5 @@
 #![tactic(auto)]
 
 pub mod diagnostics;
+pub mod matching;
 pub mod query;

@@ -5,9 +5,9 @@ use Rattle.std.proofs.lemmas.List.{take-append-drop, drop-append-le, length-drop
 use Rattle.std.proofs.Math.Seq.{drop-append_seam, take-append_seam, take-add, drop-drop}
 use Rattle.std.specs.List.{flat_map}
 use Rattle.std.specs.Option.{option_or}
-use Rattle.wax_break.specs.declared.Side.{Side}
-use Rattle.wax_break.specs.Rules.{broken, size_breaks}
-use Rattle.wax_break.specs.Situated.{Situated, end_side, breadth_first}
+use Rattle.wax_facts.specs.declared.rules.Side.{Side}
+use Rattle.wax_facts.specs.Rules.{broken, size_breaks}
+use Rattle.wax_facts.specs.Situated.{Situated, end_side, breadth_first}
 use Rattle.wax_rule.proofs.Firsts.{head_of_append}
 use Rattle.wax_rule.proofs.Levels.{all_levels-step, first_row}
 use Rattle.wax_rule.specs.declared.rule.Rule.{Rule}

@@ -2,10 +2,10 @@
 use Rattle.std.proofs.Common.{◌≡◌, ℕ, false, List, [], ◌∷◌, Option, Some, None, refl, codes}
 use Rattle.wax_query.specs.declared.diagnostics.located.CorrelatedSpan.{CorrelatedSpan}
 use Rattle.wax_query.specs.declared.diagnostics.located.CorrelatedSpan.TheVariants.{Contiguous, Split}
-use Rattle.wax_break.specs.declared.Break.{Break}
-use Rattle.wax_break.specs.declared.RuleErrorKind.{RuleErrorKind}
-use Rattle.wax_break.specs.declared.RuleErrorKind.TheVariants.{AdjacentBoundary, IncompatibleBounds, SingularTree, AdjacentZeroOrMore, RootedSubGlob, SingularZeroOrMore, OversizedInvariant}
-use Rattle.wax_break.specs.Rules.{broken, break_here}
+use Rattle.wax_facts.specs.declared.rules.Break.{Break}
+use Rattle.wax_facts.specs.declared.rules.RuleErrorKind.{RuleErrorKind}
+use Rattle.wax_facts.specs.declared.rules.RuleErrorKind.TheVariants.{AdjacentBoundary, IncompatibleBounds, SingularTree, AdjacentZeroOrMore, RootedSubGlob, SingularZeroOrMore, OversizedInvariant}
+use Rattle.wax_facts.specs.Rules.{broken, break_here}
 use Rattle.wax_rule.specs.FirstBreak.{head_of}
 use Rattle.wax_token.specs.declared.token.Evaluation.TheVariants.{Eager}
 use Rattle.wax_token.specs.Reads.{Span}

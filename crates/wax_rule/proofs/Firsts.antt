@@ -3,13 +3,13 @@ use Rattle.std.proofs.Common.{◌≡◌, ℕ, ◌+◌, ◌<◌, drop, get_or, Li
 use Rattle.std.proofs.lemmas.List.{drop_more}
 use Rattle.std.specs.Option.{option_or}
 use Rattle.std.specs.List.{flat_map}
-use Rattle.wax_break.specs.declared.Break.{Break}
+use Rattle.wax_facts.specs.declared.rules.Break.{Break}
 use Rattle.wax_rule.specs.FirstBreak.{head_of, shape_breaks, breaks_of, oversized_among}
 use Rattle.wax_rule.specs.declared.rule.Rule.TheVariants.{Boundary, Bounds, Branch}
-use Rattle.wax_break.specs.declared.Sort.TheVariants.{Alternation}
-use Rattle.wax_break.specs.declared.Side.{Side}
-use Rattle.wax_break.specs.Rules.{alternative_breaks, size_breaks, sub_glob_breaks}
-use Rattle.wax_break.specs.Situated.{Situated}
+use Rattle.wax_facts.specs.declared.rules.Sort.TheVariants.{Alternation}
+use Rattle.wax_facts.specs.declared.rules.Side.{Side}
+use Rattle.wax_facts.specs.Rules.{alternative_breaks, size_breaks, sub_glob_breaks}
+use Rattle.wax_facts.specs.Situated.{Situated}
 use Rattle.wax_token.specs.Reads.{Span}
 use Rattle.wax_token.specs.Syntax.{Tree}
 use Rattle.wax_token.specs.Words.{trees}

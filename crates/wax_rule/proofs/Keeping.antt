@@ -2,7 +2,7 @@
 use Rattle.std.proofs.Common.{None, List, [], refl, subst, sym, ◌++◌, ◌∷◌, ◌≡◌, inl, inr}
 use Rattle.std.proofs.lemmas.List.Elements.{Contains-push_cases}
 use Rattle.std.specs.List.{Contains}
-use Rattle.wax_break.specs.declared.Break.{Break}
+use Rattle.wax_facts.specs.declared.rules.Break.{Break}
 use Rattle.wax_rule.specs.FirstBreak.{head_of}
 use Rattle.wax_rule.specs.Keeping.{KeepsRules}
 use Rattle.wax_token.specs.Reads.{Span}

@@ -2,9 +2,9 @@
 use Rattle.std.proofs.Common.{◌≡◌, ◌<◌, List, [], ◌∷◌, ◌++◌, length, Option, Some, None, refl, sym, ◌∙◌, ap, arith, append-nil, append_assoc}
 use Rattle.std.specs.List.{flat_map}
 use Rattle.wax_rule.specs.inner.Queue.{branches, siblings, children, children_between, all_levels}
-use Rattle.wax_alternatives.specs.Alternatives.{beside}
-use Rattle.wax_break.specs.Situated.{Situated, end_side, right_of, situated_levels, branch_levels, member_levels, breadth_first}
-use Rattle.wax_break.specs.declared.Side.{Side}
+use Rattle.wax_facts.specs.Alternatives.{beside}
+use Rattle.wax_facts.specs.Situated.{Situated, end_side, right_of, situated_levels, branch_levels, member_levels, breadth_first}
+use Rattle.wax_facts.specs.declared.rules.Side.{Side}
 use Rattle.wax_token.specs.Reads.{Span}
 use Rattle.wax_token.specs.Syntax.{Tree, leaf, alternation, concatenation, repetition, Trees, none, more}
 

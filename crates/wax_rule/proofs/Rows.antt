@@ -2,7 +2,7 @@
 use Rattle.std.proofs.Common.{◌≡◌, ℕ, zero, suc, ◌-◌, ◌<◌, Bool, false, List, [], ◌∷◌, length, Some, slice_get, arith, ap, subst}
 use Rattle.wax_token.specs.Reads.{Span}
 use Rattle.wax_token.specs.Syntax.{Leaf, Tree, concatenation, tree_size, trees_size}
-use Rattle.wax_break.specs.Situated.{ends_in, last_ends_in, starts_with_leaf}
+use Rattle.wax_facts.specs.Situated.{ends_in, last_ends_in, starts_with_leaf}
 use Rattle.wax_rule.specs.declared.rule.situated.End.{End}
 use Rattle.wax_rule.specs.declared.rule.situated.End.TheVariants.{Start, Finish}
 use Rattle.wax_rule.specs.inner.Queue.{IsOutermost, is_found_at}

@@ -2,10 +2,10 @@
 use Rattle.std.proofs.Common.{◌≡◌, suc, ◌-◌, Bool, true, false, nat_lt, List, [], ◌∷◌, ◌++◌, length, Option, Some, slice_get, refl, sym, ◌∙◌, arith, ap, subst, if◌then◌else◌}
 use Rattle.std.proofs.lemmas.Bool.{lt-ltb}
 use Rattle.std.specs.Option.{option_or}
-use Rattle.wax_break.specs.Rules.{terminal_of, shared_rows, own_rows, rows_of, first_that_holds, last_of, are_some}
-use Rattle.wax_break.specs.declared.Side.{Side}
-use Rattle.wax_break.specs.declared.Row.{Row}
-use Rattle.wax_break.specs.declared.Sort.{Sort}
+use Rattle.wax_facts.specs.Rules.{terminal_of, shared_rows, own_rows, rows_of, first_that_holds, last_of, are_some}
+use Rattle.wax_facts.specs.declared.rules.Side.{Side}
+use Rattle.wax_facts.specs.declared.rules.Row.{Row}
+use Rattle.wax_facts.specs.declared.rules.Sort.{Sort}
 use Rattle.wax_token.specs.Reads.{Span}
 use Rattle.wax_token.specs.Syntax.{Tree}
 use Rattle.wax_token.specs.Words.{trees}

@@ -1,13 +1,13 @@
 -- The error that answers a list of breaks.
 use Rattle.std.specs.Prelude.{◌≡◌, ℕ, List, [], ◌∷◌, ◌++◌, Option, Some, None}
 use Rattle.wax_query.specs.Labels.{Composite}
-use Rattle.wax_break.specs.declared.Break.{Break}
-use Rattle.wax_break.specs.declared.RuleErrorKind.{RuleErrorKind}
+use Rattle.wax_facts.specs.declared.rules.Break.{Break}
+use Rattle.wax_facts.specs.declared.rules.RuleErrorKind.{RuleErrorKind}
 use Rattle.std.specs.List.{flat_map}
 use Rattle.wax_rule.specs.declared.rule.Rule.{Rule}
 use Rattle.wax_rule.specs.declared.rule.Rule.TheVariants.{Boundary, Bounds, Branch}
-use Rattle.wax_break.specs.Situated.{Situated}
-use Rattle.wax_break.specs.Rules.{boundary_breaks, bounds_breaks, branch_breaks, size_breaks}
+use Rattle.wax_facts.specs.Situated.{Situated}
+use Rattle.wax_facts.specs.Rules.{boundary_breaks, bounds_breaks, branch_breaks, size_breaks}
 use Rattle.wax_token.specs.Reads.{Span}
 use Rattle.wax_token.specs.Syntax.{Tree, leaf, alternation, concatenation, repetition, Trees, none, more}
 
@@ -17,7 +17,7 @@ pub record ErrorView : Type 0 where
   pub location : Composite
   pub expression : List ℕ
 
--- the error tells the first of the breaks
+-- the error is the first of the breaks
 abbrev pub TellsFirst : List Break → ErrorView → Type 0
 TellsFirst [] e = ⊥
 TellsFirst (b ∷ bs) e = (e.kind ≡ b.kind) × (e.location ≡ b.location)

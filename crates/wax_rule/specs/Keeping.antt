@@ -1,8 +1,8 @@
 -- What it means that a token keeps the rules.
 use Rattle.std.specs.Prelude.{◌≡◌, ℕ, List, []}
 use Rattle.std.specs.List.{Contains}
-use Rattle.wax_alternatives.specs.Alternatives.{alternatives}
-use Rattle.wax_break.specs.Rules.{broken}
+use Rattle.wax_facts.specs.Alternatives.{alternatives}
+use Rattle.wax_facts.specs.Rules.{broken}
 use Rattle.wax_facts.specs.Orderly.{Flat}
 use Rattle.wax_facts.specs.Prefix.{Prefix}
 use Rattle.wax_facts.specs.Rest.{left}

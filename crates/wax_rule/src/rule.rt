@@ -5,8 +5,8 @@ ghost use Rattle.std.specs.List.{flat_map};
 ghost use Rattle.std.specs.Option.{option_or};
 ghost use Rattle.wax_token.specs.Words.{trees};
 ghost use Rattle.wax_query.specs.Outcome.{MatchBuild};
-ghost use Rattle.wax_break.specs.Situated.{breadth_first};
-ghost use Rattle.wax_break.specs.Rules.{broken, break_here, size_breaks};
+ghost use Rattle.wax_facts.specs.Situated.{breadth_first};
+ghost use Rattle.wax_facts.specs.Rules.{broken, break_here, size_breaks};
 ghost use Rattle.wax_rule.specs.FirstBreak.{TellsFirst, head_of, breaks_of, shape_breaks};
 ghost use Rattle.wax_rule.specs.FirstBreak.{oversized_among, oversized_in, oversized_inside};
 ghost use Rattle.wax_rule.specs.Keeping.{KeepsRules};
@@ -29,8 +29,8 @@ use std::alloc::{AllocError, Global};
 use std::borrow::CowStr;
 use std::fmt::{self, Display, Formatter};
 use std::marker::Model;
-use wax_break::Break;
-pub use wax_break::RuleErrorKind;
+use wax_facts::Break;
+pub use wax_facts::RuleErrorKind;
 use wax_query::diagnostics::{CompositeSpan, NoMemory, Refusal, Span};
 use wax_token::token::{BranchKind, ExpressionMetadata, Token, Tokenized, Topology};
 
@@ -91,10 +91,6 @@ impl<'t> RuleError<'t> {
     }
 
     /// Converts the error to one that owns its expression. Copies the expression if it is borrowed.
-    ///
-    /// # Errors
-    ///
-    /// Returns `NoMemory` if allocation fails.
     pub fn into_owned(self, alloc: Global) -> Result<RuleError<'static>, NoMemory>
         ensures { IfOk result (λ e. e ≡ self.entry) }
     {

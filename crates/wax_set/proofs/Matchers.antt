@@ -1,7 +1,7 @@
 -- What is true of the same texts is the same.
 use Rattle.std.proofs.Common.{◌≡◌, ◌↔◌, ℕ, Bool, true, false, IsTrue, IfOk, List, Result, refl, subst}
 use Rattle.std.proofs.lemmas.Result.{IfOk-weaker}
-use Rattle.wax_compiled.specs.Below.{MeansBelow, goes_test, goes_tested}
+use Rattle.wax_prefilter.specs.Below.{MeansBelow, goes_test, goes_tested}
 use Rattle.wax_lazy.proofs.Walking.{decides_by}
 use Rattle.wax_lazy.specs.Verdict.{AcceptsBelow, IsVerdict}
 use Rattle.wax_program.specs.Machine.{Accepts}

@@ -7,10 +7,10 @@ use Rattle.wax_token.specs.Reads.{Reads, Span}
 use Rattle.wax_token.specs.Syntax.{Tree, alternation}
 use Rattle.wax_token.specs.Words.{trees}
 use Rattle.wax_set.specs.Sets.{BranchMeans, MeansAt, MeansText}
-use Rattle.wax_error.specs.Expressions.{Spells}
+use Rattle.wax_set.specs.Expressions.{Spells}
 use Rattle.wax_set.specs.Patterns.{AreOversized, IsAnyOf, IsFirstRefused, IsOnly, NoSet, NumberMeans, OneMeans, SpellEach}
-use Rattle.wax_error.specs.declared.build_error.BuildError.{BuildError}
-use Rattle.wax_error.specs.declared.build_error.BuildError.TheVariants.{Parse, Rule, Compile, Memory}
+use Rattle.wax_set.specs.declared.error.build_error.BuildError.{BuildError}
+use Rattle.wax_set.specs.declared.error.build_error.BuildError.TheVariants.{Parse, Rule, Compile, Memory}
 
 module _ {P : Type 0} (S : P → Tree Span → Type 0) where
   -- one branch means what the tree of its pattern does

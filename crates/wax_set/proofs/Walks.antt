@@ -1,11 +1,11 @@
 -- What is to come of the walk of a set.
 use Rattle.std.proofs.Common.{◌≡◌, ℕ, Bool, false, List, [], subst}
-use Rattle.wax_compiled.specs.Below.{goes_test}
+use Rattle.wax_prefilter.specs.Below.{goes_test}
 use Rattle.wax_directory.specs.Law.{Law}
 use Rattle.wax_exclude.proofs.BeginsLeast.{begins_least, tree_decides}
 use Rattle.wax_exclude.specs.BeginsRequest.{BeginsRequest, origin_from, request_from, within}
 use Rattle.wax_exclude.specs.Pruned.{by_matches}
-use Rattle.wax_glob_walk.specs.Programs.{matches_below, matches_from}
+use Rattle.wax_tree.specs.Programs.{matches_below, matches_from}
 use Rattle.wax_query.specs.Ranges.{Bounds}
 use Rattle.wax_token.specs.Reads.{Span}
 use Rattle.wax_token.specs.Syntax.{Tree}

@@ -1,3 +1,9 @@
-pub mod Sets
+pub mod Drawn
+pub mod Expressions
+pub mod Locations
+pub mod Numbers
 pub mod Patterns
+pub mod PictureLines
+pub mod Refusals
+pub mod Sets
 pub mod Walks

@@ -6,12 +6,12 @@ use Rattle.wax_token.specs.Reads.{Span}
 use Rattle.wax_token.specs.Syntax.{Tree, alternation}
 use Rattle.wax_token.specs.Words.{trees}
 use Rattle.wax_set.specs.Sets.{MeansAt, MeansText}
-use Rattle.wax_error.specs.declared.build_error.BuildError.{BuildError}
-use Rattle.wax_error.specs.declared.build_error.BuildError.TheVariants.{Parse, Rule, Compile, Memory}
+use Rattle.wax_set.specs.declared.error.build_error.BuildError.{BuildError}
+use Rattle.wax_set.specs.declared.error.build_error.BuildError.TheVariants.{Parse, Rule, Compile, Memory}
 
 -- ---- single patterns
 
--- want of memory alone
+-- memory ran out, and nothing else
 abbrev pub LacksMemory : BuildError → Type 0
 LacksMemory error = error ≡ Memory
 
@@ -63,7 +63,7 @@ pub record AreOversized {P : Type 0} (SpellsTree : P → Tree Span → Type 0) (
   pub each : SpellEach SpellsTree patterns branches
   pub oversized : 1048576 < program_length (alternation (0, 0) (trees branches))
 
--- The pattern is refused so, and each one before it spells a tree.
+-- This is the error of the pattern, and each one before it spells a tree.
 pub record IsFirstRefused {P : Type 0} (SpellsTree : P → Tree Span → Type 0)
     (RefusesAs : P → BuildError → Type 0) (patterns : List P) (error : BuildError) : Type 0 where
   pub before : List P
@@ -74,14 +74,14 @@ pub record IsFirstRefused {P : Type 0} (SpellsTree : P → Tree Span → Type 0)
   pub after : List P
   pub all : patterns ≡ before ++ pattern ∷ after
 
--- why nothing is built: it is refused, or would cost too much; nothing is said where memory was refused
+-- why nothing is built: it has an error, or would cost too much; if memory ran out, nothing is claimed
 abbrev pub WhyNotBuilt : (BuildError → Type 0) → Type 0 → BuildError → Type 0
 WhyNotBuilt RefusedAs Oversized (Parse place) = RefusedAs (Parse place)
 WhyNotBuilt RefusedAs Oversized (Rule error) = RefusedAs (Rule error)
 WhyNotBuilt RefusedAs Oversized (Compile error) = RefusedAs (Compile error) ⊎ Oversized
 WhyNotBuilt RefusedAs Oversized Memory = ⊤
 
--- why there is no set of the patterns: the first that is refused, or the cost of all
+-- why there is no set of the patterns: the first that has an error, or the cost of all
 abbrev pub NoSet : {P : Type 0} → (P → Tree Span → Type 0) → (P → BuildError → Type 0) → List P
     → BuildError → Type 0
 NoSet SpellsTree RefusesAs patterns =

@@ -2,7 +2,7 @@
 use Rattle.std.specs.Prelude.{◌≡◌, ◌↔◌, ◌++◌, ℕ, zero, suc, false, Contains, List, [], ◌∷◌}
 use Rattle.std.specs.List.Sorted.{IsStrictlyIncreasing}
 use Rattle.std.specs.Coded.{Coded, coded×, coded_ℕ}
-use Rattle.wax_compiled.specs.Compiled.{Instructions, IsCompiled}
+use Rattle.wax_prefilter.specs.Compiled.{Instructions, IsCompiled}
 use Rattle.wax_program.specs.Closed.{IsClosed}
 use Rattle.wax_program.specs.Machine.{Accepts, mark}
 use Rattle.wax_program.specs.declared.instruction.Instruction.{Instruction}

@@ -22,7 +22,7 @@ pub record SetBeginning (t : Tree Span) : Type 0 where
   pub names : List (List ℕ)
   pub names_are : IsCommonPrefix branches rooted names
 
--- what the set wants, less what these filters leave out
+-- what the set wants, without what these filters exclude
 abbrev pub set_wants : {t : Tree Span} → SetBeginning t → List (Filter Span) → Wanted Span
 set_wants {t} b filters = record { rooted = b.rooted; glob = t; filters = filters }
 

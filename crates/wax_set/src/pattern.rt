@@ -2,14 +2,14 @@
 ghost use Rattle.std.specs.Prelude.{◌≡◌, ◌++◌, ◌∷◌, [], IfOk, MatchResult, OnOk, chars};
 ghost use Rattle.wax_token.specs.Reads.{Span};
 ghost use Rattle.wax_token.specs.Syntax.{Tree};
-ghost use Rattle.wax_error.specs.Expressions.{Refuses, Spells};
+ghost use Rattle.wax_set.specs.Expressions.{Refuses, Spells};
 ghost use Rattle.wax_set.specs.Patterns.{IsAnyOf, IsOnly, LacksMemory, NoSet, RefusesOk};
 ghost use Rattle.wax_set.specs.Patterns.{SpellEach, SpellsOk};
-ghost use Rattle.wax_error.specs.declared.build_error.BuildError.{BuildError};
+ghost use Rattle.wax_set.specs.declared.error.build_error.BuildError.{BuildError};
 
+use crate::error::{BuildError, parse_and_check};
 use crate::set::{Any, compiled};
 use std::alloc::Global;
-use wax_error::{BuildError, parse_and_check};
 use wax_query::diagnostics::{NoMemory, Refusal};
 use wax_rule::rule::Checked;
 use wax_token::token::{ExpressionMetadata, Token, Tokenized};

@@ -4,8 +4,8 @@ ghost use Rattle.std.specs.Prelude.{[], IfOk, IfSome, MatchOption, Some, codes, 
 ghost use Rattle.wax_program.specs.Closed.{IsClosed};
 ghost use Rattle.wax_program.specs.Machine.{Accepts, mark};
 ghost use Rattle.wax_program.specs.Meter.{most_ticks};
-ghost use Rattle.wax_candidate.specs.Parts.{NoLineEndsBefore};
-ghost use Rattle.wax_compiled.specs.Below.{MeansBelow, goes_test};
+ghost use Rattle.wax_query.specs.Parts.{NoLineEndsBefore};
+ghost use Rattle.wax_prefilter.specs.Below.{MeansBelow, goes_test};
 ghost use Rattle.wax_components.specs.Depth.{Depth};
 ghost use Rattle.wax_facts.specs.Exhaustive.{exhaustive};
 ghost use Rattle.wax_facts.specs.InvariantText.{Text, Variant};
@@ -25,6 +25,7 @@ ghost use Rattle.wax_set.specs.Patterns.{LacksMemory};
 mod matcher;
 mod walking;
 
+use crate::error::BuildError;
 use crate::pattern::Pattern;
 pub use matcher::AnyMatcher;
 use std::alloc::Global;
@@ -32,16 +33,15 @@ use std::borrow::CowStr;
 use std::fmt;
 use std::marker::Model;
 pub use walking::SetWalk;
-use wax_candidate::{CandidatePath, MatchedText, Program};
 use wax_compare::Compared;
-use wax_compiled::CompiledTokens;
 use wax_components::depth;
-use wax_error::BuildError;
 use wax_facts::{has_root, is_exhaustive, text};
 use wax_lazy::{HasProgram, list_numbers};
 use wax_match::encode;
 use wax_match::encode::{CompileError, CompiledProgram, Meter, Numbered};
+use wax_prefilter::CompiledTokens;
 use wax_query::diagnostics::{NoMemory, Refusal};
+use wax_query::matching::{CandidatePath, MatchedText, Program};
 use wax_query::query::{DepthVariance, TextVariance, Variance, When};
 use wax_rule::rule::Checked;
 use wax_token::token::{BranchKind, ExpressionMetadata, Token};
@@ -138,10 +138,6 @@ impl Any<'_> {
     /// of instructions that the set's program visits: at most its length for each character and once
     /// more at the end. If the path matches, it is at least the number of characters. Most paths that
     /// don't match are rejected before the program is run, and move the meter by nothing.
-    ///
-    /// # Errors
-    ///
-    /// Returns `NoMemory` if allocation fails.
     pub fn is_match_metered(
         &self,
         alloc: Global,
@@ -168,10 +164,6 @@ impl Any<'_> {
     /// let path = CandidatePath::from("src/test.rs");
     /// println!(rt; "{:?}", owners.matches(alloc, &path)?)?; // [0, 2]
     /// ```
-    ///
-    /// # Errors
-    ///
-    /// Returns `NoMemory` if allocation fails.
     pub fn matches(&self, alloc: Global, path: &CandidatePath<'_>) -> Result<Vec<usize>, NoMemory>
         ensures { IfOk result (λ indexes. AreMatches self.now path.now indexes.items) }
     {
@@ -186,10 +178,6 @@ impl Any<'_> {
     /// patterns matches the path of something below it. Takes time linear in the set's program, and as
     /// much again for each of the loops that lie within one another. For many folders
     /// `AnyMatcher::goes_on` is faster.
-    ///
-    /// # Errors
-    ///
-    /// Returns `NoMemory` if allocation fails.
     pub fn goes_on(&self, alloc: Global, path: &CandidatePath<'_>) -> Result<bool, NoMemory>
         ensures { IfOk result (λ answer. IsTrue answer ↔ MeansBelow self.now path.now) }
     {
@@ -278,10 +266,6 @@ impl Program for Any<'_> {
 
     /// Returns the only text that can match, if every branch is written as this text; the empty
     /// text if there is no branch.
-    ///
-    /// # Errors
-    ///
-    /// Returns `NoMemory` if allocation fails.
     fn text(&self, alloc: Global) -> Result<TextVariance<'static>, NoMemory>
         ensures exact { IfOk result (λ text. MatchOption (text_of text) (Variant self.now) (λ t.
             Text self.now (chars t))) }

@@ -7,14 +7,13 @@ use Rattle.wax_program.specs.declared.instruction.Instruction.{Instruction}
 
 -- ---- where a cell leads
 pub leads_on : (code : List Instruction) (states : List State) (place : List ℕ) (c cell : ℕ) → IsTransition code states place c cell
-    → 3 ≤ cell → LeadsTo code states place c ((cell - 3) * 128)
+    → 3 ≤ cell → LeadsTo code states place c (cell - 3)
 leads_on code states place c cell (inl e) h = absurd (omega (arith, e, h))
 leads_on code states place c cell (inr (inl d)) h = absurd (let e : cell ≡ 1 = d.0 in omega (arith, e, h))
 leads_on code states place c cell (inr (inr (inl t))) h = absurd (let e : cell ≡ 2 = t.0 in omega (arith, e, h))
 leads_on code states place c cell (inr (inr (inr l))) h =
-    let e : cell ≡ l.0 / 128 + 3 = l.1 in
-    let whole : l.0 % 128 ≡ 0 = l.2.placed.whole in
-    let same : l.0 ≡ (cell - 3) * 128 = omega (arith, e, whole) in
+    let e : cell ≡ l.0 + 3 = l.1 in
+    let same : l.0 ≡ cell - 3 = omega (arith, e) in
     subst (LeadsTo code states place c) same l.2
 
 pub leads_nowhere : (code : List Instruction) (states : List State) (place : List ℕ) (c cell : ℕ) → IsTransition code states place c cell
@@ -22,14 +21,14 @@ pub leads_nowhere : (code : List Instruction) (states : List State) (place : Lis
 leads_nowhere code states place c cell (inl e) h = absurd (omega (arith, e, h))
 leads_nowhere code states place c cell (inr (inl d)) h = d.1
 leads_nowhere code states place c cell (inr (inr (inl t))) h = absurd (let e : cell ≡ 2 = t.0 in omega (arith, e, h))
-leads_nowhere code states place c cell (inr (inr (inr l))) h = absurd (let e : cell ≡ l.0 / 128 + 3 = l.1 in omega (arith, e, h))
+leads_nowhere code states place c cell (inr (inr (inr l))) h = absurd (let e : cell ≡ l.0 + 3 = l.1 in omega (arith, e, h))
 
 pub leads_everywhere : (code : List Instruction) (states : List State) (place : List ℕ) (c cell : ℕ) → IsTransition code states place c cell
     → cell ≡ 2 → TakesAll code place c
 leads_everywhere code states place c cell (inl e) h = absurd (omega (arith, e, h))
 leads_everywhere code states place c cell (inr (inl d)) h = absurd (let e : cell ≡ 1 = d.0 in omega (arith, e, h))
 leads_everywhere code states place c cell (inr (inr (inl t))) h = t.1
-leads_everywhere code states place c cell (inr (inr (inr l))) h = absurd (let e : cell ≡ l.0 / 128 + 3 = l.1 in omega (arith, e, h))
+leads_everywhere code states place c cell (inr (inr (inr l))) h = absurd (let e : cell ≡ l.0 + 3 = l.1 in omega (arith, e, h))
 
 -- ---- empty cells
 some_cell : {w v : WideCell} → Some w ≡ Some v → w ≡ v

@@ -18,10 +18,10 @@ places_in None = []
 abbrev pub places_at : List State → ℕ → List ℕ
 places_at states t = places_in (slice_get states t)
 
--- the places of the state whose cells begin at `at`, if there is one
-abbrev pub places_led : List State → Option ℕ → List ℕ
-places_led states (Some at) = places_at states (at / 128)
-places_led states None = []
+-- the places of a state, if there is one
+abbrev pub places_or_none : List State → Option ℕ → List ℕ
+places_or_none states (Some t) = places_at states t
+places_or_none states None = []
 
 -- some of the places accept a text that begins with the character exactly where some of the others accept
 -- the rest
@@ -31,22 +31,21 @@ LeadOn code c places others = (s : List ℕ) → AnyAmong code places (c ∷ s) 
 -- the same state, with what is said of the texts that end there
 abbrev pub with_said : State → Option Bool → Option (Vec ℕ) → State
 with_said s accepts numbers =
-    record { places = s.places; own = s.own; rest = s.rest; accepts = accepts; numbers = numbers }
+    record { places = s.places; own = s.own; failure = s.failure; accepts = accepts; numbers = numbers }
 
 -- the state with this number says now what these functions of it say of the texts that end there
 abbrev pub IsSettled : List State → List State → ℕ → (State → Option Bool) → (State → Option (Vec ℕ)) → Type 0
 IsSettled old new t accepts numbers = (s : State) × (slice_get old t ≡ Some s)
     × (new ≡ slice_set old t (with_said s (accepts s) (numbers s)))
 
--- a state's cells begin at the place
-pub record IsStatePlace (states : List State) (at : ℕ) : Type 0 where
-  pub whole : at % 128 ≡ 0
-  pub kept : at / 128 < length states
+-- there is a state with this number
+abbrev pub HasState : List State → ℕ → Type 0
+HasState states t = t < length states
 
--- from the places the character leads to the state whose cells begin at `at`
-pub record LeadsTo (code : List Instruction) (states : List State) (places : List ℕ) (c at : ℕ) : Type 0 where
-  pub placed : IsStatePlace states at
-  pub leads : LeadOn code c places (places_at states (at / 128))
+-- from the places the character leads to the state with this number
+pub record LeadsTo (code : List Instruction) (states : List State) (places : List ℕ) (c t : ℕ) : Type 0 where
+  pub has_state : HasState states t
+  pub leads : LeadOn code c places (places_at states t)
 
 -- from the places no text is accepted that begins with the character
 abbrev pub IsDead : List Instruction → List ℕ → ℕ → Type 0
@@ -56,21 +55,21 @@ IsDead code places c = (s : List ℕ) → AnyAmong code places (c ∷ s) → ⊥
 abbrev pub TakesAll : List Instruction → List ℕ → ℕ → Type 0
 TakesAll code places c = (s : List ℕ) → AnyAmong code places (c ∷ s)
 
--- where the cells of the next state begin, if there is one
-abbrev pub led_of : Next → Option ℕ
-led_of (To at) = Some at
-led_of Nothing = None
-led_of Everything = None
+-- the next state, if there is one
+abbrev pub state_of : Next → Option ℕ
+state_of (To t) = Some t
+state_of Nothing = None
+state_of Everything = None
 
 -- the cell of a character that leads there
 abbrev pub cell_of_next : Next → ℕ
-cell_of_next (To at) = at / 128 + 3
+cell_of_next (To t) = t + 3
 cell_of_next Nothing = 1
 cell_of_next Everything = 2
 
 -- where the character leads from the places, or that the rest of the text doesn't matter
 abbrev pub LeadsNext : List Instruction → List State → List ℕ → ℕ → Next → Type 0
-LeadsNext code states places c (To at) = LeadsTo code states places c at
+LeadsNext code states places c (To t) = LeadsTo code states places c t
 LeadsNext code states places c Nothing = IsDead code places c
 LeadsNext code states places c Everything = TakesAll code places c
 
@@ -78,22 +77,21 @@ LeadsNext code states places c Everything = TakesAll code places c
 abbrev pub IsTransition : List Instruction → List State → List ℕ → ℕ → ℕ → Type 0
 IsTransition code states places c cell =
     (cell ≡ 0) ⊎ (((cell ≡ 1) × IsDead code places c) ⊎ (((cell ≡ 2) × TakesAll code places c)
-    ⊎ ((at : ℕ) × (cell ≡ at / 128 + 3) × LeadsTo code states places c at)))
+    ⊎ ((t : ℕ) × (cell ≡ t + 3) × LeadsTo code states places c t)))
 
 -- each cell of a character past ASCII is empty
 abbrev pub AreEmpty : List WideCell → Type 0
 AreEmpty ws = (i : ℕ) (w : WideCell) → slice_get ws i ≡ Some w → w.cell ≡ 0
 
--- this is the cell of the character in the state whose cells begin at `at`
+-- this is the cell of the character in the state
 abbrev pub IsWideOf : ℕ → ℕ → ℕ → WideCell → Type 0
-IsWideOf at c cell w = (w.at ≡ at) × (w.character ≡ c) × (w.cell ≡ cell)
+IsWideOf t c cell w = (w.state ≡ t) × (w.character ≡ c) × (w.cell ≡ cell)
 
--- the cell of the character in the state whose cells begin at `at` is among them
+-- the cell of the character in the state is among them
 abbrev pub HasWide : List WideCell → ℕ → ℕ → ℕ → Type 0
-HasWide ws at c cell = (i : ℕ) × (w : WideCell) × (slice_get ws i ≡ Some w) × IsWideOf at c cell w
+HasWide ws t c cell = (i : ℕ) × (w : WideCell) × (slice_get ws i ≡ Some w) × IsWideOf t c cell w
 
--- the cells are as they were, but that one of them may be that of the character in the state whose cells
--- begin at `at`
+-- the cells are as they were, but that one of them may be that of the character in the state
 abbrev pub IsWrittenWide : List WideCell → List WideCell → ℕ → ℕ → ℕ → Type 0
-IsWrittenWide old new at c cell = (i : ℕ) (w : WideCell) → slice_get new i ≡ Some w
-    → (slice_get old i ≡ Some w) ⊎ IsWideOf at c cell w
+IsWrittenWide old new t c cell = (i : ℕ) (w : WideCell) → slice_get new i ≡ Some w
+    → (slice_get old i ≡ Some w) ⊎ IsWideOf t c cell w

@@ -1,6 +1,11 @@
-//! The states that texts lead to in a program, in a table that says which state each character leads to.
+//! The states that texts lead to in a program: steps from one to the next by a character, and a
+//! table that says which state each character leads to.
 #![tactic(auto)]
 
+mod listed;
+mod listed_sets;
+mod stepper;
 mod table;
 
-pub use table::{ALL, COLUMNS, DEAD, FIRST, Next, State, Table, WideCell, cell_of, next_of};
+pub use stepper::Stepper;
+pub use table::{ALL, DEAD, FIRST, Next, State, StateId, Table, WideCell, cell_of, next_of};

@@ -3,13 +3,13 @@ ghost use Rattle.std.specs.Prelude.{◌≡◌, ◌+◌, ◌*◌, ◌/◌, ◌<�
 ghost use Rattle.std.specs.Prelude.{IsTrue, Some, length, replicate, slice_get, slice_index, slice_set};
 ghost use Rattle.wax_states.specs.declared.table.State.{State};
 ghost use Rattle.wax_states.specs.States.{AreEmpty, HasWide, IsSettled, IsTransition, IsWrittenWide};
-ghost use Rattle.wax_states.specs.States.{LeadsNext, cell_of_next, led_of, places_at, places_led};
+ghost use Rattle.wax_states.specs.States.{LeadsNext, cell_of_next, places_at, places_or_none, state_of};
 ghost use Rattle.wax_program.specs.declared.instruction.Instruction.{Instruction};
 
 use std::alloc::{AllocError, Global};
 
 /// The number of cells of a state: one for each ASCII character.
-pub const COLUMNS: usize = 128;
+const COLUMNS: usize = 128;
 
 /// A cell that is still empty.
 const UNKNOWN: u16 = 0;
@@ -27,11 +27,14 @@ pub const FIRST: u16 = 3;
 /// The number of cells for characters past ASCII, for all states together.
 const WIDE_CELLS: usize = 4_096;
 
+/// The number of a state.
+pub type StateId = usize;
+
 /// Where a character leads from a state.
 #[derive(Clone, Copy)]
 pub enum Next {
-    /// To the state whose cells begin at this place.
-    To(usize),
+    /// To this state.
+    To(StateId),
     /// To none: no text that goes on with the character is accepted.
     Nothing,
     /// To none, since every text that goes on with the character is accepted.
@@ -39,12 +42,12 @@ pub enum Next {
 }
 
 impl Next {
-    /// Returns where the cells of the next state begin, if there is one.
-    pub fn led(self) -> Option<usize>
-        ensures { result ≡ led_of self }
+    /// Returns the next state, if there is one.
+    pub fn state(self) -> Option<StateId>
+        ensures { result ≡ state_of self }
     {
         match self {
-            Next::To(at) => Some(at),
+            Next::To(state) => Some(state),
             _ => None,
         }
     }
@@ -57,7 +60,7 @@ pub fn next_of(cell: u16) -> Option<Next>
         → IsTransition code states places c cell → IfSome result (LeadsNext code states places c) }
 {
     if cell >= FIRST {
-        return Some(Next::To(usize::from(cell - FIRST) * COLUMNS));
+        return Some(Next::To(usize::from(cell - FIRST)));
     }
     if cell == ALL {
         return Some(Next::Everything);
@@ -70,20 +73,20 @@ pub fn next_of(cell: u16) -> Option<Next>
 
 /// Returns the cell of a character that leads there.
 pub fn cell_of(next: Next) -> u16
-    requires { IfSome (led_of next) (λ at. at / 128 < 65533) }
+    requires { IfSome (state_of next) (λ state. state < 65533) }
     ensures { result ≡ cell_of_next next }
 {
     match next {
-        Next::To(at) => (at / COLUMNS) as u16 + FIRST,
+        Next::To(state) => state as u16 + FIRST,
         Next::Nothing => DEAD,
         Next::Everything => ALL,
     }
 }
 
-/// The cell of a character past ASCII in the state whose cells begin at `at`.
+/// The cell of a character past ASCII in a state.
 #[derive(Clone, Copy)]
 pub struct WideCell {
-    pub at: usize,
+    pub state: StateId,
     pub character: char,
     pub cell: u16,
 }
@@ -91,7 +94,7 @@ pub struct WideCell {
 impl WideCell {
     /// A cell that is still empty.
     const EMPTY: WideCell = WideCell {
-        at: 0,
+        state: 0,
         character: '\0',
         cell: UNKNOWN,
     };
@@ -102,10 +105,11 @@ impl WideCell {
 pub struct State {
     /// The places, ascending.
     pub places: Vec<usize>,
-    /// Those that aren't places of `rest`, or more of them. Empty if there is no such state.
+    /// Those that aren't places of `failure`, or more of them. Empty if there is no such state.
     pub own: Vec<usize>,
-    /// Where the cells begin of a state with some of the places, if one is known.
-    pub rest: Option<usize>,
+    /// A state with some of the places, if one is known: where its own places don't lead on, a state
+    /// goes on as this one does.
+    pub failure: Option<StateId>,
     /// True if a text that ends here is accepted, and `None` if no text has ended here.
     pub accepts: Option<bool>,
     /// The numbers of the patterns that match a text that ends here, ascending, and `None` if nobody
@@ -130,10 +134,6 @@ pub struct Table {
 impl Table {
     /// Creates a table without states, in which at most about `most` states are found. Allocates 4
     /// to 16 bytes for each of them.
-    ///
-    /// # Errors
-    ///
-    /// Returns `AllocError` if allocation fails.
     pub fn new(alloc: Global, most: usize) -> Result<Table, AllocError>
         ensures states { IfOk result (λ t. t.states.items ≡ []) }
         ensures cells { IfOk result (λ t. t.cells.items ≡ []) }
@@ -148,61 +148,59 @@ impl Table {
         })
     }
 
-    /// Returns the places of the state whose cells begin at `at`.
+    /// Returns the places of a state.
     #[inline]
-    pub fn places(&self, at: usize) -> &[usize]
-        requires { at / 128 < length self.now.states.items }
-        ensures { places_at self.now.states.items (at / 128) ≡ result.now }
+    pub fn places(&self, state: StateId) -> &[usize]
+        requires { state < length self.now.states.items }
+        ensures { places_at self.now.states.items state ≡ result.now }
     {
-        &self.states[at / COLUMNS].places
+        &self.states[state].places
     }
 
-    /// Returns the places of the state whose cells begin at `at`, if there is one.
-    pub fn places_led(&self, at: Option<usize>) -> &[usize]
-        requires { IfSome at (λ at. at / 128 < length self.now.states.items) }
-        ensures { places_led self.now.states.items at ≡ result.now }
+    /// Returns the places of a state, if there is one.
+    pub fn places_or_none(&self, state: Option<StateId>) -> &[usize]
+        requires { IfSome state (λ state. state < length self.now.states.items) }
+        ensures { places_or_none self.now.states.items state ≡ result.now }
     {
-        match at {
-            Some(at) => self.places(at),
+        match state {
+            Some(state) => self.places(state),
             None => &[],
         }
     }
 
-    /// Returns the state whose cells begin at `at`.
+    /// Returns what is kept of a state.
     #[inline]
-    pub fn state(&self, at: usize) -> &State
-        requires { at / 128 < length self.now.states.items }
-        ensures { slice_get self.now.states.items (at / 128) ≡ Some result.now }
+    pub fn state(&self, state: StateId) -> &State
+        requires { state < length self.now.states.items }
+        ensures { slice_get self.now.states.items state ≡ Some result.now }
     {
-        &self.states[at / COLUMNS]
+        &self.states[state]
     }
 
-    /// Remembers whether a text that ends in the state whose cells begin at `at` is accepted.
-    pub fn settle(&mut self, at: usize, accepts: bool)
-        requires { at / 128 < length self.old.states.items }
-        ensures states { IsSettled self.old.states.items self.new.states.items (at / 128)
+    /// Remembers whether a text that ends in the state is accepted.
+    pub fn settle(&mut self, state: StateId, accepts: bool)
+        requires { state < length self.old.states.items }
+        ensures states { IsSettled self.old.states.items self.new.states.items state
             (λ _. Some accepts) (λ s. s.numbers) }
         ensures cells { self.new.cells ≡ self.old.cells }
         ensures wide { self.new.wide_cells ≡ self.old.wide_cells }
     {
-        self.states[at / COLUMNS].accepts = Some(accepts);
+        self.states[state].accepts = Some(accepts);
     }
 
-    /// Remembers the numbers of the patterns that match a text that ends in the state whose cells begin
-    /// at `at`.
-    pub fn settle_numbers(&mut self, at: usize, numbers: Vec<usize>)
-        requires { at / 128 < length self.old.states.items }
-        ensures states { IsSettled self.old.states.items self.new.states.items (at / 128)
+    /// Remembers the numbers of the patterns that match a text that ends in the state.
+    pub fn settle_numbers(&mut self, state: StateId, numbers: Vec<usize>)
+        requires { state < length self.old.states.items }
+        ensures states { IsSettled self.old.states.items self.new.states.items state
             (λ s. s.accepts) (λ _. Some numbers) }
         ensures cells { self.new.cells ≡ self.old.cells }
         ensures wide { self.new.wide_cells ≡ self.old.wide_cells }
     {
-        self.states[at / COLUMNS].numbers = Some(numbers);
+        self.states[state].numbers = Some(numbers);
     }
 
-    /// Finds the number of a state by its places. May return `None` for a state that the hash table
-    /// had no room for.
-    pub fn find(&self, places: &[usize]) -> Option<usize>
+    /// Finds a state by its places. May return `None` for a state that the hash table had no room for.
+    pub fn find(&self, places: &[usize]) -> Option<StateId>
         ensures { IfSome result (λ t. (t < length self.now.states.items)
             × (places_at self.now.states.items t ≡ places.now)) }
     {
@@ -231,12 +229,12 @@ impl Table {
         self.states[number].places.as_slice() == places
     }
 
-    /// Adds a state with empty cells, and returns its number.
+    /// Adds a state with empty cells.
     ///
     /// # Errors
     ///
     /// Returns `AllocError` if allocation fails. The table then has to be cleared.
-    pub fn push(&mut self, state: State) -> Result<usize, AllocError>
+    pub fn push(&mut self, state: State) -> Result<StateId, AllocError>
         requires few { length self.old.states.items < 65533 }
         requires room { length self.old.cells.items ≡ 128 * length self.old.states.items }
         ensures number { IfOk result (λ t. t ≡ length self.old.states.items) }
@@ -252,10 +250,6 @@ impl Table {
     }
 
     /// Makes room for the cells of characters past ASCII, unless there is some. Allocates 64 KiB.
-    ///
-    /// # Errors
-    ///
-    /// Returns `AllocError` if allocation fails.
     pub fn prepare_wide(&mut self, alloc: Global) -> Result<(), AllocError>
         ensures states { self.new.states ≡ self.old.states }
         ensures cells { self.new.cells ≡ self.old.cells }
@@ -267,34 +261,44 @@ impl Table {
         Ok(())
     }
 
-    /// Returns the cell of a character past ASCII in the state whose cells begin at `at`, or an
-    /// empty one if another has replaced it.
-    #[inline]
-    pub fn wide_cell(&self, at: usize, c: char) -> u16
-        ensures { (result ≡ 0) ⊎ HasWide self.now.wide_cells.items at c result }
+    /// Returns the cell of an ASCII character, passed as its byte, in a state.
+    #[inline(always)]
+    pub fn ascii_cell(&self, state: StateId, c: u8) -> u16
+        requires { 128 * state + c < length self.now.cells.items }
+        ensures { result ≡ slice_index self.now.cells.items (128 * state + c) }
     {
-        match self.wide_cells.get(wide_slot(at, c)) {
-            Some(wide) if wide.at == at && wide.character == c => wide.cell,
+        self.cells[state * COLUMNS + usize::from(c)]
+    }
+
+    /// Returns the cell of a character past ASCII in a state, or an empty one if another has replaced
+    /// it.
+    #[inline]
+    pub fn wide_cell(&self, state: StateId, c: char) -> u16
+        ensures { (result ≡ 0) ⊎ HasWide self.now.wide_cells.items state c result }
+    {
+        match self.wide_cells.get(wide_slot(state, c)) {
+            Some(wide) if wide.state == state && wide.character == c => wide.cell,
             _ => UNKNOWN,
         }
     }
 
-    /// Fills the cell of a character in the state whose cells begin at `at`. Does nothing if the
-    /// character is past ASCII and there is no room for such cells.
+    /// Fills the cell of a character in a state. Does nothing if the character is past ASCII and there
+    /// is no room for such cells.
     #[inline]
-    pub fn write(&mut self, at: usize, c: char, cell: u16)
-        requires { c < 128 → at + c < length self.old.cells.items }
+    pub fn write(&mut self, state: StateId, c: char, cell: u16)
+        requires { c < 128 → 128 * state + c < length self.old.cells.items }
         ensures states { self.new.states ≡ self.old.states }
-        ensures filled { c < 128 → self.new.cells.items ≡ slice_set self.old.cells.items (at + c) cell }
+        ensures filled { c < 128
+            → self.new.cells.items ≡ slice_set self.old.cells.items (128 * state + c) cell }
         ensures unfilled { 128 ≤ c → self.new.cells.items ≡ self.old.cells.items }
-        ensures wide { IsWrittenWide self.old.wide_cells.items self.new.wide_cells.items at c cell }
+        ensures wide { IsWrittenWide self.old.wide_cells.items self.new.wide_cells.items state c cell }
     {
         if c.is_ascii() {
-            self.cells[at + c as usize] = cell;
+            self.cells[state * COLUMNS + c as usize] = cell;
             return;
         }
         self.write_wide(WideCell {
-            at,
+            state,
             character: c,
             cell,
         });
@@ -305,20 +309,20 @@ impl Table {
         ensures states { self.new.states ≡ self.old.states }
         ensures cells { self.new.cells ≡ self.old.cells }
         ensures wide { IsWrittenWide self.old.wide_cells.items self.new.wide_cells.items
-            wide.at wide.character wide.cell }
+            wide.state wide.character wide.cell }
     {
-        let slot = wide_slot(wide.at, wide.character);
+        let slot = wide_slot(wide.state, wide.character);
         if slot < self.wide_cells.len() {
             self.wide_cells[slot] = wide;
         }
     }
 
     /// Removes a state and returns it. The table then has to be cleared.
-    pub fn take(&mut self, at: usize) -> State
-        requires { at / 128 < length self.old.states.items }
-        ensures { slice_get self.old.states.items (at / 128) ≡ Some result }
+    pub fn take(&mut self, state: StateId) -> State
+        requires { state < length self.old.states.items }
+        ensures { slice_get self.old.states.items state ≡ Some result }
     {
-        self.states.swap_remove(at / COLUMNS)
+        self.states.swap_remove(state)
     }
 
     /// Removes all states.
@@ -336,8 +340,8 @@ impl Table {
 
 /// Returns where the cell of a character past ASCII is among the cells of such characters.
 #[inline]
-fn wide_slot(at: usize, c: char) -> usize {
-    let key = (at as u64).wrapping_mul(1 << 14) ^ u64::from(c);
+fn wide_slot(state: StateId, c: char) -> usize {
+    let key = (state as u64).wrapping_mul(1 << 21) ^ u64::from(c);
     (key.wrapping_mul(0x9E37_79B9_7F4A_7C15) >> 52) as usize
 }
 
@@ -350,7 +354,7 @@ fn slot_at(slots: &[u16], hash: usize, probe: usize) -> u16 {
     }
 }
 
-/// Writes a slot at the first empty place from the hash on. If no place is empty, writes nothing,
+/// Writes into the first empty slot from the hash on. If no slot is empty, writes nothing,
 /// and the state isn't found again.
 fn enter(slots: &mut [u16], hash: usize, slot: u16) {
     let last = slots.len().saturating_sub(1);

@@ -31,10 +31,6 @@ fn plan_of(name: &str) -> &str {
 
 /// Adds the status of a run, how often it reads and writes, and what it writes to its output and to
 /// its error output.
-///
-/// # Errors
-///
-/// Returns `NoMemory` if allocation fails.
 pub fn add_run(alloc: Global, row: &str, made: &mut Answer) -> Result<(), NoMemory> {
     let Ok(words) = words_of(alloc, field(row, 1)) else {
         return Err(NoMemory);
@@ -140,10 +136,6 @@ impl Env for Called<'_> {
 }
 
 /// Adds the arguments of this program.
-///
-/// # Errors
-///
-/// Returns `NoMemory` if allocation fails.
 pub fn add_words(alloc: Global, made: &mut Answer) -> Result<(), NoMemory> {
     let Ok(long) = vec![in alloc; b'a'; 300] else {
         return Err(NoMemory);

@@ -143,10 +143,6 @@ fn marked<'t>(alloc: Global, token: Token<'t, u8>) -> Result<Option<Token<'t, u8
 }
 
 /// Adds what a fold returns or a walk yields of the tokens of `a{?,**}</:1,>`.
-///
-/// # Errors
-///
-/// Returns `NoMemory` if allocation fails.
 pub fn add_tokens(alloc: Global, kind: &str, made: &mut Answer) -> Result<(), NoMemory> {
     if kind == "marked" {
         return add_marked(alloc, made);

@@ -13,10 +13,6 @@ use wax::{Counted, Glob, LinesError, NoMemory, capture_lines, filter_lines, filt
 /// Adds how a call ends, how often it reads and writes, and what it writes. Another call with these
 /// streams follows (`again`), or a write of nothing and a flush (`flush`), or a call whose input is
 /// the field.
-///
-/// # Errors
-///
-/// Returns `NoMemory` if allocation fails.
 pub fn add_lines(alloc: Global, row: &str, made: &mut Answer) -> Result<(), NoMemory> {
     let Ok(bytes) = bytes_of(alloc, field(row, 3)) else {
         return Err(NoMemory);
@@ -111,10 +107,6 @@ fn unignored_lines<R: Read, W: Write>(
 
 /// Filters a line of `count` letters and `.png`, and a short one, by the call with which a row begins.
 /// Adds how the call ends, and whether it writes both.
-///
-/// # Errors
-///
-/// Returns `NoMemory` if allocation fails.
 pub fn add_long_line(
     alloc: Global,
     call: &str,

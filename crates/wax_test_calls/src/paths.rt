@@ -9,10 +9,6 @@ use wax::{CandidatePath, Counted, MatchedText, NoMemory, Program};
 use wax_test_kit::streams::Asked;
 
 /// Adds what a path prints, whether `Pictures` matches it and in how many visits, and its copy.
-///
-/// # Errors
-///
-/// Returns `NoMemory` if allocation fails.
 pub fn add_path(alloc: Global, path: &str, made: &mut Answer) -> Result<(), NoMemory> {
     let path = CandidatePath::from(path);
     add_texts(&path, made);
@@ -55,10 +51,6 @@ fn add_part(made: &mut Answer, part: &str) {
 }
 
 /// Adds what is captured of a path.
-///
-/// # Errors
-///
-/// Returns `NoMemory` if allocation fails.
 pub fn add_match(alloc: Global, path: &str, made: &mut Answer) -> Result<(), NoMemory> {
     match Pictures.matched(alloc, &CandidatePath::from(path)) {
         Ok(Some(matched)) => {
@@ -74,10 +66,6 @@ pub fn add_match(alloc: Global, path: &str, made: &mut Answer) -> Result<(), NoM
 }
 
 /// Adds what is captured of a path, and in how many visits.
-///
-/// # Errors
-///
-/// Returns `NoMemory` if allocation fails.
 pub fn add_counted_match(alloc: Global, path: &str, made: &mut Answer) -> Result<(), NoMemory> {
     let path = CandidatePath::from(path);
     let Ok((matched, visits)) = Pictures.matched_counted(alloc, &path) else {

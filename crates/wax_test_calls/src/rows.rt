@@ -15,10 +15,6 @@ pub fn field(row: &str, index: usize) -> &str {
 
 /// Returns the bytes of a field. In it, `␊`, `␍` and `␉` are a line feed, a carriage return and a
 /// tab, and `¿` and `¡` are the bytes 255 and 195.
-///
-/// # Errors
-///
-/// Returns `AllocError` if allocation fails.
 pub fn bytes_of(alloc: Global, field: &str) -> Result<Vec<u8>, AllocError> {
     let mut bytes = Vec::new(alloc);
     for character in field.chars() {

@@ -55,10 +55,6 @@ const FIRST: &[&str] = &["{**/a,b/*}", "{**/a,**/b}", "<**/a:1>"];
 const STARTS: &[&str] = &["", "", "", "", "", "a", "b/", "a/b"];
 
 /// Draws the plan of a folder, in which folders are at most three deep.
-///
-/// # Errors
-///
-/// Returns `AllocError` if allocation fails.
 pub fn draw_plan(alloc: Global, draws: &mut Draws) -> Result<String, AllocError> {
     let mut plan = String::new(alloc);
     let mut open: usize = 0;
@@ -92,10 +88,6 @@ fn draw_component(draws: &mut Draws, is_behind_tree: bool) -> &'static str {
 }
 
 /// Draws an expression of one to four components.
-///
-/// # Errors
-///
-/// Returns `AllocError` if allocation fails.
 pub fn draw_expression(alloc: Global, draws: &mut Draws) -> Result<String, AllocError> {
     let mut expression = String::new(alloc);
     if draws.below(8) == 0 {

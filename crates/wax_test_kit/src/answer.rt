@@ -17,10 +17,6 @@ pub struct Answer {
 
 impl Answer {
     /// Allocates room for answers.
-    ///
-    /// # Errors
-    ///
-    /// Returns `AllocError` if allocation fails.
     pub fn new(alloc: Global) -> Result<Answer, AllocError> {
         Ok(Answer {
             text: String::with_capacity(alloc, ROOM)?,

@@ -18,10 +18,6 @@ pub const PROJECT: &str =
 pub const ROOT: &str = "a/ b ; x";
 
 /// Creates an entry with this name.
-///
-/// # Errors
-///
-/// Returns `AllocError` if allocation fails.
 pub fn entry(alloc: Global, name: &str, node: Node) -> Result<TreeItem, AllocError> {
     Ok(TreeItem::Entry(String::from_str(alloc, name)?, node))
 }
@@ -61,10 +57,6 @@ fn add_word(alloc: Global, items: &mut Vec<TreeItem>, word: &str) -> Result<(), 
 }
 
 /// Builds the folder of a plan.
-///
-/// # Errors
-///
-/// Returns `AllocError` if allocation fails.
 pub fn folder_of(alloc: Global, plan: &str) -> Result<Node, AllocError> {
     let mut items = Vec::new(alloc);
     let mut outer = Vec::new(alloc);

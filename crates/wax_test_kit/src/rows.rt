@@ -34,10 +34,6 @@ pub struct DataRow {
 
 impl DataRow {
     /// Reads a row with this number of inputs from a line.
-    ///
-    /// # Errors
-    ///
-    /// Returns `AllocError` if allocation fails.
     pub fn read(alloc: Global, line: &str, inputs: usize) -> Result<DataRow, AllocError> {
         let mut fields = Vec::new(alloc);
         for field in line.splitn(inputs.saturating_add(2), '\t').skip(1) {
@@ -206,10 +202,6 @@ pub fn find_in<K: Copy>(kinds: &[(&str, usize, K)], name: &str, unknown: K) -> (
 }
 
 /// Appends an item.
-///
-/// # Errors
-///
-/// Returns `NoMemory` if allocation fails.
 pub fn push<T: Drop>(items: &mut Vec<T>, item: T) -> Result<(), NoMemory> {
     match items.push(item) {
         Ok(()) => Ok(()),

@@ -14,10 +14,6 @@ type CheckedToken<'t> = Checked<Token<'t, ExpressionMetadata>>;
 type CheckedTokens<'t> = Checked<Tokenized<'t, ExpressionMetadata>>;
 
 /// Checks tokens, and adds a fact of them.
-///
-/// # Errors
-///
-/// Returns `NoMemory` if allocation fails.
 pub fn answer(
     alloc: Global,
     fact: CheckedFact,

@@ -53,10 +53,6 @@ fn draw_text(alloc: Global, draws: &mut Draws, most: usize) -> Result<String, Al
 
 /// Adds for how many texts a matcher and `run` differ. The row has the seed, the number of
 /// expressions to draw, the number of texts for each, and the greatest number of their words.
-///
-/// # Errors
-///
-/// Returns `NoMemory` if allocation fails.
 pub fn add_comparison(alloc: Global, row: &DataRow, made: &mut Answer) -> Result<(), NoMemory> {
     let mut draws = Draws::new(row.number(0, 0));
     let mut differing: u64 = 0;

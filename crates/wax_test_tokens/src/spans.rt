@@ -31,10 +31,6 @@ impl Spanned for Piece {
 }
 
 /// Adds a fact of spans, each of which is written as its start and its length.
-///
-/// # Errors
-///
-/// Returns `NoMemory` if allocation fails.
 pub fn answer(
     alloc: Global,
     fact: SpansFact,

@@ -8,10 +8,6 @@ use wax_test_kit::answer::Answer;
 use wax_test_kit::rows::DataRow;
 
 /// Adds a fact of a text or a path.
-///
-/// # Errors
-///
-/// Returns `NoMemory` if allocation fails.
 pub fn answer(
     alloc: Global,
     fact: TextFact,

@@ -78,10 +78,6 @@ fn of_token(
 }
 
 /// Adds the only text of the token.
-///
-/// # Errors
-///
-/// Returns `NoMemory` if allocation fails.
 pub fn add_text<A: Annotation>(
     alloc: Global,
     token: &Token<'_, A>,
@@ -95,10 +91,6 @@ pub fn add_text<A: Annotation>(
 }
 
 /// Adds the only text of each token, with a bar after it.
-///
-/// # Errors
-///
-/// Returns `NoMemory` if allocation fails.
 pub fn add_texts<A: Annotation>(
     alloc: Global,
     tokens: &[Token<'_, A>],

@@ -180,10 +180,6 @@ fn tree_of_paths(alloc: Global, paths: &str) -> Result<Tree, Unanswered> {
 }
 
 /// Returns the words of a text, which have spaces between them.
-///
-/// # Errors
-///
-/// Returns `AllocError` if allocation fails.
 pub fn words(alloc: Global, text: &str) -> Result<Vec<&str>, AllocError> {
     text.split(' ').collect(alloc)
 }

@@ -18,7 +18,7 @@ abbrev pub composition_value : {T : Type 0} → Composition T T → T
 composition_value (Conjunctive t) = t
 composition_value (Disjunctive t) = t
 
--- what the function gives for the value, on the same side
+-- what the function returns for the value, on the same side
 abbrev pub on_inner : {T U : Type 0} → (T → U) → Composition T T → Composition U U
 on_inner f (Conjunctive t) = Conjunctive (f t)
 on_inner f (Disjunctive t) = Disjunctive (f t)

@@ -187,7 +187,7 @@ module _ (Body : Bool → Bool → List ℕ → Type 0) where
   copies d (suc (suc k)) b a s =
       pieces (Body b true) (Copies (suc k) Body true a) (λ x. d b true x) (λ y. copies d (suc k) true a y) s
 
-  -- of more copies in the middle than characters, one is empty and can be left out
+  -- of more copies in the middle than characters, one is empty and can be dropped
   fewer_after : (k : ℕ) (a : Bool) (y : List ℕ) → length y ≤ k → Copies (suc (suc k)) Body true a y →
       Copies (suc k) Body true a y
   fewer_after zero a y l h = pick h.0 h.2 where

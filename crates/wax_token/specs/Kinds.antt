@@ -32,7 +32,7 @@ repetition_of (repetition a t low high) = Some (t, low, high)
 
 -- ---- leaves, each with what it holds
 
--- what the function gives for a leaf, and nothing for a branch
+-- what the function returns for a leaf, and nothing for a branch
 abbrev pub of_leaf : {A B : Type 0} → (Leaf → Option B) → Tree A → Option B
 of_leaf f (leaf a l) = f l
 of_leaf f (alternation a ts) = None

@@ -1,4 +1,4 @@
--- The code of plain trees, by which proofs tell them apart.
+-- The code of plain trees, by which proofs show that two differ.
 use Rattle.std.specs.Prelude.{◌≡◌, ℕ, ◌+◌, ◌≤◌, Bool, List, [], ◌∷◌, Option, ◌⊎◌, refl, zero, suc}
 use Rattle.std.proofs.Common.{inl, inr, ap, arith}
 use Rattle.std.specs.Coded.{Coded, code_by, coded_ℕ, coded_bool, coded_list, coded_option, coded×, coded⊎}

@@ -22,11 +22,13 @@ mod members;
 mod owned;
 mod same;
 mod sides;
+mod tree;
 
 pub use boundary::Boundary;
 pub use composition::{Composition, TokenComposition};
 pub use made::{new_branch, new_leaf};
 pub use sides::Sides;
+pub use tree::{ConcatenationTree, TokenTree};
 
 /// The root `/`, as an expression writes it.
 pub const ROOT_SEPARATOR_EXPRESSION: &str = "/";

@@ -15,7 +15,7 @@ use Rattle.wax_tree.specs.Plain.{above_max, unlisted, items_forest, plain, plain
 use Rattle.wax_tree.specs.Prefix.{walk_from}
 use Rattle.wax_tree.specs.Whole.{whole_entry, whole_items, whole_at, whole, whole_along, is_yielded, yielded}
 use Rattle.wax_tree.specs.Whole.{EntriesAre, all_in_range, lacks_memory, over_budget}
-use Rattle.wax_walk.specs.Collected.{GaveAll, IsCutShort}
+use Rattle.wax_walk.specs.Collected.{Yielded, IsCutShort}
 use Rattle.wax_walk.specs.Collected as given
 use Rattle.wax_walk.specs.Forest.{Forest, nothing, item, lists, followed_by, preorder, Pending, pending}
 use Rattle.wax_walk.specs.declared.error.FaultKind.TheVariants.{Listing, BadName, NotText, Budget}
@@ -196,7 +196,7 @@ pub plain_yielded : (range : DepthRange) (start : List ℕ) (s : Shown)
 plain_yielded range start s = walk_yielded range start (start_location start) s (omega arith)
 
 pub entries_are : (range : DepthRange) (start : List ℕ) (s : Shown) (tells : List (List ℕ) → Type 0)
-    (listed : List (List ℕ)) (xs : List Given) → GaveAll tells (range.budget + 1)
+    (listed : List (List ℕ)) (xs : List Given) → Yielded tells (range.budget + 1)
     (pending nothing (plain (scope_in range start) s) listed (count_shown s)) xs → EntriesAre range start s xs
 entries_are range start s tells listed xs (given.whole e t) = all_in_range (e ∙ plain_yielded range start s)
 entries_are range start s tells listed xs (given.lacks_memory c) =
@@ -207,7 +207,7 @@ entries_are range start s tells listed xs (given.over_budget path depth few h c)
 
 -- what is yielded, without what the directory reports
 pub untold : (tells : List (List ℕ) → Type 0) (allowed : ℕ) (p : Pending Given) (xs : List Given)
-    → GaveAll tells allowed p xs → GaveAll (λ _. Unit {0}) allowed p xs
+    → Yielded tells allowed p xs → Yielded (λ _. Unit {0}) allowed p xs
 untold tells allowed p xs (given.whole e t) = given.whole e tt
 untold tells allowed p xs (given.lacks_memory c) = given.lacks_memory c
 untold tells allowed p xs (given.over_budget path depth few h c) = given.over_budget path depth few h c

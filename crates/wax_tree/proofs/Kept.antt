@@ -5,7 +5,7 @@ use Rattle.wax_directory.specs.declared.directory.FileType.{FileType}
 use Rattle.wax_directory.specs.declared.directory.FileType.TheVariants.{Folder}
 use Rattle.wax_directory.specs.Shown.{Items, end, leaf, folder, sealed, misnamed, unread, not_text, Shown}
 use Rattle.wax_directory.specs.Shown.{a_leaf, a_folder, a_sealed, missing, failing, leaf_kind, join}
-use Rattle.wax_walk.specs.Collected.{IsCutShort, GaveAll, whole, lacks_memory, over_budget}
+use Rattle.wax_walk.specs.Collected.{IsCutShort, Yielded, whole, lacks_memory, over_budget}
 use Rattle.wax_walk.specs.Forest.{Forest, nothing, item, lists, followed_by, preorder, Pending, pending}
 use Rattle.wax_walk.specs.Forest.{all_pending}
 use Rattle.wax_walk.specs.Given.{Given, is_kept}
@@ -115,7 +115,7 @@ module _ (scope : WalkScope) where
       (kept_append c.0 (x ∷ []) (kept_before c.0 c.1 (subst AllKept (sym c.3) h)) (e, tt))
 
   kept_given : (tells : List (List ℕ) → Type 0) (allowed : ℕ) (p : Pending Given) (xs : List Given)
-      → AllKept (preorder (all_pending p)) → GaveAll tells allowed p xs → AllKept xs
+      → AllKept (preorder (all_pending p)) → Yielded tells allowed p xs → AllKept xs
   kept_given tells allowed p xs h (whole e t) = subst AllKept (sym e) h
   kept_given tells allowed p xs h (lacks_memory c) = kept_cut _ _ xs refl h c
   kept_given tells allowed p xs h (over_budget path depth few listed c) = kept_cut _ _ xs refl h c
@@ -123,10 +123,10 @@ module _ (scope : WalkScope) where
   -- what is kept of a plain walk is all of it
   pub plain_kept : (tells : List (List ℕ) → Type 0) (allowed : ℕ) (s : Shown) (listed : List (List ℕ))
       (items : ℕ) (xs ys : List Given)
-      → GaveAll tells allowed (pending nothing (plain scope s) listed items) xs → ys ≡ filter is_kept xs
-      → GaveAll tells allowed (pending nothing (plain scope s) listed items) ys
+      → Yielded tells allowed (pending nothing (plain scope s) listed items) xs → ys ≡ filter is_kept xs
+      → Yielded tells allowed (pending nothing (plain scope s) listed items) ys
   plain_kept tells allowed s listed items xs ys g e =
       let p : Pending Given = pending nothing (plain scope s) listed items in
-      subst (GaveAll tells allowed p)
+      subst (Yielded tells allowed p)
       (sym (e ∙ filter_kept xs
       (kept_given tells allowed p xs (kept_preorder (all_pending p) (kept_plain s)) g))) g

@@ -28,8 +28,8 @@ abbrev pub IsNamed : Shown → Type 0
 IsNamed (a_folder l) = AreNamed l
 IsNamed s = ⊤
 
--- a location of which the directory is asked, and then d if this kind is there. If nothing is there, the walk
--- ends with that error; if it couldn't be read, the error comes and then `after`
+-- a location that is looked up in the directory, and then d if this kind is there. If nothing is there, the
+-- walk ends with that error; if it couldn't be read, the error comes and then `after`
 pub data IsAsked (at : Location) (there : FileType → Course → Type 0) (after c : Course) : Type 0 where
   is_there : (kind : FileType) (d : Course) → there kind d → c ≡ asks (call at.path (found at.path kind)) d
       → IsAsked at there after c

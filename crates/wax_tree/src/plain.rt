@@ -5,7 +5,7 @@ ghost use Rattle.wax_directory.specs.History.{Answer};
 ghost use Rattle.wax_directory.specs.Shown.{Shown};
 ghost use Rattle.wax_tree.specs.Begins.{IsPassed, behavior_range};
 ghost use Rattle.wax_tree.specs.Whole.{plain_pending, EntriesAnswered, EntriesAre};
-ghost use Rattle.wax_walk.specs.Collected.{AreOfFolders, GaveAll};
+ghost use Rattle.wax_walk.specs.Collected.{AreOfFolders, Yielded};
 ghost use Rattle.wax_walk.specs.View.{is_above};
 ghost use Rattle.wax_walk.specs.Entries.{given_outcome};
 ghost use Rattle.wax_walk.specs.Given.{Given, is_kept};
@@ -39,7 +39,7 @@ pub fn entries<D: Directory>(
 ) -> Result<(Vec<Result<TreeEntry, WalkError>>, D), NoMemory>
     ensures items { IfOk result (λ r. (s : Shown) → D.law.shows directory start.now s
         → (listed : List (List ℕ))
-        × GaveAll (λ _. ⊤) (behavior.budget + 1) (plain_pending (behavior_range behavior) start.now s listed)
+        × Yielded (λ _. ⊤) (behavior.budget + 1) (plain_pending (behavior_range behavior) start.now s listed)
         (map (given_outcome ⟦<TreeEntry as Entry>⟧.facts ⟦<TreeEntry as Entry>⟧.facts) r.0.items)) }
     ensures entries { IfOk result (λ r. (s : Shown) → D.law.shows directory start.now s
         → EntriesAre (behavior_range behavior) start.now s
@@ -47,7 +47,7 @@ pub fn entries<D: Directory>(
     ensures folders { IfOk result
         (λ r. (s : Shown) (listed : List (List ℕ)) → D.law.shows directory start.now s
         → D.law.tells directory listed
-        → GaveAll (D.law.tells r.1) (behavior.budget + 1)
+        → Yielded (D.law.tells r.1) (behavior.budget + 1)
         (plain_pending (behavior_range behavior) start.now s listed)
         (map (given_outcome ⟦<TreeEntry as Entry>⟧.facts ⟦<TreeEntry as Entry>⟧.facts) r.0.items)) }
     ensures answered { IfOk result (λ r. (told : List Answer)

@@ -7,10 +7,6 @@ use wax_test_kit::answer::Answer;
 
 /// Adds below which of the paths the pattern excludes everything: by its exclusion, and by the filter
 /// of that. For a pattern that isn't built, adds the number of the error.
-///
-/// # Errors
-///
-/// Returns `NoMemory` if allocation fails.
 pub fn add_excluded(
     alloc: Global,
     pattern: &str,
@@ -33,10 +29,6 @@ pub fn add_excluded(
 
 /// Adds below which of the paths the list ignores everything: by the list, and by the filter of it.
 /// For a text that is no list, adds the number of the error.
-///
-/// # Errors
-///
-/// Returns `NoMemory` if allocation fails.
 pub fn add_ignored(
     alloc: Global,
     list: &str,

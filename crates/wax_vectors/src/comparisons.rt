@@ -10,10 +10,6 @@ use wax_test_kit::rows::DataRow;
 
 /// Adds the answer to a question about two globs or sets, or the number of the error if one can't be
 /// built.
-///
-/// # Errors
-///
-/// Returns `NoMemory` if allocation fails.
 pub fn answer(
     alloc: Global,
     question: Question,
@@ -91,10 +87,6 @@ fn most_states(row: &DataRow, index: usize) -> usize {
 
 /// Adds the lines of a list that decide nothing, each with its index and the reason, or `none`. For a
 /// text that is no list, adds the error.
-///
-/// # Errors
-///
-/// Returns `NoMemory` if allocation fails.
 pub fn add_idle(alloc: Global, row: &DataRow, made: &mut Answer) -> Result<(), NoMemory> {
     let list = match IgnoreList::parse(alloc, row.input(1)) {
         Ok(list) => list,

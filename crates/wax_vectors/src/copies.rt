@@ -55,10 +55,6 @@ fn add_clone(matched: &MatchedText<'_>, made: &mut Answer) {
 }
 
 /// Adds whether a copy of the glob matches the path, its expression and its `Debug` form.
-///
-/// # Errors
-///
-/// Returns `NoMemory` if allocation fails.
 pub fn add_globs(
     alloc: Global,
     glob: &Glob<'_>,

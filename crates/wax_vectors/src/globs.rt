@@ -80,10 +80,6 @@ fn add_printed(glob: &Glob<'_>, made: &mut Answer) {
 }
 
 /// Adds whether the program matches the path.
-///
-/// # Errors
-///
-/// Returns `NoMemory` if allocation fails.
 pub fn add_is_match<P: Program>(
     alloc: Global,
     program: &P,
@@ -96,10 +92,6 @@ pub fn add_is_match<P: Program>(
 
 /// Adds which of the paths one matcher of the glob or the set matches. The paths have spaces
 /// between them.
-///
-/// # Errors
-///
-/// Returns `NoMemory` if allocation fails.
 pub fn add_answers<'p, P: BuildMatcher<'p>>(
     alloc: Global,
     program: &'p P,
@@ -115,10 +107,6 @@ pub fn add_answers<'p, P: BuildMatcher<'p>>(
 
 /// Adds for each of the paths whether one matcher of the glob or the set matches it, and whether
 /// something below it can match. The paths have spaces between them.
-///
-/// # Errors
-///
-/// Returns `NoMemory` if allocation fails.
 pub fn add_verdicts<'p, P: BuildMatcher<'p>>(
     alloc: Global,
     program: &'p P,
@@ -153,10 +141,6 @@ fn add_goes_on(
 }
 
 /// Adds 1 with the whole text and its captures if the program matches the path, and otherwise 0.
-///
-/// # Errors
-///
-/// Returns `NoMemory` if allocation fails.
 pub fn add_match<P: Program>(
     alloc: Global,
     program: &P,
@@ -291,10 +275,6 @@ fn add_text<P: Program>(alloc: Global, program: &P, made: &mut Answer) -> Result
 }
 
 /// Adds the depth, the only text, the root and the exhaustiveness.
-///
-/// # Errors
-///
-/// Returns `NoMemory` if allocation fails.
 pub fn add_facts<P: Program>(
     alloc: Global,
     program: &P,

@@ -36,10 +36,6 @@ impl Read for Bytes<'_> {
 
 /// Adds the lines that a call writes. Then adds, each after a `=`, how the call ended and whether
 /// the glob matches the row's path afterwards.
-///
-/// # Errors
-///
-/// Returns `NoMemory` if allocation fails.
 pub fn add_lines(
     alloc: Global,
     call: LinesCall,

@@ -8,10 +8,6 @@ use wax_test_kit::rows::DataRow;
 
 /// Adds whether the list ignores a path, once or twice. For a text that is no list, adds the number
 /// of the error, the line, and the message.
-///
-/// # Errors
-///
-/// Returns `NoMemory` if allocation fails.
 pub fn answer(
     alloc: Global,
     is_twice: bool,
@@ -52,10 +48,6 @@ fn add_ignored(
 }
 
 /// Adds the number of the error, the line, and the message.
-///
-/// # Errors
-///
-/// Returns `NoMemory` if allocation failed.
 pub fn add_error(error: &IgnoreError, made: &mut Answer) -> Result<(), NoMemory> {
     let IgnoreError::BadLine { line, error: why } = error else {
         return Err(NoMemory);

@@ -9,10 +9,6 @@ use wax_test_kit::answer::Answer;
 use wax_test_kit::rows::DataRow;
 
 /// Adds a fact of a glob that is partitioned or owned.
-///
-/// # Errors
-///
-/// Returns `NoMemory` if allocation fails.
 pub fn answer(
     alloc: Global,
     fact: PartFact,
@@ -105,10 +101,6 @@ fn add_owned(
 }
 
 /// Builds a glob with its warnings. Adds what it prints, and how many warnings there are.
-///
-/// # Errors
-///
-/// Returns `NoMemory` if allocation fails.
 pub fn add_diagnosed(alloc: Global, row: &DataRow, made: &mut Answer) -> Result<(), NoMemory> {
     match Glob::diagnosed(alloc, row.input(0)) {
         Ok((glob, warnings)) => {
@@ -122,10 +114,6 @@ pub fn add_diagnosed(alloc: Global, row: &DataRow, made: &mut Answer) -> Result<
 }
 
 /// Adds whether a glob that no expression was given for is empty, and whether it matches the path.
-///
-/// # Errors
-///
-/// Returns `NoMemory` if allocation fails.
 pub fn add_plain(
     alloc: Global,
     glob: Result<Glob<'_>, NoMemory>,

@@ -8,10 +8,6 @@ use wax_test_kit::answer::Answer;
 use wax_test_kit::rows::DataRow;
 
 /// Adds a fact of the error why an expression can't be built.
-///
-/// # Errors
-///
-/// Returns `NoMemory` if allocation fails.
 pub fn answer(
     alloc: Global,
     fact: GlobFact,

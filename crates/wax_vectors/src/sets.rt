@@ -53,10 +53,6 @@ fn built(alloc: Global, fact: SetFact, patterns: &str) -> Result<Set, BuildError
 }
 
 /// Adds the number of an error.
-///
-/// # Errors
-///
-/// Returns `NoMemory` if allocation failed.
 pub fn add_error(error: &BuildError, made: &mut Answer) -> Result<(), NoMemory> {
     if let BuildError::Memory = error {
         return Err(NoMemory);

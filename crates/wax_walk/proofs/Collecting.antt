@@ -17,7 +17,7 @@ use Rattle.wax_filter.specs.declared.filter.tree_residue.TreeResidue.TheVariants
 use Rattle.wax_walk.specs.declared.error.WalkError.{WalkError}
 use Rattle.wax_walk.specs.declared.error.WalkError.TheVariants.{Fault, Memory}
 use Rattle.wax_walk.specs.declared.error.FaultKind.TheVariants.{NotAFolder, Budget}
-use Rattle.wax_walk.specs.Collected.{IsCutShort, GaveAll, whole, Took, all_fault_counts, NoneLast, count_to_open}
+use Rattle.wax_walk.specs.Collected.{IsCutShort, Yielded, whole, Took, all_fault_counts, NoneLast, count_to_open}
 use Rattle.wax_walk.specs.Collected.{AreOfFolders, HasFolder, all_items_lost, NoMemoryError}
 use Rattle.wax_walk.specs.Collected as all
 use Rattle.wax_walk.specs.Entries.{given_of, given_outcome, given_residue}
@@ -142,7 +142,7 @@ module _ {D : Type 0} (allowed : ℕ) (mid new : WalkView D) (p : Pending Given)
   end_given : (tells : List (List ℕ) → Type 0) (q : Pending Given) → xs ++ preorder (all_pending q) ≡ preorder
       (all_pending p) → q.listed ++ listings (all_pending q) ≡ p.listed ++ listings (all_pending p)
       → ((r : Pending Given) → new.to_come r → tells r.listed) → GivesOrStops mid q None new
-      → GaveAll tells allowed p xs
+      → Yielded tells allowed p xs
   end_given tells q e k told (lacks_memory i) = cc
   end_given tells q e k told (over_budget path depth i few listed) = cc
   end_given tells q e k told (gives items few first) =
@@ -153,7 +153,7 @@ module _ {D : Type 0} (allowed : ℕ) (mid new : WalkView D) (p : Pending Given)
   gave_all : (tells : List (List ℕ) → Type 0)
       → ((q : Pending Given) → mid.to_come q → GivesOrStops mid q None new)
       → ((r : Pending Given) → new.to_come r → tells r.listed) → GaveSoFar allowed mid p xs
-      → GaveAll tells allowed p xs
+      → Yielded tells allowed p xs
   gave_all tells a told (goes_on q c e k few) = end_given tells q e k told (a q c)
   gave_all tells a told (lacked_memory e c) = all.lacks_memory c
   gave_all tells a told (was_over_budget e path depth few listed c) =

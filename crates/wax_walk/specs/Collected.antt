@@ -20,14 +20,14 @@ IsCutShort all x xs = (before : List Given) × (rest : List Given) × (xs ≡ be
 -- a walk yielded all that was to come, and listed the folders for it; or a prefix of that and then one error,
 -- because allocation failed, or because the budget was reached in a listed folder, which happens only if no
 -- fewer items were to be taken than were allowed
-pub data GaveAll (tells : List (List ℕ) → Type 0) (allowed : ℕ) (p : Pending Given) (xs : List Given) : Type 0
+pub data Yielded (tells : List (List ℕ) → Type 0) (allowed : ℕ) (p : Pending Given) (xs : List Given) : Type 0
   where
     whole : xs ≡ preorder (all_pending p) → tells (p.listed ++ listings (all_pending p))
-        → GaveAll tells allowed p xs
-    lacks_memory : IsCutShort (preorder (all_pending p)) no_memory xs → GaveAll tells allowed p xs
+        → Yielded tells allowed p xs
+    lacks_memory : IsCutShort (preorder (all_pending p)) no_memory xs → Yielded tells allowed p xs
     over_budget : (path : List ℕ) (depth : ℕ) → allowed ≤ p.items
         → Contains (p.listed ++ listings (all_pending p)) path
-        → IsCutShort (preorder (all_pending p)) (fault Budget path depth) xs → GaveAll tells allowed p xs
+        → IsCutShort (preorder (all_pending p)) (fault Budget path depth) xs → Yielded tells allowed p xs
 
 -- the errors among these items, as counts of a directory
 abbrev pub all_fault_counts : List Given → Tally
@@ -80,7 +80,7 @@ pub data TookCourse {D : Type 0} (walk : WalkView D) (told : List Answer) (xs : 
 
 -- a walk yielded these items to its end, and left the directory as `new`, unchanged if the walk was idle
 pub record Took {D C : Type 0} (law : Law D C) (walk : WalkView D) (new : D) (xs : List Given) : Type 0 where
-  pub all : (p : Pending Given) → walk.to_come p → GaveAll (law.tells new) walk.listings_left p xs
+  pub all : (p : Pending Given) → walk.to_come p → Yielded (law.tells new) walk.listings_left p xs
   pub told : List Answer
   pub answered : law.answered new ≡ law.answered walk.directory ++ told
   pub course : TookCourse walk told xs

@@ -42,10 +42,6 @@ impl TreeEntry {
     /// Builds the entry of an item of a folder. `depth` is that of the item. It doesn't allocate if
     /// the name has room for the path, and the folder's path begins with that of the start and ends
     /// with the candidate.
-    ///
-    /// # Errors
-    ///
-    /// Returns `AllocError` if allocation fails.
     pub fn in_folder(
         alloc: Global,
         folder: ListedFolder<'_>,

@@ -27,10 +27,6 @@ pub trait Exclude: Drop {
 
     /// Returns what to exclude of the entry with this candidate; `None` keeps it. A call changes no
     /// decision, even if it fails.
-    ///
-    /// # Errors
-    ///
-    /// Returns `NoMemory` if allocation fails.
     fn residue(
         &mut self,
         alloc: Global,

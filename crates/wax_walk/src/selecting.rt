@@ -44,10 +44,6 @@ pub trait Select: Drop {
 
     /// Returns whether the entry with this candidate is kept and, if it is a folder, whether it is
     /// opened. A call changes no decision, even if it fails.
-    ///
-    /// # Errors
-    ///
-    /// Returns `NoMemory` if allocation fails.
     fn select(
         &mut self,
         alloc: Global,

@@ -1,19 +1,18 @@
 //! A matcher of one glob for many paths.
 ghost use Rattle.std.specs.Prelude.{◌≡◌, ◌↔◌, IfOk, IsTrue, chars, false};
 ghost use Rattle.wax.specs.GlobView.{IsMeant};
-ghost use Rattle.wax_candidate.specs.Parts.{NoLineEndsBefore};
-ghost use Rattle.wax_compiled.specs.Below.{MeansBelow, goes_test, goes_tested};
+ghost use Rattle.wax_query.specs.Parts.{NoLineEndsBefore};
+ghost use Rattle.wax_prefilter.specs.Below.{MeansBelow, goes_test, goes_tested};
 ghost use Rattle.wax_token.specs.Decided.{means_test, means_tested};
 
 use crate::glob::Glob;
 use std::alloc::Global;
 use std::marker::Model;
-use wax_candidate::{BuildMatcher, CandidatePath, PathMatcher};
-use wax_compiled::CompiledTokens;
 use wax_exclude::is_everything;
 use wax_lazy::Matcher;
-use wax_prefilter::{folder_of, is_within};
+use wax_prefilter::{CompiledTokens, folder_of, is_within};
 use wax_query::diagnostics::NoMemory;
+use wax_query::matching::{BuildMatcher, CandidatePath, PathMatcher};
 use wax_query::query::Verdict;
 
 /// A matcher of a glob for many paths, which keeps what it learns from each for the next ones.
@@ -67,10 +66,6 @@ impl<'t> Glob<'t> {
     ///     println!(rt; "{}", matcher.is_match(&CandidatePath::from(path))?)?; // true; false
     /// }
     /// ```
-    ///
-    /// # Errors
-    ///
-    /// Returns `NoMemory` if allocation fails.
     pub fn matcher<'g>(&'g self, alloc: Global) -> Result<GlobMatcher<'g, 't>, NoMemory>
         ensures { IfOk result (λ m. m ≡ self.now) }
     {

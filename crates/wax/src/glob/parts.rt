@@ -20,10 +20,6 @@ impl<'t> Glob<'t> {
     ///     println!(rt; "{rest}")?; // */mod.rs
     /// }
     /// ```
-    ///
-    /// # Errors
-    ///
-    /// Returns `NoMemory` if allocation fails.
     pub fn partition(self, alloc: Global) -> Result<(String, Option<Glob<'t>>), NoMemory>
         ensures { IfOk result (λ r. HasParts self.entry (chars (string_bytes r.0)) r.1) }
     {
@@ -45,10 +41,6 @@ impl<'t> Glob<'t> {
     }
 
     /// Splits the glob as `partition` does, with the empty glob if there is no rest.
-    ///
-    /// # Errors
-    ///
-    /// Returns `NoMemory` if allocation fails.
     pub fn partition_or_empty(self, alloc: Global) -> Result<(String, Glob<'t>), NoMemory>
         ensures { IfOk result (λ r.
             HasPartsOr IsEmptyGlob self.entry (chars (string_bytes r.0)) r.1) }
@@ -60,10 +52,6 @@ impl<'t> Glob<'t> {
     }
 
     /// Splits the glob as `partition` does, with the glob of `**` if there is no rest.
-    ///
-    /// # Errors
-    ///
-    /// Returns `NoMemory` if allocation fails.
     pub fn partition_or_tree(self, alloc: Global) -> Result<(String, Glob<'t>), NoMemory>
         ensures { IfOk result (λ r.
             HasPartsOr IsTreeGlob self.entry (chars (string_bytes r.0)) r.1) }

@@ -10,10 +10,6 @@ use wax_query::diagnostics::{NoMemory, Refusal};
 impl<'t> Glob<'t> {
     /// Converts the glob into one that owns its expression and texts. It takes time and memory in
     /// proportion to the expression, all tokens and their texts.
-    ///
-    /// # Errors
-    ///
-    /// Returns `NoMemory` if allocation fails.
     pub fn into_owned(self, alloc: Global) -> Result<Glob<'static>, NoMemory>
         ensures { IfOk result (λ glob. glob ≡ self.entry) }
     {
@@ -31,10 +27,6 @@ impl<'t> Glob<'t> {
 
     /// Copies the glob into one that owns its expression and texts. It takes the time and memory of
     /// `Glob::new`.
-    ///
-    /// # Errors
-    ///
-    /// Returns `NoMemory` if allocation fails.
     pub fn to_owned(&self, alloc: Global) -> Result<Glob<'static>, NoMemory>
         ensures { IfOk result (λ copy. copy ≡ self.now) }
     {

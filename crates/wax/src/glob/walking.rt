@@ -2,7 +2,7 @@
 ghost use Rattle.std.specs.Prelude.{◌≡◌, ◌≤◌, ◌+◌, ◌*◌, ℕ, Bool, List, IfOk, MatchOption, length, map};
 ghost use Rattle.wax_components.specs.Depth.{Depth};
 ghost use Rattle.wax_facts.specs.Prefix.{Prefix};
-ghost use Rattle.wax_glob_walk.specs.Matches.{IsMatchedEntry};
+ghost use Rattle.wax_tree.specs.Matches.{IsMatchedEntry};
 ghost use Rattle.wax_exclude.specs.Prefix.{HasEmptyName};
 ghost use Rattle.wax_query.specs.Components.{component_total};
 ghost use Rattle.wax_query.specs.Ranges.{AtMost, Bounds};
@@ -19,21 +19,20 @@ ghost use Rattle.wax_exclude.specs.Pruned.{by_matches};
 
 use crate::glob::Glob;
 use std::alloc::Global;
-use wax_candidate::Program;
 use wax_directory::directory::Directory;
 use wax_exclude::{
     LeadingComponent, PrefixNames, collect_excluding, leading, prefix_names_of, walk_along, within,
 };
 use wax_filter::filter::SeparatingFilter;
-use wax_glob_walk::{GlobEntry, Uncaptured, uncaptured_of, walk_of};
 use wax_query::diagnostics::NoMemory;
+use wax_query::matching::Program;
 use wax_token::token::{ExpressionMetadata, Token};
-use wax_tree::{DepthRange, WalkBehavior, WalkTree};
+use wax_tree::{DepthRange, GlobEntry, Uncaptured, WalkBehavior, WalkTree, uncaptured_of, walk_of};
 use wax_walk::{Entry, Exclude, FileIterator, TreeEntry, WalkError};
 
 /// The walk of a glob through a directory. It keeps every entry that the glob matches. A folder
 /// that the names in the glob rule out is excluded before it is listed.
-pub type GlobWalk<'g, 't, D> = wax_glob_walk::GlobWalk<'g, D, Glob<'t>, LeadingComponent<'g, 't>>;
+pub type GlobWalk<'g, 't, D> = wax_tree::GlobWalk<'g, D, Glob<'t>, LeadingComponent<'g, 't>>;
 
 /// The walk of a glob through a directory, without captures. It opens only the folders below which
 /// the glob can match something.

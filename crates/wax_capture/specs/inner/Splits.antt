@@ -1,4 +1,4 @@
--- How pieces split a text, by their forms alone.
+-- How pieces split a text: by nothing but their forms.
 use Rattle.std.specs.Prelude.{◌≡◌, ℕ, ◌+◌, ◌*◌, ◌≤◌, List, [], ◌∷◌, ◌++◌, length, take, drop}
 use Rattle.wax_lengths.specs.Prefers.{Prefers}
 use Rattle.wax_capture.specs.Pieces.{WayOf, captured_by, forms_of, size_of}

@@ -33,7 +33,7 @@ CutsTest cuts folded NotSlash = ⊤
 CutsTest cuts folded Any = ⊤
 CutsTest cuts folded Never = ⊤
 
--- the same of the instructions before a place
+-- this holds of all instructions before a place
 abbrev pub CutsBefore : List Instruction → ℕ → List ℕ → List ℕ → Type 0
 CutsBefore code end cuts folded =
     (k : ℕ) (i : Instruction) → k < end → slice_get code k ≡ Some i
@@ -60,6 +60,6 @@ IsInBlock cuts i c = (slice_index cuts i ≤ c) × (c < slice_index_or cuts (i +
 abbrev pub HasLetter : List ℕ → List ℕ → ℕ → Type 0
 HasLetter cuts letters c = (d : ℕ) × Contains letters d × (d < 1114112) × SameBlock cuts c d
 
--- the same of each character in one of the first blocks
+-- this holds of each character in one of the first blocks
 abbrev pub Serve : List ℕ → List ℕ → ℕ → Type 0
 Serve cuts letters n = (i c : ℕ) → i < n → IsScalar c → IsInBlock cuts i c → HasLetter cuts letters c

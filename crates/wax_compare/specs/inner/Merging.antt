@@ -10,7 +10,7 @@ abbrev pub AgreeAt : List Instruction → ℕ → ℕ → ℕ → Type 0
 AgreeAt code at c d =
     (i : Instruction) → slice_get code at ≡ Some i → IfSome (test_of i) (λ t. PassesTest t c ↔ PassesTest t d)
 
--- the same of each instruction before a place
+-- this holds of each instruction before a place
 abbrev pub AgreeBefore : List Instruction → ℕ → ℕ → ℕ → Type 0
 AgreeBefore code end c d = (k : ℕ) → k < end → AgreeAt code k c d
 

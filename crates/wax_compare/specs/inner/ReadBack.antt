@@ -14,6 +14,6 @@ IsReadFrom reached from last at s = (r : Readings) (x y : Reached) → AreReache
     → EndsAt r reached from last → slice_get reached at ≡ Some x → slice_get reached from ≡ Some y
     → GoesAt r x s × (length s + x.depth ≡ y.depth + 1)
 
--- the same of the first pair
+-- this holds of the first pair
 abbrev pub IsReadBack : List Reached → ℕ → ℕ → List ℕ → Type 0
 IsReadBack reached from last s = IsReadFrom reached from last 0 s

@@ -4,7 +4,7 @@ ghost use Rattle.std.specs.Prelude.{◌≡◌, ◌⊎◌};
 ghost use Rattle.std.specs.Option.{option_map};
 ghost use Rattle.std.specs.Iterator.{IsFinite};
 ghost use Rattle.std.proofs.Common.{subst, sym, ◌∙◌};
-ghost use Rattle.wax_filter.specs.Feeding.{Feeds, SaysAt, ByEntry, NextFiltrate, entry_layer};
+ghost use Rattle.wax_filter.specs.Feeding.{Feeds, ReturnsFor, ByEntry, NextFiltrate, entry_layer};
 
 use crate::filter::cancel::{CancelWalk, SeparatingFilter, WalkCancellation};
 use crate::filter::layers::filtrate;
@@ -19,7 +19,7 @@ where
     F: FnMut(&S::Substituent) -> Option<TreeResidue<()>>,
     requires { F.IsAlwaysCallable f.old }
     ensures callable { F.IsAlwaysCallable f.new }
-    ensures says { SaysAt F.step f.old (S.shown separation.now) result f.new }
+    ensures says { ReturnsFor F.step f.old (S.shown separation.now) result f.new }
 {
     match S::entry(separation) {
         Some(entry) => f(entry),

@@ -20,10 +20,6 @@ pub enum BranchFold {
 impl BranchFold {
     /// Builds the branch of this kind with these tokens. A repetition takes only the first of them,
     /// and is `None` if there is none. Allocates only for a repetition.
-    ///
-    /// # Errors
-    ///
-    /// Returns `NoMemory` if allocation fails.
     pub fn fold<'t, A: Drop>(
         self,
         alloc: Global,

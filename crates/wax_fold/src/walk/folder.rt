@@ -29,10 +29,6 @@ pub trait Fold<'t, A>: Drop {
     fn sequencer() -> Self::Sequencer;
 
     /// Returns one more term for a branch, which follows those of its tokens, or `None`.
-    ///
-    /// # Errors
-    ///
-    /// Returns `NoMemory` if allocation fails.
     fn initialize(
         &mut self,
         alloc: Global,
@@ -42,10 +38,6 @@ pub trait Fold<'t, A>: Drop {
         ensures same { answers self.new ≡ answers self.old };
 
     /// Combines the terms of a branch's tokens into one, or returns `None` if the branch has none.
-    ///
-    /// # Errors
-    ///
-    /// Returns `NoMemory` if allocation fails.
     fn fold(
         &mut self,
         alloc: Global,
@@ -56,10 +48,6 @@ pub trait Fold<'t, A>: Drop {
         ensures same { answers self.new ≡ answers self.old };
 
     /// Converts what `fold` returned into the term of the branch.
-    ///
-    /// # Errors
-    ///
-    /// Returns `NoMemory` if allocation fails.
     fn finalize(
         &mut self,
         alloc: Global,
@@ -70,10 +58,6 @@ pub trait Fold<'t, A>: Drop {
         ensures same { answers self.new ≡ answers self.old };
 
     /// Returns the term of a leaf.
-    ///
-    /// # Errors
-    ///
-    /// Returns `NoMemory` if allocation fails.
     fn term(&mut self, alloc: Global, leaf: &LeafKind<'t>) -> Result<Self::Term, NoMemory>
         ensures answer { IfOk result (λ r. r ≡ (answers self.old).term (leaf_of leaf.now)) }
         ensures same { answers self.new ≡ answers self.old };

@@ -11,14 +11,13 @@ ghost use Rattle.wax_fold.specs.inner.WalkSteps.{StepsToEnd, GivesEntry, TakesFi
 ghost use Rattle.wax_fold.specs.Walking.{Nexts, walk_begun, below, cancelled, walk_entry, items_left};
 ghost use Rattle.wax_fold.specs.Walking.{to_come, walking};
 
-use crate::token_tree::TokenTree;
 use crate::walk::entry::{Depth, Position, TokenEntry, WalkEntry};
 use crate::walk::sequence::{ChildToken, Parent, Sequencer};
 use crate::walk::sequencers::{Ending, Forward, Starting};
 use std::alloc::{AllocError, Global};
 use std::collections::VecDeque;
 use wax_query::diagnostics::NoMemory;
-use wax_token::token::{BranchKind, Token, Topology};
+use wax_token::token::{BranchKind, Token, TokenTree, Topology};
 
 /// An iterator over the tokens of a tree, breadth first: it yields all tokens of a level before
 /// those of the next level. The sequencer chooses which tokens of a branch it visits. If allocation

@@ -22,10 +22,6 @@ pub trait FoldMap<'t, A>: Drop {
 
     /// Builds the new token of a branch from the new tokens in it, or returns `None` to remove the
     /// branch.
-    ///
-    /// # Errors
-    ///
-    /// Returns `NoMemory` if allocation fails.
     fn fold(
         &mut self,
         alloc: Global,
@@ -37,10 +33,6 @@ pub trait FoldMap<'t, A>: Drop {
         ensures same { answers self.new ≡ answers self.old };
 
     /// Builds the new token of a leaf.
-    ///
-    /// # Errors
-    ///
-    /// Returns `NoMemory` if allocation fails.
     fn map(
         &mut self,
         alloc: Global,

@@ -69,10 +69,6 @@ impl<T> AsRef<T> for Child<T> {
 
 impl<'i, 't, A> Parent<&'i BranchKind<'t, A>> {
     /// Returns all tokens of the branch, in order. Allocates the list.
-    ///
-    /// # Errors
-    ///
-    /// Returns `NoMemory` if allocation fails.
     pub fn into_tokens(self, alloc: Global) -> Result<Vec<ChildToken<'i, 't, A>>, NoMemory>
         ensures { IfOk result (λ cs. map (λ c. c.now) cs.items ≡ tokens_in (branch_of self.entry.now)) }
     {
@@ -167,10 +163,6 @@ pub trait Sequencer: Drop {
     ghost chosen: { (A : Type 0) → Branch A → List ℕ };
 
     /// Returns the chosen tokens, in that order. Allocates the list.
-    ///
-    /// # Errors
-    ///
-    /// Returns `NoMemory` if allocation fails.
     fn enqueue<'i, 't, A>(
         &mut self,
         alloc: Global,

@@ -3,13 +3,13 @@ use Rattle.std.specs.Prelude.{◌≡◌, ℕ, ◌+◌, ◌*◌, ◌/◌, ◌<◌
 use Rattle.std.specs.Prelude.{Contains, IfSome, IsFalse, IsTrue, Option, Some, length, replicate}
 use Rattle.std.specs.Prelude.{false, slice_get, true}
 use Rattle.wax_lazy.specs.declared.cache.Cache.{Cache}
-use Rattle.wax_lazy.specs.declared.cache.Lone.{Lone}
-use Rattle.wax_lazy.specs.declared.known.Known.{Known}
+use Rattle.wax_lazy.specs.declared.cache.Chain.{Chain}
+use Rattle.wax_lazy.specs.declared.dfa.LazyDfa.{LazyDfa}
 use Rattle.wax_lazy.specs.inner.Rows.{AreRows}
-use Rattle.wax_lazy.specs.inner.Table.{AreWideCells, BeginsTexts, IsRestState}
+use Rattle.wax_lazy.specs.inner.Table.{AreWideCells, BeginsTexts, IsFailureState}
 use Rattle.wax_lazy.specs.inner.Table.{IsJoinOf, IsTable, KeepsStates, numbers_in, own_at}
 use Rattle.wax_program.specs.declared.instruction.Instruction.{Instruction}
-use Rattle.wax_bits.specs.Places.{HoldsPlace}
+use Rattle.wax_program.specs.Places.{HoldsPlace}
 use Rattle.wax_program.specs.Last.{IsLastName, ReadsLast}
 use Rattle.wax_program.specs.Machine.{Accepts}
 use Rattle.wax_program.specs.Onward.{AreFlagsOf, PlaceFlags, IsAhead, flags_for}
@@ -19,7 +19,7 @@ use Rattle.wax_program.specs.Threads.{AnyAmong}
 use Rattle.wax_states.specs.declared.table.Next.{Next}
 use Rattle.wax_states.specs.declared.table.Next.TheVariants.{To, Nothing, Everything}
 use Rattle.wax_states.specs.declared.table.State.{State}
-use Rattle.wax_states.specs.States.{AreEmpty, IsStatePlace, LeadOn, places_at, places_led}
+use Rattle.wax_states.specs.States.{AreEmpty, HasState, LeadOn, places_at, places_or_none}
 
 -- the cache was made for a program of these instructions, and all that it says holds of it
 pub record IsCacheOf (code : List Instruction) (c : Cache) : Type 0 where
@@ -29,6 +29,16 @@ pub record IsCacheOf (code : List Instruction) (c : Cache) : Type 0 where
   pub wide : AreWideCells code c.table.states.items c.table.wide_cells.items
   pub rows : AreRows code c.table.states.items c.rows.keys.items c.rows.cells.items
   pub first : IfSome c.first (BeginsTexts code c.table.states.items c.start)
+
+-- and it has a state with this number
+pub record KnowsState (code : List Instruction) (c : Cache) (t : ℕ) : Type 0 where
+  pub cache : IsCacheOf code c
+  pub has_state : HasState c.table.states.items t
+
+-- it is still a cache of the program, for texts that begin at the same place
+pub record KeepsCache (code : List Instruction) (old new : Cache) : Type 0 where
+  pub cache : IsCacheOf code new
+  pub start : new.start ≡ old.start
 
 -- the lists of places that a step wrote are as they were
 pub record AreSameLists (old new : Cache) : Type 0 where
@@ -52,12 +62,12 @@ pub record IsCleared (old new : Cache) : Type 0 where
   pub row_cells : new.rows.cells.items ≡ []
   pub first : new.first ≡ None
 
--- one state is left, without its rest and with empty cells
+-- one state is left, without its failure state and with empty cells
 pub record IsRestarted (old new : Cache) (s : State) : Type 0 where
   pub maker : IsSameMaker old new
   pub left : State
   pub places : left.places ≡ s.places
-  pub rest : left.rest ≡ None
+  pub failure : left.failure ≡ None
   pub accepts : left.accepts ≡ s.accepts
   pub numbers : left.numbers ≡ None
   pub states : new.table.states.items ≡ left ∷ []
@@ -89,31 +99,31 @@ pub record IsInterned (most : ℕ) (old new : Cache) (places : List ℕ) (t : �
   pub places_are : places_at new.table.states.items t ≡ places
   pub room : length new.table.cells.items ≡ 128 * length new.table.states.items
 
--- the places that were reached are those of the state whose cells begin at `at`, and the others
+-- the places that were reached are those of the state, and the others
 abbrev pub AreParted : List Instruction → Cache → ℕ → Type 0
-AreParted code c at = IsRestState code c.table.states.items c.reached.items c.others.items at
+AreParted code c at = IsFailureState code c.table.states.items c.reached.items c.others.items at
 
--- the places that were reached are those to which the own places of the state whose cells begin at `at`
--- lead by the character, which are the others, and those of the state `led`
-pub record AreStepped (code : List Instruction) (states : List State) (at : ℕ) (led : Option ℕ) (d : ℕ)
+-- the places that were reached are those to which the own places of the state lead by the character, which
+-- are the others, and those of the state `target`
+pub record AreStepped (code : List Instruction) (states : List State) (at : ℕ) (target : Option ℕ) (d : ℕ)
     (new : Cache) : Type 0 where
   pub reached : (s : List ℕ) → AnyAmong code new.reached.items s
-      ↔ (AnyAmong code (own_at states (at / 128)) (d ∷ s) ⊎ AnyAmong code (places_led states led) s)
-  pub others : LeadOn code d (own_at states (at / 128)) new.others.items
+      ↔ (AnyAmong code (own_at states at) (d ∷ s) ⊎ AnyAmong code (places_or_none states target) s)
+  pub others : LeadOn code d (own_at states at) new.others.items
 
--- the places that were reached follow by the character from those of the state whose cells begin at `at`
+-- the places that were reached follow by the character from those of the state
 abbrev pub AreNext : List Instruction → Cache → ℕ → ℕ → Type 0
-AreNext code c at d = LeadOn code d (places_at c.table.states.items (at / 128)) c.reached.items
+AreNext code c at d = LeadOn code d (places_at c.table.states.items at) c.reached.items
 
--- the places are the lone one and those of its rest
-pub record IsLone (code : List Instruction) (states : List State) (places : List ℕ) (lone : Lone) :
+-- the places are that of the chain and those of its failure state
+pub record IsChain (code : List Instruction) (states : List State) (places : List ℕ) (chain : Chain) :
     Type 0 where
-  pub placed : IfSome lone.rest (IsStatePlace states)
-  pub union : IsJoinOf code places (places_led states lone.rest) (lone.place ∷ [])
+  pub has_state : IfSome chain.failure (HasState states)
+  pub union : IsJoinOf code places (places_or_none states chain.failure) (chain.place ∷ [])
 
--- the numbers that are known of texts that end in the state whose cells begin there, or none
+-- the numbers that are known of texts that end in the state, or none
 abbrev pub numbers_at : Cache → Option ℕ → List ℕ
-numbers_at c (Some at) = numbers_in (slice_get c.table.states.items (at / 128))
+numbers_at c (Some at) = numbers_in (slice_get c.table.states.items at)
 numbers_at c None = []
 
 -- the same, if there is a cache
@@ -123,8 +133,8 @@ numbers_known None at = []
 
 -- a fact of what may follow a text holds exactly where the next state accepts what is left, and then that
 abbrev pub LeadsFor : List Instruction → List State → (List ℕ → Type 0) → List ℕ → Next → Type 0
-LeadsFor code states Holds left (To at) = IsStatePlace states at
-    × ((s : List ℕ) → Holds s ↔ AnyAmong code (places_at states (at / 128)) (left ++ s))
+LeadsFor code states Holds left (To at) = HasState states at
+    × ((s : List ℕ) → Holds s ↔ AnyAmong code (places_at states at) (left ++ s))
 LeadsFor code states Holds left Nothing = (s : List ℕ) → Holds s → ⊥
 LeadsFor code states Holds left Everything = (s : List ℕ) → Holds s
 
@@ -164,7 +174,7 @@ IsFollowed true text part = IsLastName text part
 IsFollowed false text part = part ≡ text
 
 -- this is known of a program of these instructions
-pub record IsKnownOf (code : List Instruction) (k : Known) : Type 0 where
+pub record IsDfaOf (code : List Instruction) (k : LazyDfa) : Type 0 where
   pub last : IsTrue k.reads_last → ReadsLast code
   pub long : IsTrue k.reads_last → 2 ≤ length code
   pub cache : IfSome k.cache (IsKeptFor code k.reads_last)

@@ -6,10 +6,10 @@ use Rattle.wax_program.specs.declared.instruction.Instruction.{Instruction}
 use Rattle.wax_program.specs.Machine.{Accepts}
 use Rattle.wax_program.specs.Threads.{AnyAmong}
 use Rattle.std.specs.List.Sorted.{IsStrictlyIncreasing}
-use Rattle.wax_stepper.specs.Reached.{AreEndsMarked}
+use Rattle.wax_states.specs.Reached.{AreEndsMarked}
 use Rattle.wax_states.specs.declared.table.State.{State}
 use Rattle.wax_states.specs.declared.table.WideCell.{WideCell}
-use Rattle.wax_states.specs.States.{IsDead, IsStatePlace, IsTransition, LeadsTo, places_at}
+use Rattle.wax_states.specs.States.{IsDead, HasState, IsTransition, LeadsTo, places_at}
 
 -- the numbers if they are known, or none
 abbrev pub known_numbers : Option (Vec ℕ) → List ℕ
@@ -40,22 +40,22 @@ abbrev pub IsJoinOf : List Instruction → List ℕ → List ℕ → List ℕ �
 IsJoinOf code places part other =
     (s : List ℕ) → AnyAmong code places s ↔ (AnyAmong code part s ⊎ AnyAmong code other s)
 
--- the places are those of the state whose cells begin at `at`, and the others
-pub record IsRestState (code : List Instruction) (states : List State) (places others : List ℕ) (at : ℕ) :
+-- the places are those of the state, and the others
+pub record IsFailureState (code : List Instruction) (states : List State) (places others : List ℕ) (at : ℕ) :
     Type 0 where
-  pub placed : IsStatePlace states at
-  pub union : IsJoinOf code places (places_at states (at / 128)) others
+  pub has_state : HasState states at
+  pub union : IsJoinOf code places (places_at states at) others
 
 -- these are the numbers whose marks are accepted from one of the places on, ascending
 abbrev pub AreNumbersOf : List Instruction → List ℕ → List ℕ → Type 0
 AreNumbersOf code places numbers = AreEndsMarked code places numbers × IsStrictlyIncreasing numbers
 
--- what the state says of texts that end there is right; and if it has a rest, its places are those of the
--- rest and its own
+-- what the state says of texts that end there is right; and if it has a failure state, its places are those
+-- of that state and its own
 pub record IsState (code : List Instruction) (states : List State) (s : State) : Type 0 where
   pub ends : IfSome s.accepts (λ b. IsTrue b ↔ AnyAmong code s.places.items [])
   pub numbers : IfSome s.numbers (λ v. AreNumbersOf code s.places.items v.items)
-  pub rest : IfSome s.rest (IsRestState code states s.places.items s.own.items)
+  pub failure : IfSome s.failure (IsFailureState code states s.places.items s.own.items)
 
 -- where the character leads from the places
 abbrev pub Leads : List Instruction → List State → List ℕ → ℕ → Option ℕ → Type 0
@@ -65,7 +65,7 @@ Leads code states places c (Some at) = LeadsTo code states places c at
 -- the cell is empty, or says where its character leads from the places of its state
 abbrev pub IsWideCell : List Instruction → List State → WideCell → Type 0
 IsWideCell code states w = (w.cell ≡ 0)
-    ⊎ (IsStatePlace states w.at × IsTransition code states (places_at states (w.at / 128)) w.character w.cell)
+    ⊎ (HasState states w.state × IsTransition code states (places_at states w.state) w.character w.cell)
 
 -- each cell of a character past ASCII is such a cell
 abbrev pub AreWideCells : List Instruction → List State → List WideCell → Type 0
@@ -78,7 +78,7 @@ pub record IsTable (code : List Instruction) (states : List State) (cells : List
   pub says : (t k : ℕ) → t < length states → k < 128
       → IsTransition code states (places_at states t) k (slice_index cells (128 * t + k))
 
--- the state whose cells begin at `at` accepts what the program does from the place `start` on
+-- the state accepts what the program does from the place `start` on
 pub record BeginsTexts (code : List Instruction) (states : List State) (start at : ℕ) : Type 0 where
-  pub placed : IsStatePlace states at
-  pub accepts : (s : List ℕ) → Accepts code start s ↔ AnyAmong code (places_at states (at / 128)) s
+  pub has_state : HasState states at
+  pub accepts : (s : List ℕ) → Accepts code start s ↔ AnyAmong code (places_at states at) s

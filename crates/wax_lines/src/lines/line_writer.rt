@@ -1,13 +1,13 @@
 //! The output for one line.
 ghost use Rattle.std.specs.Prelude.{◌≡◌, ℕ, Bool, List, [], ◌∷◌, ◌++◌, OnOk, OnErr, chars};
-ghost use Rattle.wax_candidate.specs.Matched.{texts};
+ghost use Rattle.wax_query.specs.Matched.{texts};
 ghost use Rattle.wax_lines.specs.Lines.{WritesMeant, WritesCaptures, WritesNothingBefore, tabbed};
 ghost use Rattle.wax_lines.specs.inner.Matching.{IsMatchedBy, IsMatchedByBoth};
 
 use crate::writing::push_line;
 use std::alloc::{AllocError, Global};
-use wax_candidate::{CandidatePath, MatchedText, PathMatcher, Program};
 use wax_query::diagnostics::NoMemory;
+use wax_query::matching::{CandidatePath, MatchedText, PathMatcher, Program};
 
 /// A writer of what each line of a text becomes in the output, called for one line after another. It
 /// may keep what it learns from each for the next ones.

@@ -6,7 +6,7 @@ use Rattle.wax_program.specs.Closed.{IsClosed}
 use Rattle.wax_program.specs.declared.instruction.Instruction.{Instruction}
 use Rattle.wax_program.specs.Machine.{Accepts, AcceptsIn, mark}
 
--- these instructions stand in the code from a place on
+-- the code has these instructions from a place on
 abbrev pub Stands : List Instruction → ℕ → List Instruction → Type 0
 Stands code at [] = Unit {0}
 Stands code at (i ∷ is) = (slice_get code at ≡ Some i) × Stands code (at + 1) is

@@ -14,10 +14,6 @@ use wax_token::token::{BranchKind, Sides, Token, Topology};
 
 impl Tail {
     /// Writes tokens one after another.
-    ///
-    /// # Errors
-    ///
-    /// Returns `AllocError` if allocation fails.
     #[cycle(put)]
     #[tactic(auto, using(wax_token::proofs::Sizes::element_size))]
     pub fn put_sequence<'t, A>(
@@ -42,10 +38,6 @@ impl Tail {
     }
 
     /// Writes a token.
-    ///
-    /// # Errors
-    ///
-    /// Returns `AllocError` if allocation fails.
     #[cycle(put)]
     pub fn put_token<'t, A>(&mut self, token: &Token<'t, A>, sides: Sides) -> Result<(), AllocError>
         ensures { OnOk result
@@ -252,10 +244,6 @@ impl Tail {
     }
 
     /// Makes optional what was written since there were `start` instructions.
-    ///
-    /// # Errors
-    ///
-    /// Returns `AllocError` if allocation fails.
     pub fn put_skip(&mut self, start: usize) -> Result<(), AllocError>
         requires { start ≤ length self.old }
         ensures { OnOk result (self.new ≡ Instruction.Fork (length self.old - start) ∷ self.old) }

@@ -36,10 +36,6 @@ pub struct Numbered<'a, 't> {
 ///
 /// Takes memory linear in the patterns and their cost, and time in proportion to that and to the
 /// logarithm of the count of patterns.
-///
-/// # Errors
-///
-/// Returns `NoMemory` if allocation fails.
 pub fn compile_numbered<'t>(
     alloc: Global,
     patterns: &[Numbered<'_, 't>],

@@ -9,10 +9,6 @@ use wax_query::diagnostics::NoMemory;
 
 /// Returns whether two texts differ only in case: they have equally many characters, and those at
 /// the same places have the same simple case folding. Allocates for the characters of both texts.
-///
-/// # Errors
-///
-/// Returns `NoMemory` if allocation fails.
 pub fn case_folded_eq(alloc: Global, left: &str, right: &str) -> Result<bool, NoMemory>
     ensures { IfOk result (λ b. IsTrue b ↔ SameText true (chars left.now) (chars right.now)) }
 {

@@ -19,10 +19,6 @@ pub const MOST_LEADS: usize = 256;
 impl Tail {
     /// Writes what is left of patterns, one beside another. At most `most` leads are written one behind
     /// another; what is left after these is written apart.
-    ///
-    /// # Errors
-    ///
-    /// Returns `AllocError` if allocation fails.
     #[cycle(put_lefts)]
     pub fn put_lefts<'t>(
         &mut self,

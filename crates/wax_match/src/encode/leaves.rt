@@ -12,10 +12,6 @@ use wax_token::token::{LeafKind, Sides, Wildcard};
 
 impl Tail {
     /// Writes a leaf, by what is before and after it.
-    ///
-    /// # Errors
-    ///
-    /// Returns `AllocError` if allocation fails.
     pub fn put_leaf(&mut self, leaf: &LeafKind<'_>, sides: Sides) -> Result<(), AllocError>
         ensures { OnOk result
             (self.new ≡ leaf_instructions (leaf_of leaf.now) sides.before sides.after ++ self.old) }
@@ -38,10 +34,6 @@ impl Tail {
     }
 
     /// Writes the characters of a text.
-    ///
-    /// # Errors
-    ///
-    /// Returns `AllocError` if allocation fails.
     pub fn put_text(&mut self, text: &str, is_case_insensitive: bool) -> Result<(), AllocError>
         ensures { OnOk result
             (self.new ≡ literal_code is_case_insensitive (chars text.now) ++ self.old) }
@@ -84,10 +76,6 @@ impl Tail {
     }
 
     /// Writes zero or more components, each with the `/` after it.
-    ///
-    /// # Errors
-    ///
-    /// Returns `AllocError` if allocation fails.
     pub fn put_components(&mut self) -> Result<(), AllocError>
         ensures { OnOk result (self.new ≡ skip (Instruction.Components ∷ []) ++ self.old) }
     {
@@ -96,10 +84,6 @@ impl Tail {
     }
 
     /// Writes a `/` and any text after it.
-    ///
-    /// # Errors
-    ///
-    /// Returns `AllocError` if allocation fails.
     pub fn put_rest(&mut self) -> Result<(), AllocError>
         ensures { OnOk result (self.new ≡ slash_code ++ Instruction.Repeat Test.Any ∷ self.old) }
     {

@@ -23,10 +23,6 @@ pub struct WrittenEnd {
 
 /// Makes room for the ends of patterns, for each number below `limit`. Greater ones share the room of
 /// these: if one takes the place of another, that is written again.
-///
-/// # Errors
-///
-/// Returns `AllocError` if allocation fails.
 pub fn room_for_ends(alloc: Global, limit: usize) -> Result<Vec<WrittenEnd>, AllocError>
     ensures { IfOk result (λ ends. All (IsIn []) ends.items) }
 {
@@ -40,10 +36,6 @@ pub fn room_for_ends(alloc: Global, limit: usize) -> Result<Vec<WrittenEnd>, All
 
 impl Tail {
     /// Writes a wildcard and the end of a number after it, or a jump to where they are.
-    ///
-    /// # Errors
-    ///
-    /// Returns `AllocError` if allocation fails.
     pub fn put_end(
         &mut self,
         ends: &mut [WrittenEnd],
@@ -80,10 +72,6 @@ impl Tail {
     }
 
     /// Writes a wildcard.
-    ///
-    /// # Errors
-    ///
-    /// Returns `AllocError` if allocation fails.
     pub fn put_gap(&mut self, gap: Gap) -> Result<(), AllocError>
         ensures { OnOk result (self.new ≡ gap_code gap ++ self.old) }
     {

@@ -27,10 +27,6 @@ impl Model for Tail {
 
 impl Tail {
     /// Creates an empty program with room for so many instructions.
-    ///
-    /// # Errors
-    ///
-    /// Returns `AllocError` if allocation fails.
     pub fn with_room(alloc: Global, room: usize) -> Result<Tail, AllocError>
         ensures { IfOk result (λ tail. tail ≡ []) }
     {
@@ -51,10 +47,6 @@ impl Tail {
     }
 
     /// Writes an instruction before all others.
-    ///
-    /// # Errors
-    ///
-    /// Returns `AllocError` if allocation fails.
     pub fn put(&mut self, instruction: Instruction) -> Result<(), AllocError>
         ensures { OnOk result (self.new ≡ instruction ∷ self.old) }
     {

@@ -35,12 +35,13 @@ BranchesFrom size depth p ts q = (k : Place) × ReadsBranches size ts p k × Pas
     × (deepest ts ≤ depth)
 
 -- ---- what there is to read
--- q comes after p, or is p
-abbrev pub Beyond : List ℕ → List ℕ → Type 0
-Beyond p q = (x : List ℕ) × (p ≡ x ++ q)
+-- q is a suffix of p
+abbrev pub HasSuffix : List ℕ → List ℕ → Type 0
+HasSuffix p q = (x : List ℕ) × (p ≡ x ++ q)
 
-abbrev pub IsTaken : List ℕ → List ℕ → Type 0
-IsTaken p q = (x : List ℕ) × (p ≡ x ++ q) × (0 < length x)
+-- and not all of it
+abbrev pub HasProperSuffix : List ℕ → List ℕ → Type 0
+HasProperSuffix p q = (x : List ℕ) × (p ≡ x ++ q) × (0 < length x)
 
 -- a refusal for this reason
 abbrev pub IsRefusal : {E : Type 0} → (E → Type 0) → Refusal E → Type 0
@@ -74,6 +75,6 @@ abbrev pub BranchesAt : Scope → Cursor → Trees Span → Place → Type 0
 BranchesAt scope from ts q =
     BranchesFrom (utf8_len (chars scope.expression.now)) scope.depth (place from) ts q
 
--- the cursor stands in the expression
+-- the cursor is within the expression
 abbrev pub IsWithinScope : Scope → Cursor → Type 0
-IsWithinScope scope from = Beyond (chars scope.expression.now) (chars from.rest.now)
+IsWithinScope scope from = HasSuffix (chars scope.expression.now) (chars from.rest.now)

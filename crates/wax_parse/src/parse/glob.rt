@@ -5,8 +5,8 @@ ghost use Rattle.wax_query.specs.Outcome.{MatchBuild};
 ghost use Rattle.wax_token.specs.Reads.{in_alternation, in_repetition, utf8_len};
 ghost use Rattle.wax_token.specs.Words.{trees};
 ghost use Rattle.wax_parse.specs.Accepted.{IsPlace, first_len};
-ghost use Rattle.wax_parse.specs.inner.Reading.{Beyond, BranchesAt, GlobAt, IsRefusal, Sole, IsTaken};
-ghost use Rattle.wax_parse.specs.inner.Reading.{TokenAt, Unreadable, IsWithinScope};
+ghost use Rattle.wax_parse.specs.inner.Reading.{BranchesAt, GlobAt, HasProperSuffix, HasSuffix, IsRefusal};
+ghost use Rattle.wax_parse.specs.inner.Reading.{IsWithinScope, Sole, TokenAt, Unreadable};
 ghost use Rattle.wax_parse.specs.inner.Parser.{around_of, flags_end, place, at};
 
 use super::ParseError;
@@ -36,7 +36,7 @@ pub(super) fn read_glob<'t>(
     requires { IsWithinScope scope from }
     ensures { MatchBuild result
         (λ r. Sole (GlobAt scope.entry from.entry) r.0 (place r.1)
-        × Beyond (chars from.entry.rest.now) (chars r.1.rest.now))
+        × HasSuffix (chars from.entry.rest.now) (chars r.1.rest.now))
         (λ e. Unreadable (GlobAt scope.entry from.entry) × IsPlace (chars scope.entry.expression.now) e) }
 {
     let mut tokens = Vec::with_capacity(alloc, first_room(scope.around))?;
@@ -69,7 +69,7 @@ fn read_token<'t>(
     requires { IsWithinScope scope from }
     ensures { MatchBuild result
         (λ r. Sole (TokenAt scope.entry is_first from.entry) r.0 (place r.1)
-        × IsTaken (chars from.entry.rest.now) (chars r.1.rest.now))
+        × HasProperSuffix (chars from.entry.rest.now) (chars r.1.rest.now))
         (λ e. Unreadable (TokenAt scope.entry is_first from.entry)
         × IsPlace (chars scope.entry.expression.now) e) }
 {
@@ -99,7 +99,7 @@ fn read_alternation<'t>(
     requires opened { flags_end (place flags) ≡ at from.is_case_insensitive (123 ∷ chars from.rest.now) }
     ensures { (first : Bool) → MatchBuild result
         (λ r. Sole (TokenAt scope.entry first flags.entry) r.0 (place r.1)
-        × IsTaken (chars flags.entry.rest.now) (chars r.1.rest.now))
+        × HasProperSuffix (chars flags.entry.rest.now) (chars r.1.rest.now))
         (λ e. Unreadable (TokenAt scope.entry first flags.entry)
         × IsPlace (chars scope.entry.expression.now) e) }
 {
@@ -123,7 +123,7 @@ fn read_branches<'t>(
     requires around { around_of scope.around ≡ in_alternation }
     ensures { MatchBuild result
         (λ r. Sole (BranchesAt scope.entry from.entry) (trees r.0.items) (place r.1)
-        × Beyond (chars from.entry.rest.now) (chars r.1.rest.now))
+        × HasSuffix (chars from.entry.rest.now) (chars r.1.rest.now))
         (λ e. Unreadable (BranchesAt scope.entry from.entry) × IsPlace (chars scope.entry.expression.now) e) }
 {
     let mut branches = Vec::with_capacity(alloc, 2)?;
@@ -154,7 +154,7 @@ fn read_repetition<'t>(
     requires opened { flags_end (place flags) ≡ at from.is_case_insensitive (60 ∷ chars from.rest.now) }
     ensures { (first : Bool) → MatchBuild result
         (λ r. Sole (TokenAt scope.entry first flags.entry) r.0 (place r.1)
-        × IsTaken (chars flags.entry.rest.now) (chars r.1.rest.now))
+        × HasProperSuffix (chars flags.entry.rest.now) (chars r.1.rest.now))
         (λ e. Unreadable (TokenAt scope.entry first flags.entry)
         × IsPlace (chars scope.entry.expression.now) e) }
 {
@@ -226,7 +226,7 @@ fn metadata(expression: &str, from: &str, to: &str) -> ExpressionMetadata
 
 /// Builds the error at the first character of `rest`, which is a suffix of the expression.
 fn refusal(expression: &str, rest: &str) -> Refusal<ParseError>
-    requires { Beyond (chars expression.now) (chars rest.now) }
+    requires { HasSuffix (chars expression.now) (chars rest.now) }
     ensures { IsRefusal (IsPlace (chars expression.now)) result }
 {
     let place = (expression.len() - rest.len(), first_width(rest));

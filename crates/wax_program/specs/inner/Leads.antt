@@ -1,7 +1,7 @@
 -- PlaceFlags of places, and where instructions lead by them.
 use Rattle.std.specs.Prelude.{◌≡◌, ◌+◌, ◌-◌, ◌<◌, ◌≤◌, ◌⊎◌, ℕ, List, Option, Some, None, slice_get}
 use Rattle.std.specs.Prelude.{length}
-use Rattle.wax_bits.specs.Places.{HoldsPlace, Within, member_count}
+use Rattle.wax_program.specs.Places.{HoldsPlace, Within, member_count}
 use Rattle.wax_program.specs.declared.instruction.Instruction.{Instruction}
 use Rattle.wax_program.specs.declared.instruction.Instruction.TheVariants.{Check, Repeat, Components, Fork}
 use Rattle.wax_program.specs.declared.instruction.Instruction.TheVariants.{Jump, Back, End}

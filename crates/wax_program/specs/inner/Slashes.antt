@@ -4,7 +4,7 @@ use Rattle.std.specs.Prelude.{◌≡◌, ◌≢◌, ◌≤◌, ◌<◌, ◌-◌,
 abbrev pub is_slash : ℕ → Bool
 is_slash b = b == 47
 
--- no `/` stands at this place or after it
+-- no `/` is at this place or after it
 abbrev pub NoSlashFrom : ℕ → List ℕ → Type 0
 NoSlashFrom at bytes = (k : ℕ) → at ≤ k → k < length bytes → slice_index bytes k ≢ 47
 

@@ -37,10 +37,6 @@ impl CorrelatedSpan {
     }
 
     /// Returns each place, from left to right, with the label `here`.
-    ///
-    /// # Errors
-    ///
-    /// Returns `NoMemory` if allocation fails.
     pub fn labels(&self, alloc: Global) -> Result<Vec<(&'static str, Span)>, NoMemory>
         ensures { IfOk result (λ ls. AreLabels ls.items (map here (spans_of self.now))) }
     {
@@ -124,10 +120,6 @@ impl CompositeSpan {
     }
 
     /// Returns the label with its span, and then the label `here` with each place that explains it.
-    ///
-    /// # Errors
-    ///
-    /// Returns `NoMemory` if allocation fails.
     pub fn labels(&self, alloc: Global) -> Result<Vec<(&'static str, Span)>, NoMemory>
         ensures { IfOk result (λ ls. AreLabels ls.items (all_labels self.now)) }
     {

@@ -213,10 +213,6 @@ impl<'t> TextVariance<'t> {
 
     /// Returns the text as an owned path, or `None` if it varies. Allocates only if the text is
     /// borrowed.
-    ///
-    /// # Errors
-    ///
-    /// Returns `NoMemory` if allocation fails.
     pub fn into_path_buf(self, alloc: Global) -> Result<Option<String>, NoMemory>
         ensures path { IfOk result (λ path. option_map string_bytes path ≡ text_of self.entry) }
         ensures varying { IsSome (variant self.entry) → result ≡ Ok None }

@@ -7,15 +7,15 @@ use Rattle.wax_token.specs.TreeCode.{tree_code}
 use Rattle.wax_token.specs.Reads.{Span}
 use Rattle.wax_token.specs.Syntax.{Leaf, Tree, leaf, alternation, concatenation, repetition, Trees, none}
 use Rattle.wax_token.specs.Syntax.{more}
-use Rattle.wax_break.specs.declared.Side.{Side}
+use Rattle.wax_facts.specs.declared.rules.Side.{Side}
 use Rattle.wax_token.specs.Words.{annotation_of}
 use Rattle.wax_rule.specs.declared.rule.situated.Edge.{Edge}
 use Rattle.wax_rule.specs.declared.rule.situated.End.{End}
 use Rattle.wax_rule.specs.declared.rule.situated.End.TheVariants.{Start, Finish}
 use Rattle.wax_rule.specs.declared.rule.situated.Neighbour.{Neighbour}
-use Rattle.wax_alternatives.specs.Alternatives.{beside}
-use Rattle.wax_break.specs.Situated.{Situated, starts_with_leaf, some_starts_in, ends_in, some_ends_in}
-use Rattle.wax_break.specs.Situated.{start_side, end_side, right_of, situated_levels}
+use Rattle.wax_facts.specs.Alternatives.{beside}
+use Rattle.wax_facts.specs.Situated.{Situated, starts_with_leaf, some_starts_in, ends_in, some_ends_in}
+use Rattle.wax_facts.specs.Situated.{start_side, end_side, right_of, situated_levels}
 
 abbrev pub branches : Option Side → Option Side → Trees Span → List Situated
 branches left right none = []
@@ -84,7 +84,7 @@ unless_leaf s (repetition a t low high) = s ∷ []
 abbrev pub only_branches : List Situated → List Situated
 only_branches ss = flat_map (λ s. unless_leaf s s.token) ss
 
--- how proofs tell these apart: each is stored as the tuple of its fields
+-- how proofs show that two differ: each is stored as the tuple of its fields
 abbrev pub side_code : Coded Side
 side_code = code_by (Span × (Bool × Bool)) (coded× (coded× coded_ℕ coded_ℕ) (coded× coded_bool coded_bool))
     (λ s. (s.span, (s.has_boundary, s.has_zero_or_more)))

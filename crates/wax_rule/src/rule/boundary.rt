@@ -4,7 +4,7 @@ ghost use Rattle.std.specs.Prelude.{◌≡◌};
 ghost use Rattle.wax_token.specs.Words.{trees};
 ghost use Rattle.wax_token.specs.Kinds.{is_boundary_leaf};
 ghost use Rattle.wax_query.specs.Spans.{span_union};
-ghost use Rattle.wax_break.specs.Rules.{adjacent_span, boundary_breaks, adjacent_boundaries};
+ghost use Rattle.wax_facts.specs.Rules.{adjacent_span, boundary_breaks, adjacent_boundaries};
 ghost use Rattle.wax_token.specs.Kinds.{is_such};
 ghost use Rattle.wax_rule.specs.FirstBreak.{head_of};
 

@@ -1,7 +1,7 @@
 //! The rule of incompatible bounds: a repetition's upper bound is below its lower one, or both are
 //! zero.
 ghost use Rattle.std.specs.Prelude.{◌≡◌};
-ghost use Rattle.wax_break.specs.Rules.{are_incompatible, bounds_breaks};
+ghost use Rattle.wax_facts.specs.Rules.{are_incompatible, bounds_breaks};
 ghost use Rattle.wax_rule.specs.FirstBreak.{head_of};
 
 use super::{Break, RuleErrorKind, break_here};

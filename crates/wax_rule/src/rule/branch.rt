@@ -3,14 +3,14 @@
 ghost use Rattle.std.specs.Prelude.{◌≡◌};
 ghost use Rattle.std.specs.Option.{option_or};
 ghost use Rattle.wax_token.specs.Words.{trees};
-ghost use Rattle.wax_break.specs.Rules.{terminal_of, side_has_boundary, has_zero_or_more, split_from};
-ghost use Rattle.wax_break.specs.Rules.{shared_rows, alternation_rows, repetition_rows, own_rows};
-ghost use Rattle.wax_break.specs.Rules.{first_that_holds, rows_of, sub_glob_breaks, alternative_breaks};
-ghost use Rattle.wax_break.specs.Rules.{branch_breaks, label_of};
+ghost use Rattle.wax_facts.specs.Rules.{terminal_of, side_has_boundary, has_zero_or_more, split_from};
+ghost use Rattle.wax_facts.specs.Rules.{shared_rows, alternation_rows, repetition_rows, own_rows};
+ghost use Rattle.wax_facts.specs.Rules.{first_that_holds, rows_of, sub_glob_breaks, alternative_breaks};
+ghost use Rattle.wax_facts.specs.Rules.{branch_breaks, label_of};
 ghost use Rattle.wax_rule.specs.FirstBreak.{head_of};
 
 use super::situated::Situated;
-use wax_break::{Break, Row, RuleErrorKind, Side, Sort, Terminal};
+use wax_facts::{Break, Row, RuleErrorKind, Side, Sort, Terminal};
 use wax_query::diagnostics::{CompositeSpan, CorrelatedSpan, Span};
 use wax_token::token::{BranchKind, ExpressionMetadata, Token, Topology};
 

@@ -5,15 +5,16 @@ ghost use Rattle.std.specs.List.{Contains};
 ghost use Rattle.wax_token.specs.Reads.{Span};
 ghost use Rattle.wax_token.specs.Syntax.{Tree, alternation};
 ghost use Rattle.wax_token.specs.Words.{trees};
-ghost use Rattle.wax_alternatives.specs.Alternatives.{MeansOneOf, alternatives};
+ghost use Rattle.wax_facts.specs.Alternatives.{MeansOneOf, alternatives};
 ghost use Rattle.wax_rule.specs.Keeping.{KeepsRules};
 
 use crate::rule::{Checked, Ruled};
 use std::alloc::{AllocError, Global};
-use wax_alternatives::into_alternatives;
-use wax_fold::TokenTree;
+use wax_facts::into_alternatives;
 use wax_query::diagnostics::NoMemory;
-use wax_token::token::{Alternation, BranchKind, ExpressionMetadata, Token, Tokenized, new_branch};
+use wax_token::token::{
+    Alternation, BranchKind, ExpressionMetadata, Token, TokenTree, Tokenized, new_branch,
+};
 
 /// A type that contains a token, which keeps the rules if the value does.
 pub trait RuledTree<'t>: TokenTree<'t, Annotation = ExpressionMetadata> + Ruled {
@@ -50,10 +51,6 @@ impl<'t, T: RuledTree<'t>> Checked<T> {
 
     /// Splits the token into its alternatives, as `wax::token::into_alternatives` does: the token
     /// matches a path exactly if one of them does. Takes time and memory linear in the tokens.
-    ///
-    /// # Errors
-    ///
-    /// Returns `NoMemory` if allocation fails.
     pub fn into_alternatives(
         self,
         alloc: Global,
@@ -69,10 +66,6 @@ impl<'t, T: RuledTree<'t>> Checked<T> {
 impl<'t> Checked<Tokenized<'t, ExpressionMetadata>> {
     /// Converts the value to one that owns the expression and all texts of the token. Takes time
     /// and memory linear in the expression, the tokens and their texts.
-    ///
-    /// # Errors
-    ///
-    /// Returns `NoMemory` if allocation fails.
     pub fn into_owned(
         self,
         alloc: Global,
@@ -88,10 +81,6 @@ impl<'t> Checked<Tokenized<'t, ExpressionMetadata>> {
 
     /// Copies the value to one that owns the expression and all texts of the token. Takes time and
     /// memory linear in the expression, the tokens and their texts.
-    ///
-    /// # Errors
-    ///
-    /// Returns `NoMemory` if allocation fails.
     pub fn to_owned(
         &self,
         alloc: Global,
@@ -109,10 +98,6 @@ impl<'t> Checked<Tokenized<'t, ExpressionMetadata>> {
 impl<'t> Checked<Token<'t, ExpressionMetadata>> {
     /// Converts the token to one that owns all its texts. Takes time and memory linear in the
     /// tokens and their texts.
-    ///
-    /// # Errors
-    ///
-    /// Returns `NoMemory` if allocation fails.
     pub fn into_owned(
         self,
         alloc: Global,
@@ -129,10 +114,6 @@ impl<'t> Checked<Token<'t, ExpressionMetadata>> {
     ///
     /// The rules are not checked for the alternation itself. Its span is (0, 0), and each token in
     /// it keeps the spans of its own expression.
-    ///
-    /// # Errors
-    ///
-    /// Returns `NoMemory` if allocation fails.
     pub fn any<T>(alloc: Global, all: Vec<Checked<T>>) -> Result<Self, NoMemory>
     where
         T: RuledTree<'t> + Drop,

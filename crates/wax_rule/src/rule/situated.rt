@@ -4,7 +4,7 @@ ghost use Rattle.std.specs.Prelude.{◌||◌, length, IfSome, IsNone};
 ghost use Rattle.std.specs.List.{flat_map};
 ghost use Rattle.wax_token.specs.View.{leaf_of};
 ghost use Rattle.wax_token.specs.Words.{trees};
-ghost use Rattle.wax_break.specs.Situated.{right_of, breadth_first};
+ghost use Rattle.wax_facts.specs.Situated.{right_of, breadth_first};
 ghost use Rattle.wax_token.specs.Kinds.{is_boundary_leaf, is_zero_or_more_leaf};
 ghost use Rattle.wax_rule.specs.inner.Queue.{branches, siblings, children, only_branches, queue_children};
 ghost use Rattle.wax_rule.specs.inner.Queue.{neighbour_side, side_of, is_found_at, is_found_at_some};
@@ -12,7 +12,7 @@ ghost use Rattle.wax_rule.specs.inner.Queue.{IsOutermost};
 
 use std::alloc::{AllocError, Global};
 use std::marker::Model;
-use wax_break::Side;
+use wax_facts::Side;
 use wax_query::diagnostics::Span;
 use wax_token::token::{BranchKind, ExpressionMetadata, LeafKind, Token, Topology};
 
@@ -25,7 +25,7 @@ pub(super) struct Situated<'i, 't> {
 }
 
 impl<'i, 't> Model for Situated<'i, 't> {
-    ghost use Rattle.wax_break.specs.Situated.{Situated as ASituated};
+    ghost use Rattle.wax_facts.specs.Situated.{Situated as ASituated};
     ghost use Rattle.wax_rule.specs.inner.Queue.{neighbour_side, situated_code};
 
     ghost Value = { ASituated };

@@ -3,8 +3,8 @@ ghost use Rattle.std.specs.Prelude.{◌≡◌, IfOk, chars};
 ghost use Rattle.wax_token.specs.Reads.{utf8_len};
 ghost use Rattle.wax_token.specs.View.{leaf_of};
 ghost use Rattle.wax_token.specs.Words.{trees};
-ghost use Rattle.wax_break.specs.Sizes.{are_of_size, common_size, fixed_size, is_oversized, leaf_size};
-ghost use Rattle.wax_break.specs.Sizes.{saturated_size, size_of_copies, total_size};
+ghost use Rattle.wax_facts.specs.Sizes.{are_of_size, common_size, fixed_size, is_oversized, leaf_size};
+ghost use Rattle.wax_facts.specs.Sizes.{saturated_size, size_of_copies, total_size};
 
 use super::natural::Natural;
 use std::alloc::{AllocError, Global};

@@ -1,17 +1,17 @@
 //! A matcher of one set of patterns for many paths.
 ghost use Rattle.std.specs.Prelude.{◌≡◌, ◌↔◌, IfOk, IsTrue, false};
 ghost use Rattle.wax_set.specs.Sets.{AreMatches, MeansText};
-ghost use Rattle.wax_compiled.specs.Below.{MeansBelow, goes_test, goes_tested};
+ghost use Rattle.wax_prefilter.specs.Below.{MeansBelow, goes_test, goes_tested};
 ghost use Rattle.wax_token.specs.Decided.{means_test, means_tested};
 
 use crate::set::{Any, branches_of};
 use std::alloc::Global;
 use std::marker::Model;
-use wax_candidate::{BuildMatcher, CandidatePath, PathMatcher};
-use wax_compiled::CompiledTokens;
 use wax_lazy::Matcher;
 use wax_match::encode::CompiledProgram;
+use wax_prefilter::CompiledTokens;
 use wax_query::diagnostics::NoMemory;
+use wax_query::matching::{BuildMatcher, CandidatePath, PathMatcher};
 use wax_query::query::Verdict;
 
 /// How many bytes of earlier paths are kept at most to say which patterns match, about.
@@ -66,10 +66,6 @@ impl<'t> Any<'t> {
     /// Builds a matcher, which is faster than the set for many paths if its patterns have many
     /// branches. It keeps about 2 MiB at most, or up to 16 MiB if the set is large; and up to 16 MiB
     /// more once it was asked which patterns match, or whether one of more than 32 does.
-    ///
-    /// # Errors
-    ///
-    /// Returns `NoMemory` if allocation fails.
     pub fn matcher<'a>(&'a self, alloc: Global) -> Result<AnyMatcher<'a, 't>, NoMemory>
         ensures { IfOk result (λ m. m ≡ self.now) }
     {

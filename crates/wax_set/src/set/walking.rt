@@ -9,14 +9,13 @@ ghost use Rattle.wax_tree.specs.declared.behavior.DepthBehavior.TheVariants.{Unb
 
 use crate::set::{Any, branches_of};
 use std::alloc::Global;
-use wax_candidate::Program;
 use wax_directory::directory::Directory;
 use wax_exclude::{common_prefix_of, walk_along, within};
 use wax_filter::filter::SeparatingFilter;
-use wax_glob_walk::{Uncaptured, uncaptured_of};
 use wax_query::diagnostics::NoMemory;
+use wax_query::matching::Program;
 use wax_token::token::{ExpressionMetadata, Token};
-use wax_tree::{DepthRange, WalkBehavior};
+use wax_tree::{DepthRange, Uncaptured, WalkBehavior, uncaptured_of};
 use wax_walk::FileIterator;
 
 /// The walk of a set through a directory. It opens only the folders below which a pattern can match

@@ -15,10 +15,6 @@ use wax_query::diagnostics::NoMemory;
 impl<'t, A: Copy> Token<'t, A> {
     /// Copies the token and all texts in it. Takes time and memory linear in the tokens and their
     /// texts.
-    ///
-    /// # Errors
-    ///
-    /// Returns `NoMemory` if allocation fails.
     pub fn to_owned(&self, alloc: Global) -> Result<Token<'static, A>, NoMemory>
         ensures { IfOk result (λ copy. copy ≡ self.now) }
     {
@@ -29,10 +25,6 @@ impl<'t, A: Copy> Token<'t, A> {
 impl<'t, A: Copy> Tokenized<'t, A> {
     /// Copies the expression, the token and all texts in it. Takes time and memory linear in the
     /// expression, the tokens and their texts.
-    ///
-    /// # Errors
-    ///
-    /// Returns `NoMemory` if allocation fails.
     pub fn to_owned(&self, alloc: Global) -> Result<Tokenized<'static, A>, NoMemory>
         ensures expression { IfOk result (λ copy.
             cow_str_bytes copy.expression ≡ cow_str_bytes self.now.expression) }

@@ -14,10 +14,6 @@ use wax_query::diagnostics::NoMemory;
 
 impl<'t> Literal<'t> {
     /// Converts the literal to one that owns its text. Copies the text only if it is borrowed.
-    ///
-    /// # Errors
-    ///
-    /// Returns `NoMemory` if allocation fails.
     pub fn into_owned(self, alloc: Global) -> Result<Literal<'static>, NoMemory>
         ensures { IfOk result (λ l. l ≡ self.entry) }
     {
@@ -28,10 +24,6 @@ impl<'t> Literal<'t> {
 
 impl<'t> LeafKind<'t> {
     /// Converts the leaf to one that owns its text. Only a literal has one.
-    ///
-    /// # Errors
-    ///
-    /// Returns `NoMemory` if allocation fails.
     pub fn into_owned(self, alloc: Global) -> Result<LeafKind<'static>, NoMemory>
         ensures { IfOk result (λ l. leaf_of l ≡ leaf_of self.entry) }
     {
@@ -47,10 +39,6 @@ impl<'t> LeafKind<'t> {
 impl<'t, A: Drop> Token<'t, A> {
     /// Converts the token to one that owns all its texts. Takes time and memory linear in the
     /// tokens and their texts.
-    ///
-    /// # Errors
-    ///
-    /// Returns `NoMemory` if allocation fails.
     pub fn into_owned(self, alloc: Global) -> Result<Token<'static, A>, NoMemory>
         ensures { IfOk result (λ t. t ≡ self.entry) }
     {
@@ -61,10 +49,6 @@ impl<'t, A: Drop> Token<'t, A> {
 impl<'t, A: Drop> Tokenized<'t, A> {
     /// Converts the value to one that owns the expression and all texts of the token. Takes time
     /// and memory linear in the expression, the tokens and their texts.
-    ///
-    /// # Errors
-    ///
-    /// Returns `NoMemory` if allocation fails.
     pub fn into_owned(self, alloc: Global) -> Result<Tokenized<'static, A>, NoMemory>
         ensures expression { IfOk result (λ u.
             cow_str_bytes u.expression ≡ cow_str_bytes self.entry.expression) }

@@ -1,6 +1,6 @@
 use Rattle.std.proofs.Common.{◌∙◌, ap, false, subst}
 use Rattle.wax_capture.specs.Pieces.{ArePieces}
-use Rattle.wax_compiled.specs.Compiled.{IsCompiled}
+use Rattle.wax_prefilter.specs.Compiled.{IsCompiled}
 use Rattle.wax_token.specs.Words.{members}
 use Rattle.wax.proofs.glob.compiled.Goals as goal
 

@@ -1,5 +1,5 @@
 use Rattle.std.proofs.Common.{chars, refl, subst, sym}
-use Rattle.wax_error.specs.Expressions.{Spells}
+use Rattle.wax_set.specs.Expressions.{Spells}
 use Rattle.wax_set.specs.Patterns.{IsOnly}
 use Rattle.wax.proofs.ignoring.read.Goals as goal
 

@@ -1,6 +1,6 @@
 use Rattle.std.proofs.Common.{inl, inr}
 use Rattle.wax_exclude.proofs.Empty.{none_in_range, none_meant}
-use Rattle.wax_compiled.specs.Below.{goes_test}
+use Rattle.wax_prefilter.specs.Below.{goes_test}
 use Rattle.wax_exclude.proofs.Exactly.{lists_exactly}
 use Rattle.wax_exclude.proofs.Goes.{goes_tests}
 use Rattle.wax_exclude.proofs.Headline.{gives_wanted, lists_few}

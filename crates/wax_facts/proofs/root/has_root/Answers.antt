@@ -3,4 +3,4 @@ use Rattle.wax_facts.proofs.Roots.{root_sound}
 use Rattle.wax_facts.proofs.root.has_root.Goals as goal
 
 pub returns-clause-always : goal.returns-clause-always
-returns-clause-always g c = λ e s m. root_sound c.args.token.now (sym c.find_root.ensures ∙ e) false s m
+returns-clause-always g c = λ e s m. root_sound c.args.token.now (sym c.root_of.ensures ∙ e) false s m

@@ -10,7 +10,7 @@ returns-in-To-clause-decides c = λ text led.
     let code = c.args.program.now.0 in
     let start = c.args.cache.now.start in
     let states = c.args.cache.now.table.states.items in
-    let places = places_at states (c.in-To.at / 128) in
+    let places = places_at states c.in-To.state in
     let leads = (rw c.in-To.is at led).1 in
     let ahead = subst (λ p. IsTrue c.any_ahead.result ↔ AnyAhead c.args.onward.now c.args.m p) (sym c.places.ensures) c.any_ahead.ensures in
     record {

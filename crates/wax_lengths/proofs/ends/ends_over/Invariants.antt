@@ -1,5 +1,5 @@
 use Rattle.std.proofs.Common.{◌≡◌, ◌≤◌, ◌+◌, ◌*◌, drop, length, take}
-use Rattle.wax_bits.specs.Places.{IsEmpty}
+use Rattle.wax_program.specs.Places.{IsEmpty}
 use Rattle.wax_lengths.specs.Ends.{MarksBeginnings}
 use Rattle.wax_lengths.proofs.Beginnings.{Leads}
 use Rattle.wax_lengths.proofs.ends.ends_over.Given as goal

@@ -3,8 +3,8 @@ use Rattle.std.proofs.lemmas.Option.{IfSome_then}
 use Rattle.std.proofs.lemmas.Result.{IfOk-weaker}
 use Rattle.wax_prefilter.proofs.Holding.{any_left, any_right, last_holds, one_holds}
 use Rattle.wax_prefilter.proofs.MeantEdges.{next_branch}
-use Rattle.wax_prefilter.specs.Facts.{StandsAt, HoldsOne}
-use Rattle.wax_prefilter.specs.Known.{AllHold}
+use Rattle.wax_prefilter.specs.Facts.{ContainsAt, ContainsOne}
+use Rattle.wax_prefilter.specs.Known.{EachContainsOne}
 use Rattle.wax_token.specs.Meaning.{Means, MeansEach}
 use Rattle.wax_token.specs.Words.{trees}
 use Rattle.wax_prefilter.proofs.facts.+needles_of.Goals as goal
@@ -18,21 +18,21 @@ pub needles_of_each-returns-in-Some-last : goal.needles_of_each-returns-in-Some-
 needles_of_each-returns-in-Some-last t c =
     let tokens = c.args.tokens.now in
     let e : slice_get tokens (length tokens - 1) ≡ Some c.in-Some-last.token.now = search rules in
-    subst (λ place. IfOk c.needles_of-in-Some-last.result (λ known. IfSome known (λ v. AllHold place v.items (MeansEach (trees tokens))))) (sym c.in-End.is)
+    subst (λ anchor. IfOk c.needles_of-in-Some-last.result (λ known. IfSome known (λ v. EachContainsOne anchor v.items (MeansEach (trees tokens))))) (sym c.in-End.is)
     (IfOk-weaker c.needles_of-in-Some-last.result _ _
     (λ known k. IfSome_then known k (λ v h. last_holds tokens c.in-Some-last.token.now v.items e h))
     c.needles_of-in-Some-last.ensures)
 
 pub needles_of_some-loop-token-preserved : goal.needles_of_some-loop-token-preserved
 needles_of_some-loop-token-preserved t c = λ before after text alone h.
-    let known : AllHold c.args.place c.in-Some.needles.items (Means c.token-item.result) =
-    subst (λ o. IfSome o (λ v. AllHold c.args.place v.items (Means c.token-item.result))) c.in-Some.is c.in_ok-needles.ensures in
+    let known : EachContainsOne c.args.anchor c.in-Some.needles.items (Means c.token-item.result) =
+    subst (λ o. IfSome o (λ v. EachContainsOne c.args.anchor v.items (Means c.token-item.result))) c.in-Some.is c.in_ok-needles.ensures in
     let more = c.in_ok-append.ensures.items in
     elim (c.loop-token.invariant before after text alone h) [
-      | inl found ↦ inl (subst (λ z. HoldsOne c.args.place z text) (sym more) (any_left (λ held. StandsAt c.args.place held text) _ _ found))
+      | inl found ↦ inl (subst (λ z. ContainsOne c.args.anchor z text) (sym more) (any_left (λ held. ContainsAt c.args.anchor held text) _ _ found))
       | inr later ↦ elim (next_branch c.args.tokens.now c.loop-token.token-index c.token-item.result c.loop-token-test.true c.token-item.is before after text later) [
-        | inl meant ↦ inl (subst (λ z. HoldsOne c.args.place z text) (sym more)
-            (any_right (λ held. StandsAt c.args.place held text) _ _ (known before after text alone meant)))
+        | inl meant ↦ inl (subst (λ z. ContainsOne c.args.anchor z text) (sym more)
+            (any_right (λ held. ContainsAt c.args.anchor held text) _ _ (known before after text alone meant)))
         | inr rest ↦ inr rest
       ]
     ]

@@ -2,7 +2,7 @@ use Rattle.std.proofs.Common.{ℕ, ◌+◌, ◌*◌, Bool, List, ◌⊎◌, drop
 use Rattle.wax_token.specs.Meaning.{MeansSome}
 use Rattle.wax_token.specs.Syntax.{tree_size, trees_size}
 use Rattle.wax_token.specs.Words.{trees}
-use Rattle.wax_prefilter.specs.Facts.{HoldsOne}
+use Rattle.wax_prefilter.specs.Facts.{ContainsOne}
 use Rattle.wax_prefilter.specs.Known.{CanBeAfter}
 use Rattle.wax_prefilter.proofs.facts.+needles_of.Given as goal
 
@@ -20,5 +20,5 @@ decreases-needles_of_some l = 2 * trees_size (trees l.tokens.now)
 
 -- a text that is meant holds one of these, or a later branch means it
 abbrev pub invariant-needles_of_some-loop-token : goal.invariant-needles_of_some-loop-token
-invariant-needles_of_some-loop-token l = (before after : Bool) (text : List ℕ) → CanBeAfter l.place before → MeansSome (trees l.tokens) before after text
-    → HoldsOne l.place l.all.items text ⊎ MeansSome (trees (drop l.token-index l.tokens)) before after text
+invariant-needles_of_some-loop-token l = (before after : Bool) (text : List ℕ) → CanBeAfter l.anchor before → MeansSome (trees l.tokens) before after text
+    → ContainsOne l.anchor l.all.items text ⊎ MeansSome (trees (drop l.token-index l.tokens)) before after text

@@ -4,7 +4,7 @@ use Rattle.wax_token.specs.Syntax.{repetition}
 use Rattle.wax_token.specs.View.{topology_tree}
 use Rattle.wax_token.specs.Words.{annotation_of}
 use Rattle.wax_token.specs.declared.token.Topology.TheVariants.{Branch}
-use Rattle.wax_prefilter.specs.Known.{IsAtMostAll}
+use Rattle.wax_prefilter.specs.Known.{IsLeastLength}
 use Rattle.wax_prefilter.proofs.Lengths.{left_more, repeated_length}
 use Rattle.wax_prefilter.proofs.least.+least_of.Goals as goal
 
@@ -14,7 +14,7 @@ least_of-returns-in-Repetition t c = λ before after text h.
     let annotation = annotation_of c.args.token.now in
     let seen : c.args.token.now ≡ repetition annotation r.token.value r.lower r.upper =
     sym c.topology.ensures ∙ ap (λ z. topology_tree z annotation) (c.in-Branch.is ∙ ap Branch c.in-Repetition.is) in
-    let body : IsAtMostAll c.least_of.result (Means r.token.value) = subst (λ z. IsAtMostAll c.least_of.result (Means z)) c.deref.ensures c.least_of.ensures in
+    let body : IsLeastLength c.least_of.result (Means r.token.value) = subst (λ z. IsLeastLength c.least_of.result (Means z)) c.deref.ensures c.least_of.ensures in
     let m : Means (repetition annotation r.token.value r.lower r.upper) before after text = subst (λ z. Means z before after text) seen h in
     let fits : c.least_of.result * r.lower ≤ length text =
     repeated_length (Means r.token.value) c.least_of.result r.lower body m.0 m.1 before after text m.3 in

@@ -1,9 +1,9 @@
 use Rattle.std.specs.Option.{IfSome}
-use Rattle.wax_prefilter.specs.Known.{AllHold}
-use Rattle.wax_prefilter.specs.declared.needle.Place.TheVariants.{Anywhere}
+use Rattle.wax_prefilter.specs.Known.{EachContainsOne}
+use Rattle.wax_prefilter.specs.declared.needle.Anchor.TheVariants.{Anywhere}
 use Rattle.wax_token.specs.Meaning.{MeansEach}
 use Rattle.wax_token.specs.Words.{trees}
 use Rattle.wax_prefilter.proofs.literals.longest_needles.Given as goal
 
 abbrev pub invariant-loop-token : goal.invariant-loop-token
-invariant-loop-token l = IfSome l.longest (λ v. AllHold Anywhere v.items (MeansEach (trees l.tokens)))
+invariant-loop-token l = IfSome l.longest (λ v. EachContainsOne Anywhere v.items (MeansEach (trees l.tokens)))

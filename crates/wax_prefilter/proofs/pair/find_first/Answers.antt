@@ -1,14 +1,14 @@
 use Rattle.std.proofs.Common.{◌+◌, arith}
-use Rattle.wax_prefilter.specs.inner.Pairs.{NoneStandsBefore}
+use Rattle.wax_prefilter.specs.inner.Pairs.{NoPairsBefore}
 use Rattle.wax_prefilter.proofs.Pairs.{none_further}
 use Rattle.wax_prefilter.proofs.pair.find_first.Goals as goal
 
-pub returns-then-place-lt-LANES-clause-before : goal.returns-then-place-lt-LANES-clause-before
-returns-then-place-lt-LANES-clause-before c =
-    none_further c.args.pairs.now c.args.bytes.now c.loop-at.at c.first_place-place.result c.loop-at.invariant.1 c.first_place-place.ensures.before
+pub returns-then-position-lt-LANES-clause-before : goal.returns-then-position-lt-LANES-clause-before
+returns-then-position-lt-LANES-clause-before c =
+    none_further c.args.pairs.now c.args.bytes.now c.loop-at.at c.first_position-position.result c.loop-at.invariant.1 c.first_position-position.ensures.before
 
 pub loop-at-preserved : goal.loop-at-preserved
 loop-at-preserved c =
-    let before : NoneStandsBefore c.args.pairs.now c.args.bytes.now (c.loop-at.at + c.first_place-place.result) =
-    none_further c.args.pairs.now c.args.bytes.now c.loop-at.at c.first_place-place.result c.loop-at.invariant.1 c.first_place-place.ensures.before in
-    (omega arith, λ k below. before k (omega (arith, below, c.if-place-lt-LANES.false)))
+    let before : NoPairsBefore c.args.pairs.now c.args.bytes.now (c.loop-at.at + c.first_position-position.result) =
+    none_further c.args.pairs.now c.args.bytes.now c.loop-at.at c.first_position-position.result c.loop-at.invariant.1 c.first_position-position.ensures.before in
+    (omega arith, λ k below. before k (omega (arith, below, c.if-position-lt-LANES.false)))

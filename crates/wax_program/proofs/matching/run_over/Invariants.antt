@@ -3,7 +3,7 @@ use Rattle.std.specs.Str.{chars}
 use Rattle.std.specs.Str.Iter.{chars_rest}
 use Rattle.wax_program.specs.Meter.{most_ticks}
 use Rattle.wax_program.specs.Steady.{IsKnown}
-use Rattle.wax_bits.specs.Places.{IsEmpty}
+use Rattle.wax_program.specs.Places.{IsEmpty}
 use Rattle.wax_program.specs.Threads.{Stays}
 use Rattle.wax_program.proofs.matching.run_over.Given as goal
 

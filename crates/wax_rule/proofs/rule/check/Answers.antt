@@ -1,5 +1,5 @@
 use Rattle.std.proofs.Common.{None, rules, ◌≡◌}
-use Rattle.wax_break.specs.Rules.{broken}
+use Rattle.wax_facts.specs.Rules.{broken}
 use Rattle.wax_rule.specs.FirstBreak.{head_of}
 use Rattle.wax_rule.specs.Keeping.{unbroken}
 use Rattle.wax_rule.proofs.Keeping.{no_break}

@@ -1,6 +1,6 @@
 use Rattle.std.proofs.Common.{◌+◌, drop, Option, sym, ◌∙◌, ap}
 use Rattle.std.specs.Option.{option_or}
-use Rattle.wax_break.specs.declared.Break.{Break}
+use Rattle.wax_facts.specs.declared.rules.Break.{Break}
 use Rattle.wax_rule.specs.FirstBreak.{head_of, oversized_among}
 use Rattle.wax_rule.proofs.Firsts.{oversized_among_step}
 use Rattle.wax_token.specs.Words.{trees}

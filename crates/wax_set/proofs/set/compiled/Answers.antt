@@ -1,5 +1,5 @@
 use Rattle.std.proofs.Common.{subst}
-use Rattle.wax_compiled.specs.Compiled.{IsCompiled}
+use Rattle.wax_prefilter.specs.Compiled.{IsCompiled}
 use Rattle.wax_set.specs.Sets.{IsNumbered}
 use Rattle.wax_set.proofs.Numbers.{numbers_branches}
 use Rattle.wax_set.proofs.set.compiled.Goals as goal

@@ -1,6 +1,6 @@
 use Rattle.std.proofs.Common.{◌≡◌, [], ◌+◌, ◌++◌, subst}
 use Rattle.wax_walk.proofs.Collecting.{map_ok}
-use Rattle.wax_walk.specs.Collected.{GaveAll}
+use Rattle.wax_walk.specs.Collected.{Yielded}
 use Rattle.wax_tree.specs.Begins.{behavior_range, scope_in}
 use Rattle.wax_tree.specs.Whole.{plain_pending}
 use Rattle.wax_tree.proofs.Answered.{entries_answered}
@@ -17,7 +17,7 @@ returns-clause-items g c =
     let b = c.walk_from.ensures.begins in
     map_ok (λ r h s shows.
     let told = g.met.D.Directory.tells_some c.args.directory in
-    let all = subst (λ n. GaveAll (law.tells r.1) n (plain_pending range start s told.0) h.0) b.listings
+    let all = subst (λ n. Yielded (law.tells r.1) n (plain_pending range start s told.0) h.0) b.listings
     (h.1.all (plain_pending range start s told.0) (b.shown s told.0 shows told.1)) in (
       told.0,
       untold (law.tells r.1) (range.budget + 1) _ _
@@ -33,7 +33,7 @@ returns-clause-entries g c =
     let b = c.walk_from.ensures.begins in
     map_ok (λ r h s shows.
     let told = g.met.D.Directory.tells_some c.args.directory in
-    let all = subst (λ n. GaveAll (law.tells r.1) n (plain_pending range start s told.0) h.0) b.listings
+    let all = subst (λ n. Yielded (law.tells r.1) n (plain_pending range start s told.0) h.0) b.listings
     (h.1.all (plain_pending range start s told.0) (b.shown s told.0 shows told.1)) in
     entries_are range start s (law.tells r.1) told.0 _
     (plain_kept (scope_in range start) (law.tells r.1) (range.budget + 1) s told.0 _ h.0 _ all h.3))
@@ -46,7 +46,7 @@ returns-clause-folders g c =
     let start = c.args.start.now in
     let b = c.walk_from.ensures.begins in
     map_ok (λ r h s listed shows told.
-    let all = subst (λ n. GaveAll (law.tells r.1) n (plain_pending range start s listed) h.0) b.listings
+    let all = subst (λ n. Yielded (law.tells r.1) n (plain_pending range start s listed) h.0) b.listings
     (h.1.all (plain_pending range start s listed) (b.shown s listed shows told)) in
     plain_kept (scope_in range start) (law.tells r.1) (range.budget + 1) s listed _ h.0 _ all h.3)
     c.collect.result c.collect.ensures.took

@@ -1,11 +1,11 @@
 use Rattle.std.proofs.Common.{[], map, refl, subst, ◌∙◌, inr, arith}
 use Rattle.wax_exclude.proofs.Telling.{answered_before}
 use Rattle.wax_exclude.specs.GlobRequests.{goes}
-use Rattle.wax_glob_walk.specs.Programs.{any_mark}
+use Rattle.wax_tree.specs.Programs.{any_mark}
 use Rattle.wax_tree.specs.Begins.{behavior_range}
 use Rattle.wax_walk.proofs.Collecting.{map_ok}
 use Rattle.wax_walk.proofs.Knowing.{all_before}
-use Rattle.wax_walk.specs.Collected.{GaveAll}
+use Rattle.wax_walk.specs.Collected.{Yielded}
 use Rattle.wax_walk.specs.Forest.{nothing, pending}
 use Rattle.wax_exclude.specs.Pruned.{by_components}
 use Rattle.wax.specs.GlobWalks.{request_of}
@@ -36,7 +36,7 @@ returns-clause-unmeant g c =
     let all = k.1.all (pending nothing nothing listed 0)
     (refl, (pending nothing nothing listed 0, h.unmeant taken prefix is empty path s listed shows told, refl)) in
     keeps_nothing (law.tells r.1) c.args.behavior.budget listed k.0 _
-    (subst (λ n. GaveAll (law.tells r.1) n (pending nothing nothing listed 0) k.0) h.listings all) k.3)
+    (subst (λ n. Yielded (law.tells r.1) n (pending nothing nothing listed 0) k.0) h.listings all) k.3)
     c.collect_excluding.result c.collect_excluding.ensures.took
 
 pub returns-clause-unasked : goal.returns-clause-unasked

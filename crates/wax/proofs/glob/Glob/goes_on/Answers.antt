@@ -1,5 +1,5 @@
 use Rattle.std.proofs.Common.{ap, subst}
-use Rattle.wax_compiled.specs.Compiled.{IsCompiled}
+use Rattle.wax_prefilter.specs.Compiled.{IsCompiled}
 use Rattle.wax_set.proofs.Matchers.{answers_below}
 use Rattle.wax.proofs.glob.Glob.goes_on.Goals as goal
 

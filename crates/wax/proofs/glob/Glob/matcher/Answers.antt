@@ -1,5 +1,5 @@
 use Rattle.std.proofs.Common.{◌↔◌, List, ℕ, IfSome, ap, chars, false, subst, sym}
-use Rattle.wax_compiled.specs.Compiled.{IsCompiled}
+use Rattle.wax_prefilter.specs.Compiled.{IsCompiled}
 use Rattle.wax_token.specs.Meaning.{Means}
 use Rattle.wax.specs.Matching.{AcceptsMeant}
 use Rattle.wax_prefilter.specs.Within.{IsInFolder}

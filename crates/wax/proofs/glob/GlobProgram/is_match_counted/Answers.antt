@@ -1,6 +1,6 @@
 use Rattle.std.proofs.Common.{◌↔◌, ◌≤◌, ◌*◌, ◌+◌, IfOk, IsTrue, ap, chars, length, subst}
-use Rattle.wax_compiled.specs.Compiled.{IsCompiled}
-use Rattle.wax_compiled.proofs.Deciding.{decides_tree, visits_tree}
+use Rattle.wax_prefilter.specs.Compiled.{IsCompiled}
+use Rattle.wax_prefilter.proofs.Deciding.{decides_tree, visits_tree}
 use Rattle.wax_token.specs.Cost.{program_length}
 use Rattle.wax.specs.GlobView.{IsMeant}
 use Rattle.wax.proofs.glob.GlobProgram.is_match_counted.Goals as goal

@@ -4,7 +4,7 @@ use Rattle.wax_tree.specs.Begins.{behavior_range}
 use Rattle.wax_tree.specs.Prefix.{from_last}
 use Rattle.wax_exclude.specs.Leading.{component_test}
 use Rattle.wax_exclude.specs.Prefix.{HasEmptyName}
-use Rattle.wax_glob_walk.specs.Programs.{leading_mark}
+use Rattle.wax_tree.specs.Programs.{leading_mark}
 use Rattle.wax_token.specs.Reads.{Span}
 use Rattle.wax.specs.GlobView.{IsKept}
 use Rattle.wax.specs.GlobWalks.{IsPlan, within}

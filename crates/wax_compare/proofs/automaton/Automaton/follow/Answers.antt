@@ -2,7 +2,7 @@ use Rattle.std.proofs.Common.{◌≡◌, ◌∙◌, [], length, slice_index, ref
 use Rattle.std.proofs.lemmas.Option.{slice_get_read}
 use Rattle.std.proofs.lemmas.List.{get_or_default}
 use Rattle.wax_compare.specs.inner.Automata.{LeadsToState, state_places, option_places}
-use Rattle.wax_stepper.specs.Reached.{AreReached, taken_if}
+use Rattle.wax_states.specs.Reached.{AreReached, taken_if}
 use Rattle.wax_compare.proofs.Automata.{fill_keeps, filled, keeps_more, known_step, step_keeps, step_to}
 use Rattle.wax_compare.proofs.automaton.Automaton.follow.Goals as goal
 

@@ -1,6 +1,6 @@
 use Rattle.std.proofs.Common.{◌≡◌, ◌∙◌, ◌↔◌, ◌<◌, ap, false, subst, sym}
 use Rattle.std.proofs.lemmas.List.Elements.{All-same}
-use Rattle.wax_alternatives.specs.Alternatives.{MeansOneOf, alternatives}
+use Rattle.wax_facts.specs.Alternatives.{MeansOneOf, alternatives}
 use Rattle.wax_program.specs.Machine.{Accepts}
 use Rattle.wax_token.specs.Cost.{cost}
 use Rattle.wax_token.specs.Meaning.{MeansSome}

@@ -2,50 +2,56 @@ use Rattle.std.proofs.Common.{◌/◌, ◌≤◌, ℕ, ap, length, refl, sym, �
 use Rattle.std.proofs.lemmas.Result.{IfOk-weaker}
 use Rattle.wax_lazy.specs.inner.Cached.{AreStepped}
 use Rattle.wax_lazy.specs.inner.Table.{KeepsStates, Leads, own_at}
-use Rattle.wax_states.specs.States.{IsDead, IsTransition, LeadOn, LeadsNext, TakesAll, cell_of_next, places_at, places_led}
+use Rattle.wax_states.specs.States.{IsDead, IsTransition, LeadOn, LeadsNext, TakesAll, cell_of_next, places_at, places_or_none}
 use Rattle.wax_lazy.proofs.Caches.{cache_filled}
-use Rattle.wax_lazy.proofs.Tables.{cell_says, keeps_more, leads_as_part, leads_known, leads_later, led_leads, led_parted, next_within, part_takes_all, parts_lead, placed_keeps, rest_at, rest_later}
+use Rattle.wax_lazy.proofs.Tables.{cell_says, keeps_more, leads_as_part, leads_known, leads_later, target_leads, target_parted, next_within, part_takes_all, parts_lead, placed_keeps, failure_at, failure_later}
 use Rattle.wax_lazy.proofs.cache.Cache.+follow.Goals as goal
 
 pub follow-follow_known-requires : goal.follow-follow_known-requires
 follow-follow_known-requires t c =
-    let was = c.requires.cache in
-    let held = rest_at c.args.program.now.0 c.args.self.now.table.states.items c.args.self.now.table.cells.items c.args.at c.state.result.now c.in-Some.rest was.table c.state.ensures c.in-Some.is in (
+    let was = c.requires.here.cache in
+    let held = failure_at c.args.program.now.0 c.args.self.now.table.states.items c.args.self.now.table.cells.items c.args.state c.state.result.now c.in-Some.failure was.table c.state.ensures c.in-Some.is in (
       omega (arith, c.decreases, c.if-depth-eq0.false),
       (
-        record { size = was.size; start = was.start; table = was.table; wide = was.wide; rows = was.rows; first = was.first },
-        (held.placed, omega (arith, c.requires.few)),
+        record {
+          cache = record { size = was.size; start = was.start; table = was.table; wide = was.wide; rows = was.rows; first = was.first };
+          has_state = held.has_state;
+        },
+        omega (arith, c.requires.few),
       ),
     )
 
-pub follow-returns-in-Everything-clause-cache : goal.follow-returns-in-Everything-clause-cache
-follow-returns-in-Everything-clause-cache t c =
+pub follow-returns-in-Everything-clause-kept : goal.follow-returns-in-Everything-clause-kept
+follow-returns-in-Everything-clause-kept t c =
     let code = c.args.program.now.0 in
-    let was = c.requires.cache in
+    let was = c.requires.here.cache in
     let old = c.args.self.now.table.states.items in
     let new = c.follow_known.new.self.table.states.items in
     let keeps = c.in_ok-next.ensures.grows.kept in
-    let now = c.follow_known.ensures.cache in
-    let later = rest_later code old new c.args.self.now.table.cells.items c.args.at c.state.result.now c.in-Some.rest was.table c.requires.placed c.state.ensures c.in-Some.is keeps in
-    let leads = leads_later code old new c.args.self.now.table.cells.items c.args.at c.state.result.now c.in-Some.rest c.args.c c.in_ok-next.next was.table c.state.ensures c.in-Some.is keeps c.in_ok-next.ensures.leads in
-    let rest = rw c.in-Everything.is at leads in
-    let all = part_takes_all code c.args.c (places_at old (c.args.at / 128)) (places_at new (c.in-Some.rest / 128)) (own_at new (c.args.at / 128)) later.union rest in
-    let here = subst (λ z. TakesAll code z c.args.c) (sym (keeps (c.args.at / 128) c.requires.placed.kept).1) all in
-    cache_filled code c.follow_known.new.self _ c.args.at c.args.c 2 now (placed_keeps old new keeps c.args.at c.requires.placed) (inr (inr (inl (refl, here))))
-    now.size refl refl c.write.ensures.states c.write.ensures.filled c.write.ensures.unfilled c.write.ensures.wide refl
+    let now = c.follow_known.ensures.kept.cache in
+    let later = failure_later code old new c.args.self.now.table.cells.items c.args.state c.state.result.now c.in-Some.failure was.table c.requires.here.has_state c.state.ensures c.in-Some.is keeps in
+    let leads = leads_later code old new c.args.self.now.table.cells.items c.args.state c.state.result.now c.in-Some.failure c.args.c c.in_ok-next.next was.table c.state.ensures c.in-Some.is keeps c.in_ok-next.ensures.leads in
+    let failure = rw c.in-Everything.is at leads in
+    let all = part_takes_all code c.args.c (places_at old c.args.state) (places_at new c.in-Some.failure) (own_at new c.args.state) later.union failure in
+    let here = subst (λ z. TakesAll code z c.args.c) (sym (keeps c.args.state c.requires.here.has_state).1) all in
+    record {
+      cache = cache_filled code c.follow_known.new.self _ c.args.state c.args.c 2 now (placed_keeps old new keeps c.args.state c.requires.here.has_state) (inr (inr (inl (refl, here))))
+          now.size refl refl c.write.ensures.states c.write.ensures.filled c.write.ensures.unfilled c.write.ensures.wide refl;
+      start = c.follow_known.ensures.kept.start;
+    }
 
 pub follow-returns-in-Everything-clause-leads : goal.follow-returns-in-Everything-clause-leads
 follow-returns-in-Everything-clause-leads t c =
     let code = c.args.program.now.0 in
-    let was = c.requires.cache in
+    let was = c.requires.here.cache in
     let old = c.args.self.now.table.states.items in
     let new = c.follow_known.new.self.table.states.items in
     let keeps = c.in_ok-next.ensures.grows.kept in
-    let later = rest_later code old new c.args.self.now.table.cells.items c.args.at c.state.result.now c.in-Some.rest was.table c.requires.placed c.state.ensures c.in-Some.is keeps in
-    let leads = leads_later code old new c.args.self.now.table.cells.items c.args.at c.state.result.now c.in-Some.rest c.args.c c.in_ok-next.next was.table c.state.ensures c.in-Some.is keeps c.in_ok-next.ensures.leads in
-    let rest = rw c.in-Everything.is at leads in
-    let all = part_takes_all code c.args.c (places_at old (c.args.at / 128)) (places_at new (c.in-Some.rest / 128)) (own_at new (c.args.at / 128)) later.union rest in
-    subst (λ n. LeadsNext code c.write.new.self.states.items (places_at old (c.args.at / 128)) c.args.c n) (sym c.in-Everything.is) all
+    let later = failure_later code old new c.args.self.now.table.cells.items c.args.state c.state.result.now c.in-Some.failure was.table c.requires.here.has_state c.state.ensures c.in-Some.is keeps in
+    let leads = leads_later code old new c.args.self.now.table.cells.items c.args.state c.state.result.now c.in-Some.failure c.args.c c.in_ok-next.next was.table c.state.ensures c.in-Some.is keeps c.in_ok-next.ensures.leads in
+    let failure = rw c.in-Everything.is at leads in
+    let all = part_takes_all code c.args.c (places_at old c.args.state) (places_at new c.in-Some.failure) (own_at new c.args.state) later.union failure in
+    subst (λ n. LeadsNext code c.write.new.self.states.items (places_at old c.args.state) c.args.c n) (sym c.in-Everything.is) all
 
 pub follow-cell_of-requires : goal.follow-cell_of-requires
 follow-cell_of-requires t c =
@@ -53,31 +59,33 @@ follow-cell_of-requires t c =
     let old = c.args.self.now.table.states.items in
     let made = c.follow_known.new.self.table.states.items in
     let few : length made ≤ 65533 = omega (arith, c.in_ok-next.ensures.grows.few, c.requires.few, c.if-depth-eq0.false) in
-    next_within code made (places_at old (c.in-Some.rest / 128)) c.args.c c.in_ok-next.next 65533 c.in_ok-next.ensures.leads few
+    next_within code made (places_at old c.in-Some.failure) c.args.c c.in_ok-next.next 65533 c.in_ok-next.ensures.leads few
 
 pub follow-returns-then-not-leads : goal.follow-returns-then-not-leads
 follow-returns-then-not-leads t c =
     let code = c.args.program.now.0 in
-    let was = c.requires.cache in
+    let was = c.requires.here.cache in
     let old = c.args.self.now.table.states.items in
     let new = c.step_own.new.self.table.states.items in
     let same = ap (λ z. z.states.items) c.step_own.ensures.table in
     let keeps = subst (KeepsStates old) (sym same) c.in_ok-next.ensures.grows.kept in
-    let now = c.step_own.ensures.cache in
-    let rest : ℕ = c.in-Some.rest in
+    let now = c.step_own.ensures.kept.cache in
+    let failure : ℕ = c.in-Some.failure in
     let next = c.in_ok-next.next in
-    let here = places_at old (c.args.at / 128) in
-    let later = rest_later code old new c.args.self.now.table.cells.items c.args.at c.state.result.now rest was.table c.requires.placed c.state.ensures c.in-Some.is keeps in
-    let known = subst (λ z. LeadsNext code z (places_at old (rest / 128)) c.args.c next) (sym same) c.in_ok-next.ensures.leads in
-    let part = leads_later code old new c.args.self.now.table.cells.items c.args.at c.state.result.now rest c.args.c next was.table c.state.ensures c.in-Some.is keeps known in
-    let dead = subst (λ z. IsDead code (own_at z (c.args.at / 128)) c.args.c) (sym same) (c.in_ok-leads.ensures.nowhere c.if-not-leads.true) in
-    let leads = leads_as_part code c.args.c here (places_at new (rest / 128)) (own_at new (c.args.at / 128)) later.union dead new next part in
-    let says = subst (λ z. IsTransition code new z c.args.c (cell_of_next next)) (sym (keeps (c.args.at / 128) c.requires.placed.kept).1) (cell_says code new here c.args.c next leads) in
-    let written = subst (IsTransition code new (places_at new (c.args.at / 128)) c.args.c) (sym c.cell_of.ensures) says in
+    let here = places_at old c.args.state in
+    let later = failure_later code old new c.args.self.now.table.cells.items c.args.state c.state.result.now failure was.table c.requires.here.has_state c.state.ensures c.in-Some.is keeps in
+    let known = subst (λ z. LeadsNext code z (places_at old failure) c.args.c next) (sym same) c.in_ok-next.ensures.leads in
+    let part = leads_later code old new c.args.self.now.table.cells.items c.args.state c.state.result.now failure c.args.c next was.table c.state.ensures c.in-Some.is keeps known in
+    let dead = subst (λ z. IsDead code (own_at z c.args.state) c.args.c) (sym same) (c.in_ok-leads.ensures.nowhere c.if-not-leads.true) in
+    let leads = leads_as_part code c.args.c here (places_at new failure) (own_at new c.args.state) later.union dead new next part in
+    let says = subst (λ z. IsTransition code new z c.args.c (cell_of_next next)) (sym (keeps c.args.state c.requires.here.has_state).1) (cell_says code new here c.args.c next leads) in
+    let written = subst (IsTransition code new (places_at new c.args.state) c.args.c) (sym c.cell_of.ensures) says in
     record {
-      cache = cache_filled code c.step_own.new.self _ c.args.at c.args.c c.cell_of.result now (placed_keeps old new keeps c.args.at c.requires.placed) written
-          now.size refl refl c.write-then-not-leads.ensures.states c.write-then-not-leads.ensures.filled c.write-then-not-leads.ensures.unfilled c.write-then-not-leads.ensures.wide refl;
-      start = c.step_own.ensures.start ∙ c.follow_known.ensures.start;
+      kept = record {
+        cache = cache_filled code c.step_own.new.self _ c.args.state c.args.c c.cell_of.result now (placed_keeps old new keeps c.args.state c.requires.here.has_state) written
+            now.size refl refl c.write-then-not-leads.ensures.states c.write-then-not-leads.ensures.filled c.write-then-not-leads.ensures.unfilled c.write-then-not-leads.ensures.wide refl;
+        start = c.step_own.ensures.kept.start ∙ c.follow_known.ensures.kept.start;
+      };
       leads = rw c.write-then-not-leads.ensures.states leads;
       grows = record {
         kept = subst (λ z. KeepsStates old z.items) (sym c.write-then-not-leads.ensures.states) keeps;
@@ -88,28 +96,30 @@ follow-returns-then-not-leads t c =
 pub follow-enter-requires : goal.follow-enter-requires
 follow-enter-requires t c =
     let code = c.args.program.now.0 in
-    let was = c.requires.cache in
+    let was = c.requires.here.cache in
     let old = c.args.self.now.table.states.items in
     let new = c.step_own.new.self.table.states.items in
     let same = ap (λ z. z.states.items) c.step_own.ensures.table in
     let keeps = subst (KeepsStates old) (sym same) c.in_ok-next.ensures.grows.kept in
-    let rest : ℕ = c.in-Some.rest in
-    let led = c.led-led.result in
-    let here = places_at old (c.args.at / 128) in
-    let part = places_at new (rest / 128) in
-    let own = own_at new (c.args.at / 128) in
-    let later = rest_later code old new c.args.self.now.table.cells.items c.args.at c.state.result.now rest was.table c.requires.placed c.state.ensures c.in-Some.is keeps in
-    let known = subst (λ z. LeadsNext code z (places_at old (rest / 128)) c.args.c c.in_ok-next.next) (sym same) c.in_ok-next.ensures.leads in
-    let leads = leads_later code old new c.args.self.now.table.cells.items c.args.at c.state.result.now rest c.args.c c.in_ok-next.next was.table c.state.ensures c.in-Some.is keeps known in
-    let by = subst (λ z. Leads code new part c.args.c z) (sym c.led-led.ensures) (leads_known code new part c.args.c c.in_ok-next.next leads c.in_default-next.not-Everything) in
-    let stepped = subst (λ z. AreStepped code z c.args.at led c.args.c c.step_own.new.self) (sym same) (c.in_ok-leads.ensures.reaches c.if-not-leads.false) in
-    let next = parts_lead code c.args.c here part own (places_led new led) c.step_own.new.self.reached.items later.union (led_leads code new part c.args.c led by) stepped.reached in
+    let failure : ℕ = c.in-Some.failure in
+    let target = c.state-target.result in
+    let here = places_at old c.args.state in
+    let part = places_at new failure in
+    let own = own_at new c.args.state in
+    let later = failure_later code old new c.args.self.now.table.cells.items c.args.state c.state.result.now failure was.table c.requires.here.has_state c.state.ensures c.in-Some.is keeps in
+    let known = subst (λ z. LeadsNext code z (places_at old failure) c.args.c c.in_ok-next.next) (sym same) c.in_ok-next.ensures.leads in
+    let leads = leads_later code old new c.args.self.now.table.cells.items c.args.state c.state.result.now failure c.args.c c.in_ok-next.next was.table c.state.ensures c.in-Some.is keeps known in
+    let by = subst (λ z. Leads code new part c.args.c z) (sym c.state-target.ensures) (leads_known code new part c.args.c c.in_ok-next.next leads c.in_default-next.not-Everything) in
+    let stepped = subst (λ z. AreStepped code z c.args.state target c.args.c c.step_own.new.self) (sym same) (c.in_ok-leads.ensures.reaches c.if-not-leads.false) in
+    let next = parts_lead code c.args.c here part own (places_or_none new target) c.step_own.new.self.reached.items later.union (target_leads code new part c.args.c target by) stepped.reached in
     record {
-      cache = c.step_own.ensures.cache;
-      placed = placed_keeps old new keeps c.args.at c.requires.placed;
+      here = record {
+        cache = c.step_own.ensures.kept.cache;
+        has_state = placed_keeps old new keeps c.args.state c.requires.here.has_state;
+      };
       few = omega (arith, ap length same, c.in_ok-next.ensures.grows.few, c.requires.few, c.if-depth-eq0.false);
-      next = subst (λ z. LeadOn code c.args.c z c.step_own.new.self.reached.items) (sym (keeps (c.args.at / 128) c.requires.placed.kept).1) next;
-      led = led_parted code new part c.args.c own c.step_own.new.self.reached.items c.step_own.new.self.others.items led by stepped.reached stepped.others;
+      next = subst (λ z. LeadOn code c.args.c z c.step_own.new.self.reached.items) (sym (keeps c.args.state c.requires.here.has_state).1) next;
+      target = target_parted code new part c.args.c own c.step_own.new.self.reached.items c.step_own.new.self.others.items target by stepped.reached stepped.others;
     }
 
 pub follow-returns : goal.follow-returns
@@ -120,9 +130,11 @@ follow-returns t c =
     let same = ap (λ z. z.states.items) c.step_own.ensures.table in
     let keeps = subst (KeepsStates old) (sym same) c.in_ok-next.ensures.grows.kept in
     record {
-      cache = c.enter.ensures.cache;
-      start = c.enter.ensures.start ∙ c.step_own.ensures.start ∙ c.follow_known.ensures.start;
-      leads = subst (λ z. IfOk c.enter.result (LeadsNext code new z c.args.c)) (keeps (c.args.at / 128) c.requires.placed.kept).1 c.enter.ensures.leads;
+      kept = record {
+        cache = c.enter.ensures.kept.cache;
+        start = c.enter.ensures.kept.start ∙ c.step_own.ensures.kept.start ∙ c.follow_known.ensures.kept.start;
+      };
+      leads = subst (λ z. IfOk c.enter.result (LeadsNext code new z c.args.c)) (keeps c.args.state c.requires.here.has_state).1 c.enter.ensures.leads;
       grows = IfOk-weaker c.enter.result _ _ (λ _ more. record {
         kept = keeps_more old c.step_own.new.self.table.states.items new keeps more.kept;
         few = omega (arith, ap length same, c.in_ok-next.ensures.grows.few, more.few, c.if-depth-eq0.false);

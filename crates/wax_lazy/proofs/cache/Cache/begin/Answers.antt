@@ -12,28 +12,31 @@ intern-requires-clause-cache c =
     (record { size = c.requires.size; start = c.requires.start; table = c.requires.table; wide = c.requires.wide; rows = c.requires.rows; first = c.requires.first }) c.clear.ensures in
     record { size = cleared.size; start = cleared.start; table = cleared.table; wide = cleared.wide; rows = cleared.rows; first = cleared.first }
 
-pub returns-clause-cache : goal.returns-clause-cache
-returns-clause-cache c =
+pub returns-clause-kept : goal.returns-clause-kept
+returns-clause-kept c =
     let code = c.args.program.now.0 in
     let states = c.intern.new.self.table.states.items in
-    let made = c.in_ok-number.ensures in
-    let held = c.intern.ensures.cache in
-    let one : places_at states c.in_ok-number.number ≡ c.clear.new.self.start ∷ [] = made.interned.places_are ∙ search rules in
-    let first = begun code states c.clear.new.self.start c.in_ok-number.number made.interned.known one in
+    let made = c.in_ok-state.ensures in
+    let held = c.intern.ensures.kept.cache in
+    let one : places_at states c.in_ok-state.state ≡ c.clear.new.self.start ∷ [] = made.interned.places_are ∙ search rules in
+    let first = begun code states c.clear.new.self.start c.in_ok-state.state made.interned.known one in
     record {
-      size = held.size;
-      start = held.start;
-      table = held.table;
-      wide = held.wide;
-      rows = held.rows;
-      first = subst (λ n. BeginsTexts code states n (c.in_ok-number.number * 128)) (sym made.start) first;
+      cache = record {
+        size = held.size;
+        start = held.start;
+        table = held.table;
+        wide = held.wide;
+        rows = held.rows;
+        first = subst (λ n. BeginsTexts code states n c.in_ok-state.state) (sym made.kept.start) first;
+      };
+      start = made.kept.start ∙ c.clear.ensures.maker.start;
     }
 
 pub returns-clause-begins : goal.returns-clause-begins
 returns-clause-begins c =
     let code = c.args.program.now.0 in
     let states = c.intern.new.self.table.states.items in
-    let made = c.in_ok-number.ensures in
-    let one : places_at states c.in_ok-number.number ≡ c.clear.new.self.start ∷ [] = made.interned.places_are ∙ search rules in
-    let first = begun code states c.clear.new.self.start c.in_ok-number.number made.interned.known one in
-    subst (λ n. BeginsTexts code states n (c.in_ok-number.number * 128)) c.clear.ensures.maker.start first
+    let made = c.in_ok-state.ensures in
+    let one : places_at states c.in_ok-state.state ≡ c.clear.new.self.start ∷ [] = made.interned.places_are ∙ search rules in
+    let first = begun code states c.clear.new.self.start c.in_ok-state.state made.interned.known one in
+    subst (λ n. BeginsTexts code states n c.in_ok-state.state) c.clear.ensures.maker.start first

@@ -1,6 +1,6 @@
 use Rattle.std.proofs.Common.{◌≡◌, ◌↔◌, ◌/◌, []}
 use Rattle.wax_lazy.specs.inner.Cached.{IsCacheOf}
-use Rattle.wax_states.specs.States.{IsStatePlace, places_at}
+use Rattle.wax_states.specs.States.{HasState, places_at}
 use Rattle.wax_program.specs.Threads.{AnyAmong}
 use Rattle.wax_lazy.proofs.cache.Cache.computed.Given as goal
 
@@ -11,6 +11,6 @@ invariant-loop-part l = record {
   table : l.self.table ≡ l.fn.self.table;
   rows : l.self.rows ≡ l.fn.self.rows;
   first : l.self.first ≡ l.fn.self.first;
-  placed : IsStatePlace l.self.table.states.items l.here;
-  same : AnyAmong l.program.0 (places_at l.fn.self.table.states.items (l.at / 128)) [] ↔ AnyAmong l.program.0 (places_at l.self.table.states.items (l.here / 128)) [];
+  has_state : HasState l.self.table.states.items l.here;
+  same : AnyAmong l.program.0 (places_at l.fn.self.table.states.items l.state) [] ↔ AnyAmong l.program.0 (places_at l.self.table.states.items l.here) [];
 }

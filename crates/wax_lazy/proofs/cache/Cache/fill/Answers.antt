@@ -4,28 +4,26 @@ use Rattle.wax_lazy.proofs.Caches.{cache_restarted, restarted_one, restarted_pla
 use Rattle.wax_lazy.proofs.Tables.{state_at}
 use Rattle.wax_lazy.proofs.cache.Cache.fill.Goals as goal
 
-pub follow-requires-clause-cache : goal.follow-requires-clause-cache
-follow-requires-clause-cache c =
-    let (s, is) = state_at c.args.self.now.table.states.items (c.args.at / 128) c.requires.placed.kept in
-    cache_restarted c.args.program.now.0 c.args.self.now c.restart.new.self c.requires.cache s (c.requires.cache.table.rows _ s is) (c.in_ok-restart.ensures.ok s is)
-
-pub follow-requires-clause-placed : goal.follow-requires-clause-placed
-follow-requires-clause-placed c =
-    let (s, is) = state_at c.args.self.now.table.states.items (c.args.at / 128) c.requires.placed.kept in
-    restarted_place c.args.self.now c.restart.new.self s (c.in_ok-restart.ensures.ok s is)
+pub follow-requires-clause-here : goal.follow-requires-clause-here
+follow-requires-clause-here c =
+    let (s, is) = state_at c.args.self.now.table.states.items c.args.state c.requires.here.has_state in
+    record {
+      cache = cache_restarted c.args.program.now.0 c.args.self.now c.restart.new.self c.requires.here.cache s (c.requires.here.cache.table.rows _ s is) (c.in_ok-restart.ensures.ok s is);
+      has_state = restarted_place c.args.self.now c.restart.new.self s (c.in_ok-restart.ensures.ok s is);
+    }
 
 pub follow-requires-clause-few : goal.follow-requires-clause-few
 follow-requires-clause-few c =
-    let (s, is) = state_at c.args.self.now.table.states.items (c.args.at / 128) c.requires.placed.kept in
+    let (s, is) = state_at c.args.self.now.table.states.items c.args.state c.requires.here.has_state in
     omega (arith, restarted_one c.args.self.now c.restart.new.self s (c.in_ok-restart.ensures.ok s is))
 
-pub returns-then-is_full-clause-start : goal.returns-then-is_full-clause-start
-returns-then-is_full-clause-start c =
-    let (s, is) = state_at c.args.self.now.table.states.items (c.args.at / 128) c.requires.placed.kept in
-    c.follow.ensures.start ∙ (c.in_ok-restart.ensures.ok s is).maker.start
+pub returns-then-is_full-clause-kept : goal.returns-then-is_full-clause-kept
+returns-then-is_full-clause-kept c =
+    let (s, is) = state_at c.args.self.now.table.states.items c.args.state c.requires.here.has_state in
+    record { cache = c.follow.ensures.kept.cache; start = c.follow.ensures.kept.start ∙ (c.in_ok-restart.ensures.ok s is).maker.start }
 
 pub returns-then-is_full-clause-leads : goal.returns-then-is_full-clause-leads
 returns-then-is_full-clause-leads c =
-    let (s, is) = state_at c.args.self.now.table.states.items (c.args.at / 128) c.requires.placed.kept in
-    let same = restarted_places c.args.self.now c.restart.new.self s (c.in_ok-restart.ensures.ok s is) (c.args.at / 128) is in
+    let (s, is) = state_at c.args.self.now.table.states.items c.args.state c.requires.here.has_state in
+    let same = restarted_places c.args.self.now c.restart.new.self s (c.in_ok-restart.ensures.ok s is) c.args.state is in
     subst (λ z. IfOk c.follow.result (LeadsNext c.args.program.now.0 c.follow.new.self.table.states.items z c.args.c)) same c.follow.ensures.leads

@@ -12,11 +12,11 @@ returns-in-Some-clause-interned c = record {
   room = c.requires.cache.table.room;
 }
 
-pub returns-clause-cache : goal.returns-clause-cache
-returns-clause-cache c =
+pub returns-clause-kept : goal.returns-clause-kept
+returns-clause-kept c =
     let code = c.args.program.now.0 in
     let same = c.in_ok-places.ensures.items ∙ c.deref-2.ensures.value in
-    let good = state_parted code c.args.self.now c.in_ok-places.places c.in_ok-own.own c.args.rest c.requires.rest same c.in_ok-own.ensures in
+    let good = state_parted code c.args.self.now c.in_ok-places.places c.in_ok-own.own c.args.failure c.requires.failure same c.in_ok-own.ensures in
     cache_kept code c.args.self.now c.keep.new.self c.requires.cache _ c.keep.result good c.keep.ensures.ok c.keep.ensures.err
 
 pub returns-clause-interned : goal.returns-clause-interned

@@ -5,7 +5,7 @@ use Rattle.wax_lazy.proofs.rows.Rows.link_all.Given as goal
 abbrev pub invariant-loop-count : goal.invariant-loop-count
 invariant-loop-count l = record {
   rows : AreRows l.program.0 l.table.states.items l.self.keys.items l.self.cells.items;
-  row : HasRow l.self.keys.items l.row l.at (take l.count l.bytes);
+  row : HasRow l.self.keys.items l.row l.state (take l.count l.bytes);
   within : l.count + 1 ≤ length l.bytes;
 }
 

@@ -1,6 +1,6 @@
 use Rattle.std.proofs.Common.{chars, [], ◌∷◌, ◌++◌, take, ap, sym, ◌∙◌, append-nil, arith}
 use Rattle.std.proofs.lemmas.Option.{slice_get_within}
-use Rattle.wax_candidate.specs.Matched.{texts}
+use Rattle.wax_query.specs.Matched.{texts}
 use Rattle.wax_lines.specs.Lines.{tabbed}
 use Rattle.wax_lines.proofs.Sifting.{on_err}
 use Rattle.wax_lines.proofs.Tabs.{encoded, tabbed_next, added_next, longer_next}

@@ -1,5 +1,5 @@
 use Rattle.std.proofs.Common.{◌≡◌, ◌+◌, ◌-◌, ◌≤◌, ◌++◌, length, take}
-use Rattle.wax_candidate.specs.Matched.{texts}
+use Rattle.wax_query.specs.Matched.{texts}
 use Rattle.wax_lines.specs.Lines.{tabbed}
 use Rattle.wax_lines.proofs.lines.line_writer.add_texts.Given as goal
 

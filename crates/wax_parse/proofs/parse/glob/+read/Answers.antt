@@ -6,7 +6,7 @@ use Rattle.wax_token.specs.View.{leaf_of}
 use Rattle.wax_token.specs.Words.{trees}
 use Rattle.wax_parse.specs.Accepted.{IsPlace}
 use Rattle.wax_parse.specs.inner.Parser.{around_of, place, at, strip, read_leaf}
-use Rattle.wax_parse.specs.inner.Reading.{Beyond, IsTaken, BranchesFrom, GlobFrom, TokenFrom, TokensFrom, Sole, Unreadable, Begun, is_nil}
+use Rattle.wax_parse.specs.inner.Reading.{HasSuffix, HasProperSuffix, BranchesFrom, GlobFrom, TokenFrom, TokensFrom, Sole, Unreadable, Begun, is_nil}
 use Rattle.wax_parse.proofs.Outcomes.{passed_up, refused_as, as_made, leaf_taken, opening_taken, flags_beyond, taken_more, one_beyond, inner_fails, inner_sole}
 use Rattle.wax_parse.proofs.Readings.{alternation_sole, alternation_unreadable, alternation_too_deep, repetition_sole, repetition_unreadable, repetition_unbounded, repetition_too_deep, leaf_sole, leaf_unreadable}
 use Rattle.wax_parse.proofs.Bounds.{bounds_beyond}
@@ -32,7 +32,7 @@ pub read_alternation-read_branches-requires : goal.read_alternation-read_branche
 read_alternation-read_branches-requires t c = (
   omega (arith, c.in-Some.ensures.2),
   (
-    subst (λ z. Beyond (chars z) (chars c.args.from.rest.now)) (sym c.in-Some.ensures.0) (beyond_more (chars c.args.scope.expression.now) (chars c.args.flags.rest.now) (chars c.args.from.rest.now) c.requires.within
+    subst (λ z. HasSuffix (chars z) (chars c.args.from.rest.now)) (sym c.in-Some.ensures.0) (beyond_more (chars c.args.scope.expression.now) (chars c.args.flags.rest.now) (chars c.args.from.rest.now) c.requires.within
         (taken_beyond (chars c.args.flags.rest.now) (chars c.args.from.rest.now) (opening_taken 123 (place c.args.flags) (place c.args.from) c.requires.opened))),
     ap around_of c.in-Some.ensures.1,
   ),
@@ -57,8 +57,8 @@ pub read_alternation-returns : goal.read_alternation-returns
 read_alternation-returns t c = λ first.
     let size = utf8_len (chars c.args.scope.expression.now) in
     let p : Place = place c.args.flags in let n : Place = place c.args.from in let q : Place = place c.in_ok-tokens.next in
-    let opening : IsTaken p.rest n.rest = opening_taken 123 p n c.requires.opened in
-    let far : IsTaken p.rest q.rest = taken_more p.rest n.rest q.rest opening c.in_ok-tokens.ensures.1 in
+    let opening : HasProperSuffix p.rest n.rest = opening_taken 123 p n c.requires.opened in
+    let far : HasProperSuffix p.rest q.rest = taken_more p.rest n.rest q.rest opening c.in_ok-tokens.ensures.1 in
     let k : Sole (BranchesFrom size c.in-Some.inner.depth n) (trees c.in_ok-tokens.tokens.items) q =
     subst (λ z. Sole (BranchesFrom (utf8_len (chars z)) c.in-Some.inner.depth n) (trees c.in_ok-tokens.tokens.items) q) c.in-Some.ensures.0 c.in_ok-tokens.ensures.0 in (
       as_made (TokenFrom size (around_of c.args.scope.around) c.args.scope.depth first p) c.new_branch-alternation.result _ q
@@ -83,7 +83,7 @@ read_repetition-returns-in_default t c = λ first.
 pub read_repetition-read_glob-requires : goal.read_repetition-read_glob-requires
 read_repetition-read_glob-requires t c = (
   omega (arith, c.in-Some.ensures.2),
-  subst (λ z. Beyond (chars z) (chars c.args.from.rest.now)) (sym c.in-Some.ensures.0) (beyond_more (chars c.args.scope.expression.now) (chars c.args.flags.rest.now) (chars c.args.from.rest.now) c.requires.within
+  subst (λ z. HasSuffix (chars z) (chars c.args.from.rest.now)) (sym c.in-Some.ensures.0) (beyond_more (chars c.args.scope.expression.now) (chars c.args.flags.rest.now) (chars c.args.from.rest.now) c.requires.within
       (taken_beyond (chars c.args.flags.rest.now) (chars c.args.from.rest.now) (opening_taken 60 (place c.args.flags) (place c.args.from) c.requires.opened))),
 )
 
@@ -127,7 +127,7 @@ read_repetition-returns t c = λ first.
     let size = utf8_len (chars c.args.scope.expression.now) in
     let p : Place = place c.args.flags in let n : Place = place c.args.from in let k : Place = place c.in_ok-body.next in
     let q : Place = at c.in_ok-body.next.is_case_insensitive (chars c.in-Some-read_bounds.rest.now) in
-    let far : IsTaken p.rest q.rest = taken_more p.rest n.rest q.rest (opening_taken 60 p n c.requires.opened)
+    let far : HasProperSuffix p.rest q.rest = taken_more p.rest n.rest q.rest (opening_taken 60 p n c.requires.opened)
     (beyond_more n.rest k.rest q.rest c.in_ok-body.ensures.1 (bounds_beyond k.rest c.in-Some-read_bounds.lower c.in-Some-read_bounds.upper q.rest c.in-Some-read_bounds.ensures)) in (
       as_made (TokenFrom size (around_of c.args.scope.around) c.args.scope.depth first p) c.new_branch.result _ q
           (c.new_branch.ensures ∙ (λ i. repetition (c.metadata-annotation.ensures i) (c.in_ok-boxed.ensures i) c.in-Some-read_bounds.lower c.in-Some-read_bounds.upper))
@@ -317,7 +317,7 @@ read_token-returns t c =
     let around : Around = around_of c.args.scope.around in
     let size = utf8_len (chars c.args.scope.expression.now) in
     let read : read_leaf around c.args.is_first m ≡ Some (leaf_of c.in-Some-2.kind, q) = rw c.in-Some-2.is at c.in_ok-kind.ensures in
-    let far : IsTaken p.rest q.rest = leaf_taken around c.args.is_first (leaf_of c.in-Some-2.kind) p m q c.read_flags-start.ensures read in (
+    let far : HasProperSuffix p.rest q.rest = leaf_taken around c.args.is_first (leaf_of c.in-Some-2.kind) p m q c.read_flags-start.ensures read in (
       as_made (TokenFrom size around c.args.scope.depth c.args.is_first p) c.new_leaf.result _ q (c.new_leaf.ensures ∙ ap (λ s. leaf s (leaf_of c.in-Some-2.kind)) c.metadata-annotation.ensures)
           (leaf_sole size around c.args.scope.depth c.args.is_first p q (leaf_of c.in-Some-2.kind)
           (ap (λ z. strip 123 z.rest) c.read_flags-start.ensures ∙ c.in_default.ensures) (ap (λ z. strip 60 z.rest) c.read_flags-start.ensures ∙ c.in_default-strip.ensures)

@@ -12,4 +12,4 @@ returns-else-self c = λ text utf8 are found.
     let within : text ≡ encode_utf8_all x ++ (bytes ++ encode_utf8_all z) =
     bytes_within text bytes x held z utf8 c.as_bytes.ensures.utf8 (ap chars (c.as_bytes.ensures.value ∙ c.as_str.ensures.value))
     (e ∙ ap (λ w. x ++ (w ++ z)) same) in
-    c.may_hold.ensures text (encode_utf8_all x) (encode_utf8_all z) are within
+    c.may_contain.ensures text (encode_utf8_all x) (encode_utf8_all z) are within

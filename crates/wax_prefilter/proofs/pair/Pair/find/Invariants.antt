@@ -2,7 +2,7 @@ use Rattle.std.proofs.Common.{◌-◌, ◌≤◌, length}
 use Rattle.wax_prefilter.specs.inner.Pairs.{NoPairBefore}
 use Rattle.wax_prefilter.proofs.pair.Pair.find.Given as goal
 
--- the pair doesn't stand before the place that was reached
+-- the pair doesn't stand before the position that was reached
 abbrev pub invariant-loop-at : goal.invariant-loop-at
 invariant-loop-at l = (l.at ≤ length l.lasts) × NoPairBefore l.self l.bytes l.at
 

@@ -1,6 +1,6 @@
 use Rattle.std.proofs.Common.{◌<◌, arith}
 use Rattle.wax_program.proofs.Taking.{reads_few, takes_few, takes}
-use Rattle.wax_bits.specs.Places.{HoldsPlace}
+use Rattle.wax_program.specs.Places.{HoldsPlace}
 use Rattle.wax_program.proofs.word_sets.WordSetsSets.take.Goals as goal
 
 pub returns-then-at-self-clause-few : goal.returns-then-at-self-clause-few

@@ -1,8 +1,8 @@
 use Rattle.std.proofs.Common.{◌+◌, ◌-◌, drop, Option, Some, ◌∙◌, arith, ap, sym}
 use Rattle.std.specs.Option.{option_map, option_or}
-use Rattle.wax_break.specs.declared.Break.{Break}
-use Rattle.wax_break.specs.declared.RuleErrorKind.TheVariants.{AdjacentBoundary}
-use Rattle.wax_break.specs.Rules.{adjacent_boundaries, break_here}
+use Rattle.wax_facts.specs.declared.rules.Break.{Break}
+use Rattle.wax_facts.specs.declared.rules.RuleErrorKind.TheVariants.{AdjacentBoundary}
+use Rattle.wax_facts.specs.Rules.{adjacent_boundaries, break_here}
 use Rattle.wax_rule.specs.FirstBreak.{head_of}
 use Rattle.wax_rule.proofs.Adjacent.{adjacent_end, adjacent_step}
 use Rattle.wax_token.specs.Words.{trees}

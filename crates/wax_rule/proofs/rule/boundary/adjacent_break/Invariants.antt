@@ -1,5 +1,5 @@
 use Rattle.std.proofs.Common.{◌≡◌, ◌-◌, drop}
-use Rattle.wax_break.specs.Rules.{adjacent_boundaries}
+use Rattle.wax_facts.specs.Rules.{adjacent_boundaries}
 use Rattle.wax_rule.specs.FirstBreak.{head_of}
 use Rattle.wax_token.specs.Words.{trees}
 use Rattle.wax_rule.proofs.rule.boundary.adjacent_break.Given as goal

@@ -1,6 +1,6 @@
 use Rattle.std.proofs.Common.{◌≡◌, drop}
 use Rattle.wax_rule.specs.FirstBreak.{head_of}
-use Rattle.wax_break.specs.Rules.{alternative_breaks}
+use Rattle.wax_facts.specs.Rules.{alternative_breaks}
 use Rattle.wax_token.specs.Words.{trees}
 use Rattle.wax_rule.proofs.rule.branch.alternative_break.Given as goal
 

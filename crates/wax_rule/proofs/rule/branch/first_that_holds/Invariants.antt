@@ -1,5 +1,5 @@
 use Rattle.std.proofs.Common.{◌≡◌, drop}
-use Rattle.wax_break.specs.Rules.{first_that_holds}
+use Rattle.wax_facts.specs.Rules.{first_that_holds}
 use Rattle.wax_rule.proofs.rule.branch.first_that_holds.Given as goal
 
 abbrev pub invariant-loop-row : goal.invariant-loop-row

@@ -2,7 +2,7 @@ use Rattle.std.proofs.Common.{◌≡◌, ◌∷◌, ◌++◌, [], length, drop, 
 use Rattle.std.proofs.lemmas.List.{length-append}
 use Rattle.std.specs.List.{flat_map}
 use Rattle.wax_rule.specs.inner.Queue.{children, only_branches}
-use Rattle.wax_break.specs.Situated.{Situated}
+use Rattle.wax_facts.specs.Situated.{Situated}
 use Rattle.wax_rule.proofs.Branches.{branches_of_branches, listed, listed_branches, next_branches, row_after, shorter_after}
 use Rattle.wax_rule.proofs.Levels.{first_row}
 use Rattle.wax_rule.proofs.rule.situated.breadth_first.Goals as goal

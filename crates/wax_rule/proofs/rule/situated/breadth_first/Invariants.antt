@@ -1,5 +1,5 @@
 use Rattle.std.proofs.Common.{◌≡◌, ◌≤◌, ◌++◌, length, take, drop}
-use Rattle.wax_break.specs.Situated.{breadth_first}
+use Rattle.wax_facts.specs.Situated.{breadth_first}
 use Rattle.wax_rule.specs.inner.Queue.{all_levels, only_branches}
 use Rattle.wax_rule.proofs.Branches.{listed}
 use Rattle.wax_rule.proofs.rule.situated.breadth_first.Given as goal

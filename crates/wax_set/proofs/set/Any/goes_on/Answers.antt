@@ -1,5 +1,5 @@
 use Rattle.std.proofs.Common.{subst}
-use Rattle.wax_compiled.specs.Compiled.{IsCompiled}
+use Rattle.wax_prefilter.specs.Compiled.{IsCompiled}
 use Rattle.wax_set.proofs.Matchers.{answers_below}
 use Rattle.wax_set.proofs.set.Any.goes_on.Goals as goal
 

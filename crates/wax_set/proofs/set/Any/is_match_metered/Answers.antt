@@ -1,6 +1,6 @@
 use Rattle.std.proofs.Common.{◌↔◌, ◌≤◌, ◌*◌, ◌+◌, IfOk, IsTrue, chars, length, min, subst}
-use Rattle.wax_compiled.specs.Compiled.{IsCompiled}
-use Rattle.wax_compiled.proofs.Deciding.{answers_tree}
+use Rattle.wax_prefilter.specs.Compiled.{IsCompiled}
+use Rattle.wax_prefilter.proofs.Deciding.{answers_tree}
 use Rattle.wax_program.specs.Meter.{most_ticks}
 use Rattle.wax_set.specs.Sets.{MeansText}
 use Rattle.wax_set.proofs.set.Any.is_match_metered.Goals as goal

@@ -1,6 +1,6 @@
 use Rattle.std.proofs.Common.{◌↔◌, ◌≤◌, ◌*◌, ◌+◌, IfOk, IsTrue, chars, length, subst}
-use Rattle.wax_compiled.specs.Compiled.{IsCompiled}
-use Rattle.wax_compiled.proofs.Deciding.{decides_tree, visits_tree}
+use Rattle.wax_prefilter.specs.Compiled.{IsCompiled}
+use Rattle.wax_prefilter.proofs.Deciding.{decides_tree, visits_tree}
 use Rattle.wax_set.specs.Sets.{MeansText}
 use Rattle.wax_token.specs.Cost.{program_length}
 use Rattle.wax_set.proofs.set.AnyProgram.is_match_counted.Goals as goal

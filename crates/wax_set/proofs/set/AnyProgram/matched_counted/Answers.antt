@@ -2,7 +2,7 @@ use Rattle.std.proofs.Common.{[], arith, length, sym, subst}
 use Rattle.std.proofs.lemmas.List.Elements.{All-cons, All-nil}
 use Rattle.std.proofs.lemmas.Str.{IsCharBoundary-end, IsCharBoundary-start}
 use Rattle.std.specs.List.{All}
-use Rattle.wax_candidate.specs.Parts.{IsPart}
+use Rattle.wax_query.specs.Parts.{IsPart}
 use Rattle.wax_set.proofs.set.AnyProgram.matched_counted.Goals as goal
 
 pub new-requires : goal.new-requires

@@ -1,5 +1,5 @@
 use Rattle.std.proofs.Common.{◌++◌, ◌∷◌, [], ap, subst, ◌∙◌, rules}
-use Rattle.wax_candidate.specs.Matched.{texts}
+use Rattle.wax_query.specs.Matched.{texts}
 use Rattle.wax_lines.specs.Lines.{captured, tabbed}
 use Rattle.wax_lines.proofs.lines.line_writer.CapturedLinesLineWriter.write_line.Goals as goal
 

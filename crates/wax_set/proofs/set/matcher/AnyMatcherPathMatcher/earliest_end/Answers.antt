@@ -1,5 +1,5 @@
 use Rattle.std.proofs.Common.{false, subst}
-use Rattle.wax_candidate.specs.Parts.{NoLineEndsBefore}
+use Rattle.wax_query.specs.Parts.{NoLineEndsBefore}
 use Rattle.wax_token.specs.Decided.{means_test}
 use Rattle.wax_set.proofs.set.matcher.AnyMatcherPathMatcher.earliest_end.Goals as goal
 

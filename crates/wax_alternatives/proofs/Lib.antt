@@ -1,4 +1,0 @@
-pub mod Levels
-pub mod Means
-pub mod Opens
-pub mod Rows

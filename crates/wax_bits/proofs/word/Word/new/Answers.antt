@@ -1,8 +1,0 @@
-use Rattle.wax_bits.proofs.Words.{length_word, empty_word}
-use Rattle.wax_bits.proofs.word.Word.new.Goals as goal
-
-pub returns-clause-room : goal.returns-clause-room
-returns-clause-room c = length_word 0
-
-pub returns-clause-empty : goal.returns-clause-empty
-returns-clause-empty c = empty_word

@@ -1,9 +1,0 @@
-use Rattle.std.proofs.Common.{◌<◌, length, ap, arith}
-use Rattle.wax_bits.proofs.Words.{length_word, word_remove}
-use Rattle.wax_bits.proofs.word.Word.remove.Goals as goal
-
-pub returns : goal.returns
-returns c =
-    let w = c.self.inside.bits in
-    let low : c.args.at < 64 = omega (arith, length_word w, ap length c.self.view_is) in
-    rw (← c.self.view_is) (word_remove w c.args.at low)

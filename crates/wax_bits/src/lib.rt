@@ -1,8 +1,0 @@
-//! Sets of small numbers, called places, with one bit for each.
-#![tactic(auto)]
-
-mod set;
-mod word;
-
-pub use set::Set;
-pub use word::Word;

@@ -1,3 +1,0 @@
-pub mod BoundSizes
-pub mod Copies
-pub mod FirstRows

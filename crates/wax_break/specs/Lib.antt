@@ -1,6 +1,0 @@
-pub mod CopySizes
-pub mod FirstRow
-pub mod Rules
-pub mod Situated
-pub mod SizeBounds
-pub mod Sizes

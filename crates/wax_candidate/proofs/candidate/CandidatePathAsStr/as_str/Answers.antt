@@ -1,6 +1,0 @@
-use Rattle.std.proofs.Common.{encode_utf8_all, sym, ap, ◌∙◌}
-use Rattle.std.proofs.lemmas.Str.{encodes-chars}
-use Rattle.wax_candidate.proofs.candidate.CandidatePathAsStr.as_str.Goals as goal
-
-pub returns : goal.returns
-returns c = sym (encodes-chars c.as_str.result.now c.as_str.utf8) ∙ ap encode_utf8_all c.as_str.ensures

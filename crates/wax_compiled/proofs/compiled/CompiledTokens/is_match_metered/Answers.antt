@@ -1,5 +1,0 @@
-use Rattle.std.proofs.Common.{rules}
-use Rattle.wax_compiled.proofs.compiled.CompiledTokens.is_match_metered.Goals as goal
-
-pub run_last-requires-clause-last : goal.run_last-requires-clause-last
-run_last-requires-clause-last c = (c.self.invariant.1 (search rules)).0

@@ -1,3 +1,0 @@
-pub mod Below
-pub mod Compiled
-pub mod inner

@@ -1,4 +1,0 @@
-pub mod Columns
-pub mod Lined
-pub mod Marking
-pub mod Pushed

@@ -1,4 +1,0 @@
-pub mod ByMatcher
-pub mod Combining
-pub mod Naming
-pub mod Rules

@@ -1,0 +1,14 @@
+use Rattle.std.proofs.Common.{IfSome, chars, subst}
+use Rattle.wax_lazy.proofs.Numbering.{followed_text}
+use Rattle.wax_lazy.proofs.Walking.{decides_by}
+use Rattle.wax_lazy.specs.inner.Cached.{IsKeptFor}
+use Rattle.wax_lazy.proofs.dfa.LazyDfa.is_match.Goals as goal
+
+pub returns-clause-decides : goal.returns-clause-decides
+returns-clause-decides c =
+    let code = c.args.program.now.0 in
+    let known = c.prepare.ensures.dfa in
+    let reads_last = c.prepare.new.self.reads_last in
+    let kept = subst (λ o. IfSome o (IsKeptFor code reads_last)) c.in-Some.is known.cache in
+    let whole = followed_text code reads_last c.in-Some.cache.start (chars c.args.text.now) (chars c.followed-text.result.now) known.last kept.name kept.whole c.followed-text.ensures in
+    decides_by c.in_ok-accepts-in-Some.field-0 _ _ whole c.in_ok-accepts-in-Some.ensures.decides

@@ -1,0 +1,33 @@
+use Rattle.std.proofs.Common.{◌≡◌, ℕ, ◌+◌, ◌/◌, List, ◌++◌, drop, encode_utf8, sym, ◌∙◌, ap, subst, arith}
+use Rattle.std.proofs.lemmas.Str.{IsUtf8-past_char, chars_past_char, drop_past_char}
+use Rattle.std.specs.Char.{len_utf8}
+use Rattle.std.specs.Str.{IsUtf8, chars}
+use Rattle.std.specs.Str.Iter.{chars_rest}
+use Rattle.wax_lazy.specs.inner.Cached.{DecidesLeft}
+use Rattle.wax_lazy.proofs.Chains.{next_decides}
+use Rattle.wax_states.specs.States.{places_at}
+use Rattle.wax_lazy.proofs.following.advance_left.Goals as goal
+
+pub returns-in_ok-next-in-Some-next-clause-utf8 : goal.returns-in_ok-next-in-Some-next-clause-utf8
+returns-in_ok-next-in-Some-next-clause-utf8 c =
+    let left : List ℕ = c.args.left.now in
+    let rest : List ℕ = chars_rest c.next.new.self in
+    let begins : left ≡ encode_utf8 c.in-Some-next.c ++ rest = sym c.chars-all.ensures.rest ∙ c.in-Some-next.ensures.steps.0 in
+    let zero : len_utf8 c.in-Some-next.c ≡ 0 + len_utf8 c.in-Some-next.c = omega arith in
+    let after : drop c.len_utf8.result left ≡ rest = ap (λ n. drop n left) (c.len_utf8.ensures.value ∙ zero) ∙ drop_past_char left rest 0 c.in-Some-next.c begins in
+    subst IsUtf8 (sym after) (IsUtf8-past_char left rest c.in-Some-next.c c.utf8.left begins)
+
+pub returns-in_ok-next-in-Some-next-clause-decides : goal.returns-in_ok-next-in-Some-next-clause-decides
+returns-in_ok-next-in-Some-next-clause-decides c =
+    let code = c.args.program.now.0 in
+    let states = c.advance.new.self.table.states.items in
+    let places = places_at c.args.cache.now.table.states.items c.args.state in
+    let next = c.in_ok-next-in-Some-next.next in
+    let left : List ℕ = c.args.left.now in
+    let rest : List ℕ = chars_rest c.next.new.self in
+    let begins : left ≡ encode_utf8 c.in-Some-next.c ++ rest = sym c.chars-all.ensures.rest ∙ c.in-Some-next.ensures.steps.0 in
+    let zero : len_utf8 c.in-Some-next.c ≡ 0 + len_utf8 c.in-Some-next.c = omega arith in
+    let after : drop c.len_utf8.result left ≡ rest = ap (λ n. drop n left) (c.len_utf8.ensures.value ∙ zero) ∙ drop_past_char left rest 0 c.in-Some-next.c begins in
+    let first = chars_past_char left rest c.in-Some-next.c c.utf8.left begins in
+    subst (λ z. DecidesLeft code states places (chars left) (chars z) next) (sym after)
+    (next_decides code states places (chars left) (chars rest) c.in-Some-next.c next first c.in_ok-next-in-Some-next.ensures.leads)

@@ -1,0 +1,57 @@
+use Rattle.std.proofs.Common.{◌≡◌, ◌∙◌, ◌++◌, [], List, ℕ, ap, drop, length, rules, sym}
+use Rattle.std.proofs.lemmas.List.{nil_from_length}
+use Rattle.std.proofs.lemmas.Str.{IsCharBoundary-from_drop, chars-nil}
+use Rattle.std.specs.Str.{chars}
+use Rattle.wax_lazy.proofs.Walking.{leads_end, leads_on, leads_past}
+use Rattle.wax_program.specs.Machine.{Accepts}
+use Rattle.wax_lazy.proofs.following.follow_chars.Goals as goal
+
+pub loop-left-init : goal.loop-left-init
+loop-left-init c =
+    let begins = c.in_ok-state.ensures.begins in
+    record {
+      utf8 = c.utf8.text;
+      cache = c.begin.ensures.kept.cache;
+      start = c.begin.ensures.kept.start;
+      has_state = begins.has_state;
+      stays = λ s. begins.accepts (chars c.args.text.now ++ s);
+    }
+
+pub range_from-left-requires : goal.range_from-left-requires
+range_from-left-requires c = λ _. IsCharBoundary-from_drop c.loop-left.left.now c.in_ok-next.end c.in_ok-next.ensures.further.1 c.in_ok-next.ensures.utf8
+
+pub returns-in_default : goal.returns-in_default
+returns-in_default c =
+    let code = c.args.program.now.0 in
+    let text : List ℕ = chars c.args.text.now in
+    let left : List ℕ = c.loop-left.left.now in
+    let new = c.advance_left.new.cache.table.states.items in
+    let led = leads_on code (λ s. Accepts code c.args.cache.now.start (text ++ s)) new _ (chars left) (chars (drop c.in_ok-next.end left)) c.in_ok-next.next
+    c.loop-left.invariant.stays c.in_ok-next.ensures.decides in
+    record {
+      kept = record { cache = c.advance_left.ensures.kept.cache; start = c.advance_left.ensures.kept.start ∙ c.loop-left.invariant.start };
+      leads = leads_past code _ new (chars (drop c.in_ok-next.end left)) c.in_ok-next.next c.in_default.not-To led;
+    }
+
+pub loop-left-preserved : goal.loop-left-preserved
+loop-left-preserved c =
+    let code = c.args.program.now.0 in
+    let text : List ℕ = chars c.args.text.now in
+    let left : List ℕ = c.loop-left.left.now in
+    let led = leads_on code (λ s. Accepts code c.args.cache.now.start (text ++ s)) c.advance_left.new.cache.table.states.items _ (chars left) (chars (drop c.in_ok-next.end left)) c.in_ok-next.next
+    c.loop-left.invariant.stays c.in_ok-next.ensures.decides in
+    let to = rw (sym c.range_from-left.ensures.value) at (rw c.in-To.is at led) in
+    record {
+      utf8 = rw (sym c.range_from-left.ensures.value) at c.in_ok-next.ensures.utf8;
+      cache = c.advance_left.ensures.kept.cache;
+      start = c.advance_left.ensures.kept.start ∙ c.loop-left.invariant.start;
+      has_state = to.0;
+      stays = to.1;
+    }
+
+pub returns-clause-leads : goal.returns-clause-leads
+returns-clause-leads c =
+    let held = c.loop-left.invariant in
+    let none : length c.loop-left.left.now ≡ 0 = search rules in
+    let end : chars c.loop-left.left.now ≡ [] = ap chars (nil_from_length _ none) ∙ chars-nil in
+    leads_end c.args.program.now.0 _ c.loop-left.cache.table.states.items _ c.loop-left.state end held.has_state held.stays

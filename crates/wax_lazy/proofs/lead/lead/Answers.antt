@@ -1,9 +1,0 @@
-use Rattle.std.proofs.Common.{IfOk, sym, ◌∙◌, subst}
-use Rattle.std.proofs.lemmas.Str.{chars-IsAscii}
-use Rattle.wax_lazy.specs.inner.Cached.{LeadsText}
-use Rattle.wax_lazy.proofs.lead.lead.Goals as goal
-
-pub returns-then-is_ascii-clause-leads : goal.returns-then-is_ascii-clause-leads
-returns-then-is_ascii-clause-leads c =
-    subst (λ z. IfOk c.lead_ascii.result (LeadsText c.args.program.now.0 c.lead_ascii.new.cache.table.states.items c.args.cache.now.start z))
-    (c.as_bytes.ensures.value ∙ sym (chars-IsAscii c.args.text.now c.if-is_ascii.ensures.cases)) c.lead_ascii.ensures.leads

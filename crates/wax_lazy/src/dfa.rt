@@ -1,0 +1,240 @@
+//! Deciding many texts by one program.
+ghost use Rattle.std.specs.Prelude.{◌≡◌, ◌≤◌, ◌↔◌, IfOk, IsFalse, IsTrue, chars, is_some, length};
+ghost use Rattle.wax_lazy.specs.Numbers.{AreNumbers};
+ghost use Rattle.wax_lazy.specs.Verdict.{IsVerdict};
+ghost use Rattle.wax_lazy.specs.inner.Cached.{IsFollowed, IsKeptFor, IsDfaOf, numbers_known};
+ghost use Rattle.wax_program.specs.Closed.{IsClosed};
+ghost use Rattle.wax_program.specs.Last.{ReadsLast};
+ghost use Rattle.wax_program.specs.Machine.{Accepts};
+ghost use Rattle.wax_program.specs.Onward.{AreFlagsOf};
+
+use crate::cache::Cache;
+use crate::ends::{accepts, find_numbers, verdict_at};
+use crate::following::follow_text;
+use std::alloc::{AllocError, Global};
+use wax_program::{Ahead, CompiledProgram, Meter, Onward, last_name, reads_last, run, run_last};
+use wax_query::diagnostics::NoMemory;
+use wax_query::query::Verdict;
+use wax_states::StateId;
+
+/// What is known of a program, and the states that earlier texts led to.
+#[derive(Drop)]
+pub struct LazyDfa {
+    /// True if the program depends only on the last component of a text.
+    reads_last: bool,
+    /// How many bytes the cache may keep, about.
+    most_bytes: usize,
+    /// The states that texts led to, from the first text on.
+    cache: Option<Cache>,
+    /// The places of the program that lead on, from the first verdict on.
+    onward: Option<Onward>,
+    /// Counts the instructions that were read, for all texts.
+    meter: Meter,
+}
+
+impl LazyDfa {
+    /// Creates what is known of a program before the first text. The cache will keep at most about
+    /// `most_bytes` bytes. Reads each instruction at most once. Doesn't allocate.
+    pub fn new(program: &CompiledProgram, most_bytes: usize) -> LazyDfa
+        ensures { IsDfaOf program.now.0 result }
+    {
+        let mut meter = Meter::new();
+        let reads_last = reads_last(program, &mut meter);
+        LazyDfa {
+            reads_last,
+            most_bytes,
+            cache: None,
+            onward: None,
+            meter,
+        }
+    }
+
+    /// Creates the cache, unless there is one.
+    #[inline(always)]
+    pub(crate) fn prepare(
+        &mut self,
+        alloc: Global,
+        program: &CompiledProgram,
+    ) -> Result<(), AllocError>
+        requires { IsDfaOf program.now.0 self.old }
+        ensures dfa { IsDfaOf program.now.0 self.new }
+        ensures made { IfOk result (λ _. IsTrue (is_some self.new.cache)) }
+    {
+        if self.cache.is_some() {
+            return Ok(());
+        }
+        self.create_cache(alloc, program)
+    }
+
+    /// Creates a cache for last components, which begin at the place 2, or for whole texts.
+    #[inline(never)]
+    fn create_cache(&mut self, alloc: Global, program: &CompiledProgram) -> Result<(), AllocError>
+        requires { IsDfaOf program.now.0 self.old }
+        ensures dfa { IsDfaOf program.now.0 self.new }
+        ensures made { IfOk result (λ _. IsTrue (is_some self.new.cache)) }
+    {
+        let start = if self.reads_last { 2 } else { 0 };
+        let cache = Cache::new(alloc, program, start, self.most_bytes)?;
+        self.cache = Some(cache);
+        Ok(())
+    }
+
+    /// Returns whether the program accepts the text.
+    pub(crate) fn is_match(
+        &mut self,
+        alloc: Global,
+        program: &CompiledProgram,
+        text: &str,
+    ) -> Result<bool, NoMemory>
+        requires { IsDfaOf program.now.0 self.old }
+        ensures dfa { IsDfaOf program.now.0 self.new }
+        ensures decides { IfOk result (λ b. IsTrue b ↔ Accepts program.now.0 0 (chars text.now)) }
+    {
+        if self.gives_up() {
+            return decide_once(alloc, program, self.reads_last, text, &mut self.meter);
+        }
+        self.prepare(alloc, program)?;
+        let text = followed(text, self.reads_last);
+        match &mut self.cache {
+            Some(cache) => Ok(accepts(program, cache, text, &mut self.meter)?),
+            None => unreachable!(),
+        }
+    }
+
+    /// Returns whether the program accepts the text, and whether it accepts one of something below
+    /// the folder with this text.
+    pub(crate) fn verdict(
+        &mut self,
+        alloc: Global,
+        program: &CompiledProgram,
+        text: &str,
+    ) -> Result<Verdict, NoMemory>
+        requires { IsDfaOf program.now.0 self.old }
+        ensures dfa { IsDfaOf program.now.0 self.new }
+        ensures decides { IfOk result (IsVerdict program.now.0 (chars text.now)) }
+    {
+        let onward = self.take_onward(alloc, program)?;
+        self.prepare(alloc, program)?;
+        let Some(mut cache) = self.cache.take() else {
+            unreachable!();
+        };
+        let meter = &mut self.meter;
+        let verdict = judge(program, &onward, self.reads_last, &mut cache, text, meter);
+        self.cache = Some(cache);
+        self.onward = Some(onward);
+        Ok(verdict?)
+    }
+
+    /// Follows the text, and finds the numbers of the patterns that match it. Returns the state that
+    /// keeps them, or `None` if no pattern matches. If allocation fails, further texts can be decided.
+    pub(crate) fn find_numbers(
+        &mut self,
+        alloc: Global,
+        program: &CompiledProgram,
+        text: &str,
+    ) -> Result<Option<StateId>, NoMemory>
+        requires dfa { IsDfaOf program.now.0 self.old }
+        requires closed { IsClosed program.now.0 }
+        ensures dfa { IsDfaOf program.now.0 self.new }
+        ensures numbers { IfOk result
+            (λ state. AreNumbers program.now.0 (chars text.now) (numbers_known self.new.cache state)) }
+    {
+        self.prepare(alloc, program)?;
+        let text = followed(text, self.reads_last);
+        match &mut self.cache {
+            Some(cache) => Ok(find_numbers(program, cache, text, &mut self.meter)?),
+            None => unreachable!(),
+        }
+    }
+
+    /// Returns the numbers that were found for a state, if there is one.
+    pub(crate) fn numbers(&self, state: Option<StateId>) -> &[usize]
+        ensures { numbers_known self.now.cache state ≡ result.now }
+    {
+        match &self.cache {
+            Some(cache) => cache.numbers(state),
+            None => &[],
+        }
+    }
+
+    /// Takes out the places that lead on, or finds them.
+    fn take_onward(
+        &mut self,
+        alloc: Global,
+        program: &CompiledProgram,
+    ) -> Result<Onward, AllocError>
+        requires { IsDfaOf program.now.0 self.old }
+        ensures dfa { IsDfaOf program.now.0 self.new }
+        ensures onward { IfOk result (AreFlagsOf program.now.0) }
+    {
+        match self.onward.take() {
+            Some(onward) => Ok(onward),
+            None => Onward::new(alloc, program, &mut self.meter),
+        }
+    }
+
+    /// Returns whether states were removed before they had served enough text.
+    pub fn gives_up(&self) -> bool {
+        match &self.cache {
+            Some(cache) => cache.gives_up,
+            None => false,
+        }
+    }
+}
+
+/// Returns the part of a text that is followed: its last component if only that matters, and
+/// otherwise all of it.
+#[inline]
+fn followed(text: &str, reads_last: bool) -> &str
+    ensures { IsFollowed reads_last (chars text.now) (chars result.now) }
+{
+    if reads_last {
+        return last_name(text);
+    }
+    text
+}
+
+/// Follows a text, and returns both answers. If only the last component matters, something below is
+/// accepted if any plain path is.
+fn judge(
+    program: &CompiledProgram,
+    onward: &Onward,
+    reads_last: bool,
+    cache: &mut Cache,
+    text: &str,
+    meter: &mut Meter,
+) -> Result<Verdict, AllocError>
+    requires cache { IsKeptFor program.now.0 reads_last cache.old }
+    requires onward { AreFlagsOf program.now.0 onward.now }
+    requires last { IsTrue reads_last → ReadsLast program.now.0 }
+    ensures cache { IsKeptFor program.now.0 reads_last cache.new }
+    ensures decides { IfOk result (IsVerdict program.now.0 (chars text.now)) }
+{
+    if reads_last {
+        let is_match = accepts(program, cache, last_name(text), meter)?;
+        return Ok(Verdict {
+            is_match,
+            goes_on: onward.holds(Ahead::Path, 0),
+        });
+    }
+    let next = follow_text(program, cache, text, meter)?;
+    Ok(verdict_at(program, onward, cache, next, Ahead::below(text), meter))
+}
+
+/// Decides a text by a run of the program.
+fn decide_once(
+    alloc: Global,
+    program: &CompiledProgram,
+    reads_last: bool,
+    text: &str,
+    meter: &mut Meter,
+) -> Result<bool, NoMemory>
+    requires last { IsTrue reads_last → ReadsLast program.now.0 }
+    requires long { IsTrue reads_last → 2 ≤ length program.now.0 }
+    ensures { IfOk result (λ b. IsTrue b ↔ Accepts program.now.0 0 (chars text.now)) }
+{
+    if reads_last {
+        return run_last(alloc, program, text, meter);
+    }
+    run(alloc, program, text, meter)
+}

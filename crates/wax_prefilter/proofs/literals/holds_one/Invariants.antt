@@ -1,9 +1,0 @@
-use Rattle.std.proofs.Common.{chars}
-use Rattle.wax_prefilter.proofs.Holding.{NoneBefore}
-use Rattle.wax_prefilter.specs.Facts.{StandsAt}
-use Rattle.wax_prefilter.specs.declared.needle.Place.TheVariants.{Anywhere}
-use Rattle.wax_prefilter.proofs.literals.holds_one.Given as goal
-
--- the text has no needle so far
-abbrev pub invariant-loop-needle : goal.invariant-loop-needle
-invariant-loop-needle l = NoneBefore (λ held. StandsAt Anywhere held (chars l.text)) l.needle-index l.needles

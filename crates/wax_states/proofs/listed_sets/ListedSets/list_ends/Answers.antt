@@ -1,0 +1,13 @@
+use Rattle.std.proofs.Common.{◌≡◌, length, sym, subst}
+use Rattle.std.proofs.lemmas.Result.{IfOk-weaker}
+use Rattle.wax_program.specs.Threads.{IsDone}
+use Rattle.wax_states.proofs.Listings.{list_read}
+use Rattle.wax_states.proofs.listed_sets.ListedSets.list_ends.Goals as goal
+
+pub returns : goal.returns
+returns c =
+    let s = c.self.inside in
+    let sized = subst (λ p. p.size ≡ length c.args.program.now.0) (sym c.self.view_is) c.requires.size in
+    rw (← c.self.view_is) (IfOk-weaker c.list_ends_among.result _ _
+    (λ w l. list_read c.args.program.now.0 s.size s.taken s.here s.next s.read c.self.invariant sized
+    (subst IsDone (sym c.self.view_is) c.requires.done) c.places.result.now c.places.ensures.all _ l) c.list_ends_among.ensures.ends)

@@ -1,0 +1,77 @@
+//! Walks that keep what a program matches, without captures, and open only folders below which
+//! something can match.
+
+ghost use Rattle.std.specs.Prelude.{◌≡◌, IfOk, false};
+ghost use Rattle.wax_tree.specs.Programs.{matches_below, matches_from};
+ghost use Rattle.wax_walk.specs.Pruned.{selected_view};
+ghost use Rattle.wax_walk.specs.View.{IsSeenAs};
+
+use crate::walk_tree::WalkTree;
+use std::alloc::Global;
+use wax_directory::directory::Directory;
+use wax_filter::filter::SeparatingFilter;
+use wax_query::diagnostics::NoMemory;
+use wax_query::matching::{BuildMatcher, CandidatePath, PathMatcher};
+use wax_walk::{Candidate, FileIterator, Select, Selecting, Selection};
+
+/// A selection of the entries that a matcher matches, from a least depth on. It opens the folders
+/// below which something may match. Each entry is matched once.
+#[derive(Drop)]
+pub struct Matched<M> {
+    matcher: M,
+    least: usize,
+}
+
+impl<M: PathMatcher> Select for Matched<M> {
+    ghost keeps = { λ s. matches_from M.decides s.matcher s.least };
+
+    ghost goes_on = { λ s. matches_below M.goes_on s.matcher };
+
+    fn select(
+        &mut self,
+        _alloc: Global,
+        candidate: Candidate<'_>,
+        is_folder: bool,
+    ) -> Result<Selection, NoMemory> {
+        let path = CandidatePath::from(candidate.path);
+        let is_deep = candidate.depth >= self.least;
+        if is_folder {
+            let verdict = self.matcher.verdict(&path)?;
+            Ok(Selection {
+                is_kept: is_deep && verdict.is_match,
+                goes_on: verdict.goes_on,
+            })
+        } else {
+            let is_match = self.matcher.is_match(&path)?;
+            Ok(Selection {
+                is_kept: is_deep && is_match,
+                goes_on: false,
+            })
+        }
+    }
+}
+
+/// The walk of what a program matches, without captures. Its entries are those of the plain walk.
+pub type Uncaptured<'p, D, P> = Selecting<WalkTree<D>, Matched<<P as BuildMatcher<'p>>::Matcher>>;
+
+/// Builds the walk of what a program matches, from the depth `least` on, from a plain walk. It opens
+/// only the folders below which something may match.
+pub fn uncaptured_of<'p, D, P>(
+    alloc: Global,
+    walk: WalkTree<D>,
+    program: &'p P,
+    least: usize,
+) -> Result<Uncaptured<'p, D, P>, NoMemory>
+where
+    D: Directory,
+    P: BuildMatcher<'p>,
+    ensures view { IfOk result (λ w. IsSeenAs (selected_view (⟦<WalkTree<D> as FileIterator>⟧.view walk)
+        (matches_from P.decides program.now least) (matches_below P.goes_on program.now) false)
+        (⟦<Uncaptured<'p, D, P> as FileIterator>⟧.view w)) }
+    ensures ends { IfOk result (λ w. ⟦<Uncaptured<'p, D, P> as SeparatingFilter>⟧.left w
+        ≡ ⟦<WalkTree<D> as SeparatingFilter>⟧.left walk) }
+    ensures feeds { IfOk result (λ w. ⟦<Uncaptured<'p, D, P> as SeparatingFilter>⟧.can_feed w) }
+{
+    let matcher = program.build_matcher(alloc)?;
+    Ok(walk.selecting(alloc, Matched { matcher, least }))
+}

@@ -1,6 +1,0 @@
-use Rattle.std.proofs.Common.{chars}
-use Rattle.wax_uses.proofs.Meanings.{respects}
-use Rattle.wax_uses.proofs.components.glob_of_component.Goals as goal
-
-pub returns-clause-respects : goal.returns-clause-respects
-returns-clause-respects c = respects (chars c.args.expression.now) c.new.result c.new.ensures.build
