@@ -9,7 +9,8 @@ use Rattle.wax_states.specs.Reached.{AreReached, taken_if}
 use Rattle.wax_program.specs.Machine.{Accepts}
 use Rattle.wax_compare.specs.declared.automaton.Automaton.{Automaton}
 use Rattle.wax_compare.specs.declared.automaton.ProgramState.{ProgramState}
-use Rattle.wax_compare.specs.inner.Automata.{BeginsAsProgram, HasLearned, IsAutomatonOf, IsStateOf, LeadsToState, KeepsPlaces, state_places, option_places}
+use Rattle.wax_compare.specs.inner.Automata.{BeginsAsProgram, HasLearned, IsAutomatonOf, IsStateOf, LeadsToState, StatesStay, option_marks, option_places, state_marks, state_places}
+use Rattle.wax_compare.specs.inner.Distinctions.{AreDistinctions, MarksOthers}
 
 slice_get_append : {X : Type 0} (xs ys : List X) (t : ℕ) → t < length xs → slice_get (xs ++ ys) t ≡ slice_get xs t
 slice_get_append [] ys t h = absurd (omega (arith, h))
@@ -23,30 +24,32 @@ slice_get_end (y ∷ xs) x = slice_get_end xs x
 some_same : {s r : ProgramState} → Some s ≡ Some r → s ≡ r
 some_same e = cc
 
-pub keeps_append : (states more : List ProgramState) → KeepsPlaces states (states ++ more)
-keeps_append states more t lt = (omega (arith, length-append states more, lt), ap option_places (slice_get_append states more t lt))
+pub keeps_append : (states more : List ProgramState) → StatesStay states (states ++ more)
+keeps_append states more t lt = (omega (arith, length-append states more, lt), ap option_places (slice_get_append states more t lt), ap option_marks (slice_get_append states more t lt))
 
-pub keeps_same : (states : List ProgramState) → KeepsPlaces states states
-keeps_same states t lt = (lt, refl)
+pub keeps_same : (states : List ProgramState) → StatesStay states states
+keeps_same states t lt = (lt, refl, refl)
 
-pub keeps_more : (old mid new : List ProgramState) → KeepsPlaces old mid → KeepsPlaces mid new → KeepsPlaces old new
-keeps_more old mid new f g t lt = ((g t (f t lt).0).0, (g t (f t lt).0).1 ∙ (f t lt).1)
+pub keeps_more : (old mid new : List ProgramState) → StatesStay old mid → StatesStay mid new → StatesStay old new
+keeps_more old mid new f g t lt = let one = f t lt in let two = g t one.0 in (two.0, two.1 ∙ one.1, two.2 ∙ one.2)
 
-pub step_keeps : (code : List Instruction) (old new : List ProgramState) → KeepsPlaces old new → (places : List ℕ) (c n : ℕ) → LeadsToState code old places c n → LeadsToState code new places c n
+pub step_keeps : (code : List Instruction) (old new : List ProgramState) → StatesStay old new → (places : List ℕ) (c n : ℕ) → LeadsToState code old places c n → LeadsToState code new places c n
 step_keeps code old new keeps places c n h = ((keeps n h.0).0, subst (AreReached code c places []) (sym (keeps n h.0).1) h.1)
 
-pub state_keeps : (code : List Instruction) (letters : List ℕ) (old new : List ProgramState) → KeepsPlaces old new → (s : ProgramState) → IsStateOf code letters old s → IsStateOf code letters new s
+pub state_keeps : (code : List Instruction) (letters : List ℕ) (old new : List ProgramState) → StatesStay old new → (s : ProgramState) → IsStateOf code letters old s → IsStateOf code letters new s
 state_keeps code letters old new keeps s h = record {
   ends = h.ends;
+  marks = h.marks;
   room = h.room;
   says = λ k n lt e. step_keeps code old new keeps s.places.items (slice_index letters k) n (h.says k n lt e);
 }
 
 -- one more state
-pub added : (code : List Instruction) (letters : List ℕ) (old new : Automaton) (s : ProgramState) → IsAutomatonOf code letters old → new.stepper ≡ old.stepper
+pub added : (code : List Instruction) (letters : List ℕ) (old new : Automaton) (s : ProgramState) → IsAutomatonOf code letters old → new.stepper ≡ old.stepper → AreDistinctions code letters new.distinctions
     → new.states.items ≡ old.states.items ++ s ∷ [] → IsStateOf code letters (old.states.items ++ s ∷ []) s → IsAutomatonOf code letters new
-added code letters old new s held stepper e good = record {
+added code letters old new s held stepper distinctions e good = record {
   size = stepper ∙ held.size;
+  distinctions = distinctions;
   rows = λ t r is. subst (λ z. IsStateOf code letters z r) (sym e) (row t r (subst (λ z. slice_get z t ≡ Some r) e is));
 }
   where
@@ -66,10 +69,11 @@ added_places old new s e = (
 )
 
 -- a state of which nothing is known yet
-pub new_state : (code : List Instruction) (letters : List ℕ) (states : List ProgramState) (s : ProgramState) (places : List ℕ) → s.places.items ≡ places → (IsTrue s.accepts ↔ AnyAmong code places [])
+pub new_state : (code : List Instruction) (letters : List ℕ) (states : List ProgramState) (s : ProgramState) (places : List ℕ) → s.places.items ≡ places → (IsTrue s.accepts ↔ AnyAmong code places []) → MarksOthers code letters places s.marked.items
     → (n : ℕ) → n ≡ length letters → s.next.items ≡ replicate n 0 → IsStateOf code letters states s
-new_state code letters states s places same accepts n e zeros = record {
+new_state code letters states s places same accepts marks n e zeros = record {
   ends = subst (λ z. IsTrue s.accepts ↔ AnyAmong code z []) (sym same) accepts;
+  marks = subst (λ z. MarksOthers code letters z s.marked.items) (sym same) marks;
   room = ap length zeros ∙ length-replicate {A = ℕ} n 0 ∙ e;
   says = λ k m lt is. (let zeroth : get_or s.next.items k 0 ≡ 0 = ap (λ z. get_or z k 0) zeros ∙ get_or-replicate n k 0 0 (omega (arith, lt, e)) in
       let no : ⊥ = omega (arith, zeroth, is) in absurd no);
@@ -101,12 +105,16 @@ module _ (old new : List ProgramState) (state number next : ℕ) (f : HasLearned
   others : (t : ℕ) → t ≢ state → slice_get new t ≡ slice_get old t
   others t n = ap (λ z. slice_get z t) f.set ∙ get_set_other old state t f.is n
 
-  pub fill_keeps : KeepsPlaces old new
+  pub fill_keeps : StatesStay old new
   fill_keeps t lt = (
     omega (arith, lt, ap length f.set, length-set old state f.is),
     elim (cases_eq t state) [
       | inr other ↦ ap option_places (others t other)
       | inl same ↦ subst (λ n. state_places new n ≡ state_places old n) (sym same) (ap option_places filled_at ∙ ap (λ v. v.items) f.places ∙ sym (ap option_places f.at))
+    ],
+    elim (cases_eq t state) [
+      | inr other ↦ ap option_marks (others t other)
+      | inl same ↦ subst (λ n. state_marks new n ≡ state_marks old n) (sym same) (ap option_marks filled_at ∙ ap (λ v. v.items) f.marked ∙ sym (ap option_marks f.at))
     ],
   )
 
@@ -114,6 +122,7 @@ module _ (old new : List ProgramState) (state number next : ℕ) (f : HasLearned
     good_row : IsStateOf code letters old f.was → IsStateOf code letters old f.is
     good_row h = record {
       ends = subst (λ v. IsTrue f.is.accepts ↔ AnyAmong code v.items []) (sym f.places) (subst (λ b. IsTrue b ↔ AnyAmong code f.was.places.items []) (sym f.accepts) h.ends);
+      marks = subst (λ v. MarksOthers code letters v.items f.is.marked.items) (sym f.places) (subst (λ v. MarksOthers code letters f.was.places.items v.items) (sym f.marked) h.marks);
       room = elim f.row [
         | inl e ↦ ap length e ∙ h.room
         | inr e ↦ ap length e ∙ length-set f.was.next.items number (next + 1) ∙ h.room
@@ -136,9 +145,10 @@ module _ (old new : List ProgramState) (state number next : ℕ) (f : HasLearned
           ]
         ]
 
-    pub filled : (before after : Automaton) → before.states.items ≡ old → after.states.items ≡ new → after.stepper ≡ before.stepper → IsAutomatonOf code letters before → IsAutomatonOf code letters after
-    filled before after was is stepper held = record {
+    pub filled : (before after : Automaton) → before.states.items ≡ old → after.states.items ≡ new → after.stepper ≡ before.stepper → after.distinctions ≡ before.distinctions → IsAutomatonOf code letters before → IsAutomatonOf code letters after
+    filled before after was is stepper distinctions held = record {
       size = stepper ∙ held.size;
+      distinctions = subst (AreDistinctions code letters) (sym distinctions) held.distinctions;
       rows = λ t r at. subst (λ z. IsStateOf code letters z r) (sym is) (row t r (subst (λ z. slice_get z t ≡ Some r) is at));
     }
       where

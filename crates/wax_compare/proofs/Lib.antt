@@ -2,6 +2,8 @@ pub mod Answering
 pub mod Beginning
 pub mod Blocks
 pub mod Closed
+pub mod Closures
+pub mod Distinguished
 pub mod Following
 pub mod Kept
 pub mod Letters
@@ -14,4 +16,5 @@ pub mod ReadingBack
 pub mod Replaced
 pub mod Searching
 pub mod Steps
+pub mod Usual
 pub mod Visiting

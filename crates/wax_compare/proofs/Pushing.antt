@@ -9,7 +9,7 @@ use Rattle.wax_compare.specs.declared.pairs.Reached.{Reached}
 use Rattle.wax_compare.specs.declared.search.Search.{Search}
 use Rattle.wax_compare.specs.Cuts.{AreLetters}
 use Rattle.wax_compare.specs.inner.Going.{Goes}
-use Rattle.wax_compare.specs.inner.Automata.{KeepsPlaces, state_places}
+use Rattle.wax_compare.specs.inner.Automata.{StatesStay, state_places}
 use Rattle.wax_compare.specs.inner.Reaching.{AreFollowed, AreReachedPairs, CameFrom, GoesAt, Reaches, Readings}
 use Rattle.wax_compare.specs.inner.Searching.{AreAutomataOf, GoesFrom, IsNextOrNone, IsNextPair, readings}
 use Rattle.wax_compare.specs.inner.Visiting.{AreShallow, EndsAt, Grow, HasPair, IsHeld, IsSameSearch, IsVisited}
@@ -17,7 +17,7 @@ use Rattle.wax_compare.proofs.Visiting.{Later, begin_later, followed_later, get_
 
 -- ---- a search whose automata grew
 pub held_later : (code other : List Instruction) (old new : Search) (reached : List Reached) (at : ℕ) → IsHeld code other old reached at → AreAutomataOf code other new → IsSameSearch old new
-    → KeepsPlaces old.first.states.items new.first.states.items → KeepsPlaces old.second.states.items new.second.states.items → IsHeld code other new reached at
+    → StatesStay old.first.states.items new.first.states.items → StatesStay old.second.states.items new.second.states.items → IsHeld code other new reached at
 held_later code other old new reached at held automata same one two =
     let r = readings code other old in
     let r' = readings code other new in

@@ -24,7 +24,7 @@ heads : {a b : ℕ} {s t : List ℕ} → a ∷ s ≡ b ∷ t → (a ≡ b) × (s
 heads e = (cc, cc)
 
 -- a text that is a mark stays one
-marked : (c d number : ℕ) (s : List ℕ) → (c ≡ mark number) ↔ (d ≡ mark number) → c ∷ s ≡ mark number ∷ [] → d ∷ s ≡ mark number ∷ []
+pub marked : (c d number : ℕ) (s : List ℕ) → (c ≡ mark number) ↔ (d ≡ mark number) → c ∷ s ≡ mark number ∷ [] → d ∷ s ≡ mark number ∷ []
 marked c d number s like e = let parts = heads e in let is = like.0 parts.0 in let rest = parts.1 in cc
 
 module _ (code : List Instruction) (c d : ℕ) (like : AreAlike code c d) where

@@ -7,7 +7,7 @@ use Rattle.wax_compare.specs.declared.pairs.StatePair.{StatePair}
 use Rattle.wax_compare.specs.declared.wanted.Wanted.TheVariants.{Both}
 use Rattle.wax_compare.specs.Cuts.{StandsFor}
 use Rattle.wax_compare.specs.inner.Going.{Goes, IsAllowed, begun_after}
-use Rattle.wax_compare.specs.inner.Automata.{LeadsToState, KeepsPlaces, state_places}
+use Rattle.wax_compare.specs.inner.Automata.{LeadsToState, StatesStay, state_places}
 use Rattle.wax_compare.specs.inner.Reaching.{Readings}
 use Rattle.wax_compare.specs.inner.Searching.{GoesFrom, IsNextOrNone, IsNextPair}
 use Rattle.wax_compare.proofs.Steps.{allowed, dead_second, none_among, onward, same_alike, same_slash, stepped, stepped_back}
@@ -45,7 +45,7 @@ pub next_refused : (r : Readings) (letter : ℕ) (from : StatePair) → (IsAllow
 next_refused r letter from refused c s stands h = refused (allowed r.task.texts from.may_end c letter s stands.slash (same_slash c letter stands.slash) h.among)
 
 -- a step that an automaton took, where its states stayed
-pub step_here : (code : List Instruction) (old new : List ProgramState) (letters given : List ℕ) (number from to : ℕ) → KeepsPlaces old new → from < length old → given ≡ letters
+pub step_here : (code : List Instruction) (old new : List ProgramState) (letters given : List ℕ) (number from to : ℕ) → StatesStay old new → from < length old → given ≡ letters
     → LeadsToState code new (state_places old from) (slice_index given number) to → LeadsToState code new (state_places new from) (slice_index letters number) to
 step_here code old new letters given number from to keeps lt e step =
     subst (λ z. LeadsToState code new z (slice_index letters number) to) (sym (keeps from lt).1) (subst (λ ls. LeadsToState code new (state_places old from) (slice_index ls number) to) e step)

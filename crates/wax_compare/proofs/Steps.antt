@@ -119,3 +119,14 @@ same_alike code c k (End low high) is = λ number. ((λ h. h), (λ h. h))
 
 pub same_slash : (c r : ℕ) → (c ≡ 47) ↔ (r ≡ 47) → (c == 47) ≡ (r == 47)
 same_slash c r h = same_bits (c == 47) (r == 47) (λ e. eq-eqb r 47 (h.0 (eqb-true c 47 e))) (λ e. eq-eqb c 47 (h.1 (eqb-true r 47 e)))
+
+-- a character in place of another, by which both programs do the same from here
+pub goes_replaced : (t : Task) (places others : List ℕ) (begun : Bool) (c r : ℕ) (s : List ℕ) → (c ≡ 47) ↔ (r ≡ 47) → (AnyAmong t.code places (c ∷ s) → AnyAmong t.code places (r ∷ s))
+    → AnyAmong t.other others (c ∷ s) ↔ AnyAmong t.other others (r ∷ s) → Goes t places others begun (c ∷ s) → Goes t places others begun (r ∷ s)
+goes_replaced t places others begun c r s slash one two h =
+    let kind = goes_on t.texts begun c r s slash (same_slash c r slash) h.among in
+    record {
+      first = one h.first;
+      second = asked_along t.wanted (AnyAmong t.other others (c ∷ s)) (AnyAmong t.other others (r ∷ s)) two.0 two.1 h.second;
+      among = goes_back t.texts begun r s kind.0 kind.1;
+    }

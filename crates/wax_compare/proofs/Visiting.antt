@@ -9,7 +9,7 @@ use Rattle.wax_compare.specs.declared.automaton.ProgramState.{ProgramState}
 use Rattle.wax_compare.specs.declared.search.Search.{Search}
 use Rattle.wax_compare.specs.Cuts.{StandsFor}
 use Rattle.wax_compare.specs.inner.Going.{Goes, starts}
-use Rattle.wax_compare.specs.inner.Automata.{BeginsAsProgram, KeepsPlaces, state_places}
+use Rattle.wax_compare.specs.inner.Automata.{BeginsAsProgram, StatesStay, state_places}
 use Rattle.wax_compare.specs.inner.Reaching.{AreFollowed, AreReachedPairs, BeginAsPrograms, CameFrom, GoesAt, Reaches, Readings}
 use Rattle.wax_compare.specs.inner.Searching.{GoesFrom, readings}
 use Rattle.wax_compare.specs.inner.Visiting.{IsSameSearch, IsVisited}
@@ -29,11 +29,11 @@ get_end (y ∷ xs) x = get_end xs x
 -- ---- automata that grew
 pub record Later (r r' : Readings) : Type 0 where
   pub task : r'.task ≡ r.task
-  pub firsts : KeepsPlaces r.firsts r'.firsts
-  pub seconds : KeepsPlaces r.seconds r'.seconds
+  pub firsts : StatesStay r.firsts r'.firsts
+  pub seconds : StatesStay r.seconds r'.seconds
 
 pub later_same : (r : Readings) → Later r r
-later_same r = record { task = refl; firsts = λ t lt. (lt, refl); seconds = λ t lt. (lt, refl) }
+later_same r = record { task = refl; firsts = λ t lt. (lt, refl, refl); seconds = λ t lt. (lt, refl, refl) }
 
 module _ (r r' : Readings) (later : Later r r') where
   module _ (p : StatePair) (first : p.first < length r.firsts) (second : p.second < length r.seconds) (s : List ℕ) where
@@ -47,7 +47,7 @@ module _ (r r' : Readings) (later : Later r r') where
         (subst (λ z. Goes r.task z (state_places r'.seconds p.second) p.may_end s) (later.firsts p.first first).1
         (subst (λ t. Goes t (state_places r'.firsts p.first) (state_places r'.seconds p.second) p.may_end s) later.task h))
 
-  begins_later : (code : List Instruction) (old new : List ProgramState) → KeepsPlaces old new → BeginsAsProgram code old → BeginsAsProgram code new
+  begins_later : (code : List Instruction) (old new : List ProgramState) → StatesStay old new → BeginsAsProgram code old → BeginsAsProgram code new
   begins_later code old new keeps b = record {
     some = (keeps 0 b.some).0;
     accepts = λ s. subst (λ z. Accepts code 0 s ↔ AnyAmong code z s) (sym (keeps 0 b.some).1) (b.accepts s);
@@ -98,7 +98,7 @@ module _ (r r' : Readings) (later : Later r r') where
     }
 
 -- ---- a search whose automata grew
-pub search_later : (code other : List Instruction) (old new : Search) → IsSameSearch old new → KeepsPlaces old.first.states.items new.first.states.items → KeepsPlaces old.second.states.items new.second.states.items
+pub search_later : (code other : List Instruction) (old new : Search) → IsSameSearch old new → StatesStay old.first.states.items new.first.states.items → StatesStay old.second.states.items new.second.states.items
     → Later (readings code other old) (readings code other new)
 search_later code other old new same one two = record {
   task = ap (λ w. record { code = code; other = other; wanted = w; texts = new.texts }) same.wanted ∙ ap (λ t. record { code = code; other = other; wanted = old.wanted; texts = t }) same.texts;

@@ -1,4 +1,5 @@
 pub mod Cutting
+pub mod Distinctions
 pub mod Going
 pub mod Merging
 pub mod Reaching

@@ -3,8 +3,10 @@ ghost use Rattle.std.specs.Prelude.{◌≡◌, ◌+◌, ◌<◌, ◌↔◌, ◌�
 ghost use Rattle.std.specs.Prelude.{slice_set};
 ghost use Rattle.wax_program.specs.Threads.{AnyAmong};
 ghost use Rattle.wax_compare.specs.inner.Automata.{BeginsAsProgram, HasLearned, IsAutomatonOf, LeadsToState};
-ghost use Rattle.wax_compare.specs.inner.Automata.{KeepsPlaces, state_places};
+ghost use Rattle.wax_compare.specs.inner.Automata.{StatesStay, state_marks, state_places};
+ghost use Rattle.wax_compare.specs.inner.Distinctions.{IsUnmarked};
 
+use crate::distinctions::Distinctions;
 use crate::slots::{Slots, hash_of};
 use std::alloc::{AllocError, Global};
 use wax_program::{CompiledProgram, Meter};
@@ -17,6 +19,8 @@ pub struct ProgramState {
     pub places: Vec<usize>,
     /// True if a text that ends here is accepted.
     pub accepts: bool,
+    /// Which letters are marked. All others lead to the same.
+    pub marked: Vec<bool>,
     /// For each letter, the number of the next state plus 1, or 0 if it isn't known.
     pub next: Vec<u32>,
 }
@@ -26,6 +30,7 @@ pub struct ProgramState {
 pub struct Automaton {
     pub alloc: Global,
     pub stepper: Stepper,
+    pub distinctions: Distinctions,
     pub states: Vec<ProgramState>,
     /// The numbers of the states, by the hashes of their places.
     pub slots: Slots,
@@ -49,9 +54,11 @@ impl Automaton {
         ensures begins { IfOk result (λ r. BeginsAsProgram program.now.0 r.states.items) }
     {
         let stepper = Stepper::new(alloc, program)?;
+        let distinctions = Distinctions::new(alloc, program, letters)?;
         let mut automaton = Automaton {
             alloc,
             stepper,
+            distinctions,
             states: Vec::new(alloc),
             slots: Slots::new(alloc)?,
             reached: vec![in alloc; 0usize]?,
@@ -75,7 +82,7 @@ impl Automaton {
         requires state { state < length self.old.states.items }
         requires number { number < length letters.now }
         ensures automaton { IfOk result (λ _. IsAutomatonOf program.now.0 letters.now self.new) }
-        ensures kept { IfOk result (λ _. KeepsPlaces self.old.states.items self.new.states.items) }
+        ensures kept { IfOk result (λ _. StatesStay self.old.states.items self.new.states.items) }
         ensures step { IfOk result (LeadsToState program.now.0 self.new.states.items
             (state_places self.old.states.items state) (slice_index letters.now number)) }
     {
@@ -102,6 +109,7 @@ impl Automaton {
         requires { state < length self.old.states.items }
         ensures filled { HasLearned self.old.states.items self.new.states.items state number next }
         ensures stepper { self.new.stepper ≡ self.old.stepper }
+        ensures distinctions { self.new.distinctions ≡ self.old.distinctions }
     {
         fill_row(&mut self.states[state].next, number, next);
     }
@@ -110,7 +118,7 @@ impl Automaton {
     fn intern(&mut self, program: &CompiledProgram, letters: &[char]) -> Result<usize, AllocError>
         requires { IsAutomatonOf program.now.0 letters.now self.old }
         ensures automaton { IfOk result (λ _. IsAutomatonOf program.now.0 letters.now self.new) }
-        ensures kept { IfOk result (λ _. KeepsPlaces self.old.states.items self.new.states.items) }
+        ensures kept { IfOk result (λ _. StatesStay self.old.states.items self.new.states.items) }
         ensures places { IfOk result (λ n. (n < length self.new.states.items)
             × (state_places self.new.states.items n ≡ self.old.reached.items)) }
     {
@@ -136,6 +144,15 @@ impl Automaton {
         ensures { IsTrue result ↔ AnyAmong _program.now.0 (state_places self.now.states.items state) [] }
     {
         self.states[state].accepts
+    }
+
+    /// Returns whether a state doesn't mark a letter.
+    pub fn is_unmarked(&self, state: usize, number: usize) -> bool
+        requires { state < length self.now.states.items }
+        ensures { IsTrue result → IsUnmarked (state_marks self.now.states.items state) number }
+    {
+        let marked = &self.states[state].marked;
+        number < marked.len() && !marked[number]
     }
 
     /// Finds the state with the places that were reached.
@@ -168,7 +185,7 @@ impl Automaton {
     fn add(&mut self, program: &CompiledProgram, letters: &[char]) -> Result<usize, AllocError>
         requires { IsAutomatonOf program.now.0 letters.now self.old }
         ensures automaton { IfOk result (λ _. IsAutomatonOf program.now.0 letters.now self.new) }
-        ensures kept { IfOk result (λ _. KeepsPlaces self.old.states.items self.new.states.items) }
+        ensures kept { IfOk result (λ _. StatesStay self.old.states.items self.new.states.items) }
         ensures number { IfOk result (λ n. n ≡ length self.old.states.items) }
         ensures places { IfOk result (λ n. (n < length self.new.states.items)
             × (state_places self.new.states.items n ≡ self.old.reached.items)) }
@@ -178,6 +195,9 @@ impl Automaton {
             .stepper
             .accepts(program, &self.reached, &mut self.meter);
         let places = Vec::from_slice(self.alloc, &self.reached)?;
+        let marked = self
+            .distinctions
+            .mark(self.alloc, program, letters, &self.reached)?;
         let next = vec![in self.alloc; 0u32; letters.len()]?;
         self.bytes = self
             .bytes
@@ -185,6 +205,7 @@ impl Automaton {
         self.states.push(ProgramState {
             places,
             accepts,
+            marked,
             next,
         })?;
         self.enter(number)?;
@@ -195,6 +216,7 @@ impl Automaton {
     fn enter(&mut self, number: usize) -> Result<(), AllocError>
         ensures states { self.new.states ≡ self.old.states }
         ensures stepper { self.new.stepper ≡ self.old.stepper }
+        ensures distinctions { self.new.distinctions ≡ self.old.distinctions }
     {
         self.slots.enter(hash_of(&self.reached), number)
     }
@@ -212,5 +234,5 @@ fn fill_row(row: &mut Vec<u32>, number: usize, next: usize)
 fn bytes_of(places: usize, letters: usize) -> usize {
     places
         .saturating_mul(8)
-        .saturating_add(letters.saturating_mul(4))
+        .saturating_add(letters.saturating_mul(5))
 }

@@ -7,7 +7,7 @@ ghost use Rattle.wax_compare.specs.inner.Going.{starts};
 ghost use Rattle.wax_compare.specs.inner.Reaching.{BeginAsPrograms};
 ghost use Rattle.wax_compare.specs.inner.Searching.{AreAutomataOf, readings};
 ghost use Rattle.wax_compare.specs.inner.Visiting.{EndsAt, Grow, HasFollowed, IsHeld, IsSameSearch};
-ghost use Rattle.wax_compare.specs.inner.Visiting.{IsVisited};
+ghost use Rattle.wax_compare.specs.inner.Visiting.{IsVisited, KeepsBoth};
 
 use crate::alphabet::alphabet;
 use crate::automaton::Automaton;
@@ -36,9 +36,10 @@ pub enum Followed {
 }
 
 /// Finds a shortest text among `texts` that the two programs decide as `wanted`. A text leads to a
-/// state of each program; each pair of states that texts lead to is followed once by each letter of an
-/// alphabet. Returns `Unknown` if letters are left to follow when the pairs and the states of both
-/// programs are more than `most_states`, or take more than 384 bytes for each of so many.
+/// state of each program; each pair of states that texts lead to is followed once by each letter that its
+/// states distinguish, and by one of the others. Returns `Unknown` if letters are left to follow when the
+/// pairs and the states of both programs are more than `most_states`, or take more than 384 bytes for each
+/// of so many.
 pub fn find_text(
     alloc: Global,
     first: &CompiledProgram,
@@ -152,8 +153,8 @@ fn text_at(
     Ok(Comparison::Text(text))
 }
 
-/// Follows every letter from the pair with this number, until the text that ends after one is wanted
-/// or the budget runs out.
+/// Follows the pair with this number by every letter, until the text that ends after one is wanted or
+/// the budget runs out. Of the usual letters it follows only the first.
 fn follow(
     first: &CompiledProgram,
     second: &CompiledProgram,
@@ -168,10 +169,17 @@ fn follow(
     ensures followed { IfOk result
         (HasFollowed first.now.0 second.now.0 search.new pairs.new.reached.items at) }
 {
+    let pair = pairs.reached[at].pair;
+    let mut has_usual = false;
     for number in 0..search.letters.len() {
+        let is_usual = search.is_usual(pair, number);
+        if is_usual && has_usual {
+            continue;
+        }
         if exceeds_budget(search, pairs, most_states) {
             return Ok(Followed::OverBudget);
         }
+        has_usual = has_usual || is_usual;
         let letter = search.letters[number];
         if visit(first, second, search, pairs, at, number, letter)? {
             return Ok(Followed::Ends(number));
@@ -208,6 +216,7 @@ fn visit(
     requires letter { letter ≡ slice_index search.old.letters.items number }
     ensures held { IfOk result (λ _. IsHeld first.now.0 second.now.0 search.new pairs.new.reached.items at) }
     ensures same { IfOk result (λ _. IsSameSearch search.old search.new) }
+    ensures states { IfOk result (λ _. KeepsBoth search.old search.new) }
     ensures grows { IfOk result (λ _. Grow pairs.old.reached.items pairs.new.reached.items) }
     ensures keeps { IfOk result (λ _. (l : ℕ)
         → IsVisited (readings first.now.0 second.now.0 search.old) pairs.old.reached.items at l

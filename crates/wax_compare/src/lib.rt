@@ -4,9 +4,11 @@
 
 mod alphabet;
 mod automaton;
+mod closure;
 mod compare;
 mod compared;
 mod cuts;
+mod distinctions;
 mod law;
 mod merged;
 mod pairs;

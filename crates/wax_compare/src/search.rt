@@ -2,8 +2,8 @@
 ghost use Rattle.std.specs.Prelude.{◌≡◌, ◌<◌, ◌↔◌, [], IfOk, IsTrue, length, slice_index};
 ghost use Rattle.wax_compare.specs.declared.wanted.Wanted.TheVariants.{Both};
 ghost use Rattle.wax_compare.specs.inner.Going.{IsAllowed, begun_after};
-ghost use Rattle.wax_compare.specs.inner.Automata.{KeepsPlaces, state_places};
-ghost use Rattle.wax_compare.specs.inner.Searching.{AreAutomataOf, GoesFrom, IsNextOrNone, readings};
+ghost use Rattle.wax_compare.specs.inner.Automata.{StatesStay, state_places};
+ghost use Rattle.wax_compare.specs.inner.Searching.{AreAutomataOf, GoesFrom, IsNextOrNone, IsUsual, readings};
 
 use crate::automaton::Automaton;
 use crate::pairs::StatePair;
@@ -39,9 +39,9 @@ impl Search {
         ensures wanted { IfOk result (λ _. self.new.wanted ≡ self.old.wanted) }
         ensures texts { IfOk result (λ _. self.new.texts ≡ self.old.texts) }
         ensures firsts { IfOk result (λ _.
-            KeepsPlaces self.old.first.states.items self.new.first.states.items) }
+            StatesStay self.old.first.states.items self.new.first.states.items) }
         ensures seconds { IfOk result (λ _.
-            KeepsPlaces self.old.second.states.items self.new.second.states.items) }
+            StatesStay self.old.second.states.items self.new.second.states.items) }
         ensures next { IfOk result (IsNextOrNone (readings first.now.0 second.now.0 self.new)
             (slice_index self.old.letters.items number) from) }
     {
@@ -84,6 +84,19 @@ impl Search {
             Wanted::FirstOnly => !accepted,
         };
         pair.may_end && decided && self.first.accepts(first, &self.letters, pair.first)
+    }
+
+    /// Returns whether a letter is usual in a pair: it isn't `/`, and neither state marks it. All usual
+    /// letters lead to the same.
+    pub fn is_usual(&self, pair: StatePair, number: usize) -> bool
+        requires first { pair.first < length self.now.first.states.items }
+        requires second { pair.second < length self.now.second.states.items }
+        requires number { number < length self.now.letters.items }
+        ensures { IsTrue result → IsUsual self.now pair number }
+    {
+        self.letters[number] != '/'
+            && self.first.is_unmarked(pair.first, number)
+            && self.second.is_unmarked(pair.second, number)
     }
 
     /// Returns whether no wanted text goes on from a state of the second program.

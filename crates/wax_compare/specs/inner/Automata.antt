@@ -1,5 +1,5 @@
 -- The states of a program that letters lead to.
-use Rattle.std.specs.Prelude.{◌≡◌, ◌+◌, ◌<◌, ◌↔◌, ℕ, List, [], Option, Some, None, IsTrue, ◌⊎◌, length}
+use Rattle.std.specs.Prelude.{◌≡◌, ◌+◌, ◌<◌, ◌↔◌, ℕ, Bool, List, [], Option, Some, None, IsTrue, ◌⊎◌, length}
 use Rattle.std.specs.Prelude.{slice_get, slice_index, slice_set}
 use Rattle.wax_program.specs.declared.instruction.Instruction.{Instruction}
 use Rattle.wax_program.specs.Machine.{Accepts}
@@ -7,6 +7,7 @@ use Rattle.wax_program.specs.Threads.{AnyAmong}
 use Rattle.wax_states.specs.Reached.{AreReached}
 use Rattle.wax_compare.specs.declared.automaton.Automaton.{Automaton}
 use Rattle.wax_compare.specs.declared.automaton.ProgramState.{ProgramState}
+use Rattle.wax_compare.specs.inner.Distinctions.{AreDistinctions, MarksOthers}
 
 abbrev pub option_places : Option ProgramState → List ℕ
 option_places (Some s) = s.places.items
@@ -16,9 +17,18 @@ option_places None = []
 abbrev pub state_places : List ProgramState → ℕ → List ℕ
 state_places states t = option_places (slice_get states t)
 
--- the states keep their numbers and their places
-abbrev pub KeepsPlaces : List ProgramState → List ProgramState → Type 0
-KeepsPlaces old new = (t : ℕ) → t < length old → (t < length new) × (state_places new t ≡ state_places old t)
+abbrev pub option_marks : Option ProgramState → List Bool
+option_marks (Some s) = s.marked.items
+option_marks None = []
+
+-- the marks of the letters of the state with this number
+abbrev pub state_marks : List ProgramState → ℕ → List Bool
+state_marks states t = option_marks (slice_get states t)
+
+-- the states keep their numbers, their places and their marks
+abbrev pub StatesStay : List ProgramState → List ProgramState → Type 0
+StatesStay old new = (t : ℕ) → t < length old
+    → (t < length new) × (state_places new t ≡ state_places old t) × (state_marks new t ≡ state_marks old t)
 
 -- the character leads from the places to a state
 abbrev pub LeadsToState : List Instruction → List ProgramState → List ℕ → ℕ → ℕ → Type 0
@@ -29,6 +39,7 @@ LeadsToState code states places c n =
 pub record IsStateOf (code : List Instruction) (letters : List ℕ) (states : List ProgramState)
     (s : ProgramState) : Type 0 where
   pub ends : IsTrue s.accepts ↔ AnyAmong code s.places.items []
+  pub marks : MarksOthers code letters s.places.items s.marked.items
   pub room : length s.next.items ≡ length letters
   pub says : (k n : ℕ) → k < length letters → slice_index s.next.items k ≡ n + 1
       → LeadsToState code states s.places.items (slice_index letters k) n
@@ -36,6 +47,7 @@ pub record IsStateOf (code : List Instruction) (letters : List ℕ) (states : Li
 -- the automaton is one of a program of these instructions
 pub record IsAutomatonOf (code : List Instruction) (letters : List ℕ) (r : Automaton) : Type 0 where
   pub size : r.stepper ≡ length code
+  pub distinctions : AreDistinctions code letters r.distinctions
   pub rows : (t : ℕ) (s : ProgramState) → slice_get r.states.items t ≡ Some s
       → IsStateOf code letters r.states.items s
 
@@ -52,4 +64,5 @@ pub record HasLearned (old new : List ProgramState) (state number next : ℕ) : 
   pub set : new ≡ slice_set old state is
   pub places : is.places ≡ was.places
   pub accepts : is.accepts ≡ was.accepts
+  pub marked : is.marked ≡ was.marked
   pub row : (is.next.items ≡ was.next.items) ⊎ (is.next.items ≡ slice_set was.next.items number (next + 1))

@@ -1,11 +1,12 @@
 -- Steps of two programs at once.
-use Rattle.std.specs.Prelude.{◌<◌, ℕ, List, ◌∷◌, Option, Some, None, length}
+use Rattle.std.specs.Prelude.{◌≢◌, ◌<◌, ℕ, List, ◌∷◌, Option, Some, None, length, slice_index}
 use Rattle.wax_program.specs.declared.instruction.Instruction.{Instruction}
 use Rattle.wax_compare.specs.declared.pairs.StatePair.{StatePair}
 use Rattle.wax_compare.specs.declared.search.Search.{Search}
 use Rattle.wax_compare.specs.Cuts.{StandsFor}
 use Rattle.wax_compare.specs.inner.Going.{Goes}
-use Rattle.wax_compare.specs.inner.Automata.{IsAutomatonOf, state_places}
+use Rattle.wax_compare.specs.inner.Automata.{IsAutomatonOf, state_marks, state_places}
+use Rattle.wax_compare.specs.inner.Distinctions.{IsUnmarked}
 use Rattle.wax_compare.specs.inner.Reaching.{Readings}
 
 abbrev pub readings : List Instruction → List Instruction → Search → Readings
@@ -37,3 +38,9 @@ abbrev pub IsNextOrNone : Readings → ℕ → StatePair → Option StatePair �
 IsNextOrNone r letter from None =
     (c : ℕ) (s : List ℕ) → StandsFor r.task.code r.task.other letter c → GoesFrom r from (c ∷ s) → ⊥
 IsNextOrNone r letter from (Some to) = IsNextPair r letter from to
+
+-- the letter isn't `/`, and neither state marks it
+pub record IsUsual (s : Search) (pair : StatePair) (number : ℕ) : Type 0 where
+  pub other : slice_index s.letters.items number ≢ 47
+  pub first : IsUnmarked (state_marks s.first.states.items pair.first) number
+  pub second : IsUnmarked (state_marks s.second.states.items pair.second) number

@@ -7,6 +7,7 @@ use Rattle.wax_compare.specs.declared.pairs.StatePair.{StatePair}
 use Rattle.wax_compare.specs.declared.pairs.Reached.{Reached}
 use Rattle.wax_compare.specs.declared.search.Search.{Search}
 use Rattle.wax_compare.specs.Cuts.{AreLetters, StandsFor}
+use Rattle.wax_compare.specs.inner.Automata.{StatesStay}
 use Rattle.wax_compare.specs.inner.Reaching.{AreFollowed, AreReachedPairs, BeginAsPrograms, GoesAt, Reaches}
 use Rattle.wax_compare.specs.inner.Reaching.{Readings}
 use Rattle.wax_compare.specs.inner.Searching.{AreAutomataOf, readings}
@@ -32,6 +33,11 @@ pub record IsSameSearch (old new : Search) : Type 0 where
   pub wanted : new.wanted ≡ old.wanted
   pub texts : new.texts ≡ old.texts
   pub letters : new.letters ≡ old.letters
+
+-- the states of both programs keep their numbers, their places and their marks
+pub record KeepsBoth (old new : Search) : Type 0 where
+  pub firsts : StatesStay old.first.states.items new.first.states.items
+  pub seconds : StatesStay old.second.states.items new.second.states.items
 
 -- no pair is deeper than the next one after this pair
 abbrev pub AreShallow : List Reached → ℕ → Type 0

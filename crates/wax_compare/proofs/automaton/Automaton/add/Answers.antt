@@ -1,6 +1,7 @@
 use Rattle.std.proofs.Common.{◌≡◌, ◌<◌, ◌++◌, ◌∷◌, [], length, replicate, refl, sym, ◌∙◌, ap, subst, arith}
 use Rattle.wax_compare.specs.declared.automaton.ProgramState.{ProgramState}
-use Rattle.wax_compare.specs.inner.Automata.{KeepsPlaces, state_places}
+use Rattle.wax_compare.specs.inner.Automata.{StatesStay, state_places}
+use Rattle.wax_compare.specs.inner.Distinctions.{AreDistinctions, MarksOthers}
 use Rattle.wax_compare.proofs.Automata.{added, added_places, keeps_append, new_state}
 use Rattle.wax_compare.proofs.automaton.Automaton.add.Goals as goal
 
@@ -10,22 +11,24 @@ returns-clause-automaton c =
     let letters = c.args.letters.now in
     let old = c.args.self.now in
     let new = c.enter.new.self in
-    let s : ProgramState = record { places = c.in_ok-places.places; accepts = c.accepts-accepts.result; next = c.in_ok-next.next } in
+    let s : ProgramState = record { places = c.in_ok-places.places; accepts = c.accepts-accepts.result; marked = c.in_ok-marked.marked; next = c.in_ok-next.next } in
     let pushed : new.states.items ≡ old.states.items ++ s ∷ [] = ap (λ v. v.items) c.in_ok-enter.ensures.states ∙ c.in_ok-push.ensures.items in
     let stepper : new.stepper ≡ old.stepper = c.in_ok-enter.ensures.stepper ∙ c.accepts-accepts.ensures.same in
     let places : c.in_ok-places.places.items ≡ c.deref.result.now = c.in_ok-places.ensures.items ∙ c.deref-2.ensures.value ∙ sym c.deref.ensures.value in
     let zeros : s.next.items ≡ replicate (length letters) 0 = c.in_ok-next.ensures.items_if_clones_equal (λ y e. e) in
-    added code letters old new s c.requires stepper pushed
-    (new_state code letters (old.states.items ++ s ∷ []) s c.deref.result.now places c.accepts-accepts.ensures.accepts (length letters) refl zeros)
+    let distinctions : AreDistinctions code letters new.distinctions = subst (AreDistinctions code letters) (sym c.in_ok-enter.ensures.distinctions) c.in_ok-marked.ensures.kept in
+    let marks : MarksOthers code letters c.deref.result.now s.marked.items = subst (λ z. MarksOthers code letters z s.marked.items) (c.deref-3.ensures.value ∙ sym c.deref.ensures.value) c.in_ok-marked.ensures.marked in
+    added code letters old new s c.requires stepper distinctions pushed
+    (new_state code letters (old.states.items ++ s ∷ []) s c.deref.result.now places c.accepts-accepts.ensures.accepts marks (length letters) refl zeros)
 
 pub returns-clause-kept : goal.returns-clause-kept
 returns-clause-kept c =
-    let s : ProgramState = record { places = c.in_ok-places.places; accepts = c.accepts-accepts.result; next = c.in_ok-next.next } in
-    subst (KeepsPlaces c.args.self.now.states.items) (sym (ap (λ v. v.items) c.in_ok-enter.ensures.states ∙ c.in_ok-push.ensures.items)) (keeps_append c.args.self.now.states.items (s ∷ []))
+    let s : ProgramState = record { places = c.in_ok-places.places; accepts = c.accepts-accepts.result; marked = c.in_ok-marked.marked; next = c.in_ok-next.next } in
+    subst (StatesStay c.args.self.now.states.items) (sym (ap (λ v. v.items) c.in_ok-enter.ensures.states ∙ c.in_ok-push.ensures.items)) (keeps_append c.args.self.now.states.items (s ∷ []))
 
 pub returns-clause-places : goal.returns-clause-places
 returns-clause-places c =
-    let s : ProgramState = record { places = c.in_ok-places.places; accepts = c.accepts-accepts.result; next = c.in_ok-next.next } in
+    let s : ProgramState = record { places = c.in_ok-places.places; accepts = c.accepts-accepts.result; marked = c.in_ok-marked.marked; next = c.in_ok-next.next } in
     let old = c.args.self.now.states.items in
     let new = c.enter.new.self.states.items in
     let pushed : new ≡ old ++ s ∷ [] = ap (λ v. v.items) c.in_ok-enter.ensures.states ∙ c.in_ok-push.ensures.items in

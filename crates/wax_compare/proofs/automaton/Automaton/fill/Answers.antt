@@ -6,7 +6,7 @@ use Rattle.wax_compare.proofs.automaton.Automaton.fill.Goals as goal
 pub returns-clause-filled : goal.returns-clause-filled
 returns-clause-filled c =
     let states = c.args.self.now.states.items in
-    let s : ProgramState = record { places = c.index_mut.result.now.places; accepts = c.index_mut.result.now.accepts; next = c.fill_row.new.row } in
+    let s : ProgramState = record { places = c.index_mut.result.now.places; accepts = c.index_mut.result.now.accepts; marked = c.index_mut.result.now.marked; next = c.fill_row.new.row } in
     record {
       was = c.index_mut.result.now;
       is = s;
@@ -14,5 +14,6 @@ returns-clause-filled c =
       set = refl;
       places = refl;
       accepts = refl;
+      marked = refl;
       row = c.fill_row.ensures;
     }

@@ -50,4 +50,4 @@ returns-clause-automaton c =
     let reaches : AreReached code letter c.deref.result.now (taken_if c.in_ok-step.field-0 []) c.step.new.reached.items = subst (λ n. AreReached code n c.deref.result.now (taken_if c.in_ok-step.field-0 []) c.step.new.reached.items) is c.in_ok-step.ensures.reaches in
     let step : LeadsToState code mid (state_places old c.args.state) letter next = step_to code old mid letter c.args.state next c.deref.result.now c.step.new.reached.items c.in_ok-step.field-0 places reaches c.in_ok-next.ensures.places in
     let there : LeadsToState code mid (state_places mid c.args.state) letter next = subst (λ z. LeadsToState code mid z letter next) (sym (c.in_ok-next.ensures.kept c.args.state c.requires.state).1) step in
-    filled mid new c.args.state c.args.number next c.fill.ensures.filled code c.args.letters.now there c.intern.new.self c.fill.new.self refl refl c.fill.ensures.stepper c.in_ok-next.ensures.automaton
+    filled mid new c.args.state c.args.number next c.fill.ensures.filled code c.args.letters.now there c.intern.new.self c.fill.new.self refl refl c.fill.ensures.stepper c.fill.ensures.distinctions c.in_ok-next.ensures.automaton
