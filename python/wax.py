@@ -7,8 +7,9 @@
     ignored = IgnoreList("**/*.log\\n!keep.log\\n")
     ignored.is_ignored("a/b.log")                    # True
 
-`libwax.so` is loaded from the path in the environment variable `WAX_LIBRARY` or, if that isn't set, from the folder of
-this file. The script `library` of the repository builds it. `crates/wax_c/README.md` says what is proved.
+The library is loaded from the path in the environment variable `WAX_LIBRARY`. If that isn't set, it is `libwax.so` in
+the folder of this file or, if there is none, the system's `libwax.so.0`. The script `library` of the repository builds
+it. `crates/wax_c/README.md` says what is proved.
 """
 
 from __future__ import annotations
@@ -76,7 +77,7 @@ class _Span(ctypes.Structure):
 
 def _loaded() -> ctypes.CDLL:
     beside = os.path.join(os.path.dirname(os.path.abspath(__file__)), "libwax.so")
-    library = ctypes.CDLL(os.environ.get("WAX_LIBRARY") or beside)
+    library = ctypes.CDLL(os.environ.get("WAX_LIBRARY") or (beside if os.path.exists(beside) else "libwax.so.0"))
     text, size, number = ctypes.c_char_p, ctypes.c_size_t, ctypes.c_int32
     handle, sizes = ctypes.c_void_p, ctypes.POINTER(ctypes.c_size_t)
     handles, spans = ctypes.POINTER(handle), ctypes.POINTER(_Span)
