@@ -7,9 +7,10 @@
 # make bench:     measures matches beside grep and rg, and walks beside find and fd (bench/README.md)
 # make install:   installs what was built, with its manual pages and completions, below PREFIX (packaging/README.md)
 # make uninstall: removes it
+# make dist:      packs what was built, with the C library, for users who don't have the kit (packaging/README.md)
 # docs/GATE.md says how long they take.
 
-.PHONY: quick test globs prove explain library bench install uninstall
+.PHONY: quick test globs prove explain library bench install uninstall dist
 
 quick:
 	./quick globs
@@ -51,3 +52,6 @@ install:
 
 uninstall:
 	packaging/install --remove
+
+dist:
+	packaging/dist
