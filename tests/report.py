@@ -89,8 +89,12 @@ class Report:
 
     def skip(self, what, package):
         """Notes what isn't run because the tool of a Debian package isn't installed."""
+        self.skip_since(what, f"the Debian package {package} isn't installed")
+
+    def skip_since(self, what, why):
+        """Notes what isn't run, and why."""
         self.skipped += 1
-        print(f"{self.script}: {what}: skipped, since the Debian package {package} isn't installed", flush=True)
+        print(f"{self.script}: {what}: skipped, since {why}", flush=True)
 
     def end(self):
         """Prints the last line. Returns the exit status."""
