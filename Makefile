@@ -38,12 +38,13 @@ explain:
 library:
 	./library
 
-bench: globs
+bench: globs explain
 	cd crates/wax_vectors && rt run </dev/null
 	bench/table
 	bench/run
 	bench/families
 	bench/lists
+	bench/compare
 	bench/folders
 	bench/shards
 
