@@ -1,5 +1,5 @@
 //! Letters that a program's instructions distinguish.
-ghost use Rattle.std.specs.Prelude.{◌<◌, ◌↔◌, IfOk, IsTrue};
+ghost use Rattle.std.specs.Prelude.{◌≡◌, ◌<◌, ◌↔◌, IfOk, IsTrue, length};
 ghost use Rattle.wax_compare.specs.inner.Distinctions.{AreDistinctions, AreExceptions, AreMarkedAt};
 ghost use Rattle.wax_compare.specs.inner.Distinctions.{KeepsMarks, MarksOthers, TakesCharacter};
 
@@ -56,6 +56,7 @@ impl Distinctions {
         requires { AreDistinctions program.now.0 letters.now self.old }
         ensures kept { IfOk result (λ _. AreDistinctions program.now.0 letters.now self.new) }
         ensures marked { IfOk result (λ v. MarksOthers program.now.0 letters.now places.now v.items) }
+        ensures len { IfOk result (λ v. length v.items ≡ length letters.now) }
     {
         let all = self.closure.list(program, places)?;
         let mut marked = vec![in alloc; !all; letters.len()]?;
@@ -69,6 +70,7 @@ impl Distinctions {
 /// Marks the exceptions of the instruction at a place.
 fn mark_exceptions(exceptions: &[Exceptions], place: usize, marked: &mut Vec<bool>)
     ensures kept { KeepsMarks marked.old.items marked.new.items }
+    ensures len { length marked.new.items ≡ length marked.old.items }
     ensures marked { AreMarkedAt exceptions.now marked.new.items place }
 {
     if place >= exceptions.len() {
