@@ -69,6 +69,25 @@ static void filters(void) {
   CHECK(wax_filter(TEXT("*"), "", 0, output, 1, &written) == 0 && written == 0);
 }
 
+static void texts(void) {
+  char output[100];
+  size_t written = 77;
+  memset(output, '#', sizeof output);
+  CHECK(wax_escape(TEXT("a*[b]"), output, 7, &written) == -21 && written == 8 && output[0] == '#');
+  CHECK(wax_escape("\xff", 1, output, 7, &written) == -20 && written == 0 && output[0] == '#');
+  CHECK(wax_escape(TEXT("a*[b]"), output, 8, &written) == 0 && written == 8 && memcmp(output, "a\\*\\[b\\]#", 9) == 0);
+  CHECK(wax_is_match(output, written, TEXT("a*[b]")) == 1);
+  CHECK(wax_escape(TEXT("a/b"), output, 3, &written) == 0 && written == 3 && memcmp(output, "a/b", 3) == 0);
+  memset(output, '#', sizeof output);
+  CHECK(wax_picture(TEXT("a*"), output, 0, &written) == 0 && written == 0);
+  CHECK(wax_picture("\xff", 1, output, sizeof output, &written) == -20 && written == 0);
+  // (as docs/GUIDE.md has it)
+  static const char picture[] = "{a/,b}/c\n^^^^^^ in this alternation\n      ^ here\n  ^ here\n";
+  CHECK(wax_picture(TEXT("{a/,b}/c"), output, 5, &written) == -21 && written == strlen(picture) && output[0] == '#');
+  CHECK(wax_picture(TEXT("{a/,b}/c"), output, sizeof output, &written) == 0 && written == strlen(picture));
+  CHECK(memcmp(output, picture, written) == 0 && output[written] == '#');
+}
+
 static void globs(void) {
   char output[100];
   size_t written;
@@ -81,6 +100,13 @@ static void globs(void) {
     CHECK(wax_glob_is_match(glob, TEXT("src/a/b.c")) == 0);
     CHECK(wax_glob_is_match(other, TEXT("b.c")) == 1);
     CHECK(wax_glob_is_match(glob, "\xff", 1) == -20);
+    CHECK(wax_glob_goes_on(glob, "", 0) == 1);
+    CHECK(wax_glob_goes_on(glob, TEXT("src/a.rs")) == 1);
+    CHECK(wax_glob_goes_on(glob, TEXT("src/")) == 1);
+    CHECK(wax_glob_goes_on(glob, TEXT("doc")) == 0);
+    CHECK(wax_glob_goes_on(other, "", 0) == 1);
+    CHECK(wax_glob_goes_on(other, TEXT("b.c")) == 0);
+    CHECK(wax_glob_goes_on(glob, "\xff", 1) == -20);
     CHECK(wax_glob_filter(glob, TEXT(lines), output, sizeof output, &written) == 0);
     CHECK(written == strlen(wanted) && memcmp(output, wanted, written) == 0);
     CHECK(wax_glob_filter(glob, TEXT(lines), output, 5, &written) == -21 && written == strlen(wanted));
@@ -90,17 +116,114 @@ static void globs(void) {
   wax_glob_free(NULL);
 }
 
+static void captures(void) {
+  char texts[20];
+  size_t lengths[4], count = 7;
+  wax_span span;
+  wax_glob *glob = NULL;
+  CHECK(wax_glob_new(TEXT("src/**/*.{rs,toml}"), &glob, &span) == 0);
+  memset(texts, '#', sizeof texts);
+  for (size_t at = 0; at < 4; at++) lengths[at] = 77;
+  CHECK(wax_glob_captures(glob, TEXT("src/a/b.c"), texts, 20, lengths, 4, &count) == 0 && count == 0);
+  CHECK(wax_glob_captures(glob, "\xff", 1, texts, 20, lengths, 4, &count) == -20 && count == 0);
+  CHECK(wax_glob_captures(glob, TEXT("src/a/\xc3\xa9.rs"), texts, 5, lengths, 4, &count) == -21 && count == 3);
+  CHECK(wax_glob_captures(glob, TEXT("src/a/\xc3\xa9.rs"), texts, 20, lengths, 2, &count) == -21 && count == 3);
+  CHECK(texts[0] == '#' && lengths[0] == 77);
+  CHECK(wax_glob_captures(glob, TEXT("src/a/\xc3\xa9.rs"), texts, 6, lengths, 3, &count) == 1 && count == 3);
+  CHECK(memcmp(texts, "a/\xc3\xa9rs#", 7) == 0);
+  CHECK(lengths[0] == 2 && lengths[1] == 2 && lengths[2] == 2 && lengths[3] == 77);
+  CHECK(wax_glob_captures(glob, TEXT("src/.toml"), texts, 20, lengths, 4, &count) == 1 && count == 3);
+  CHECK(memcmp(texts, "toml", 4) == 0 && lengths[0] == 0 && lengths[1] == 0 && lengths[2] == 4);
+  wax_glob_free(glob);
+  CHECK(wax_glob_new(TEXT("a"), &glob, &span) == 0);
+  CHECK(wax_glob_captures(glob, "a", 1, texts, 0, lengths, 0, &count) == 1 && count == 0);
+  wax_glob_free(glob);
+}
+
+static void parts(void) {
+  char prefix[20];
+  size_t written = 77;
+  wax_span span;
+  wax_glob *glob = NULL, *rest = (wax_glob *)prefix;
+  wax_facts facts;
+  CHECK(wax_glob_new(TEXT("src/*/mod.rs"), &glob, &span) == 0);
+  CHECK(wax_glob_facts(glob, &facts) == 0 && facts.least_depth == 3 && facts.greatest_depth == 3);
+  CHECK(facts.has_root == 0 && facts.is_exhaustive == 0);
+  memset(prefix, '#', sizeof prefix);
+  CHECK(wax_glob_partition(glob, prefix, 3, &written, &rest) == -21 && written == 4 && rest == NULL && prefix[0] == '#');
+  CHECK(wax_glob_partition(glob, prefix, 4, &written, &rest) == 0 && written == 4 && rest != NULL);
+  CHECK(memcmp(prefix, "src/#", 5) == 0);
+  CHECK(wax_glob_text(glob, prefix, sizeof prefix, &written) == 0 && written == 0 && prefix[0] == 's');
+  CHECK(wax_glob_is_match(rest, TEXT("a/mod.rs")) == 1 && wax_glob_is_match(rest, TEXT("src/a/mod.rs")) == 0);
+  CHECK(wax_glob_is_match(glob, TEXT("src/a/mod.rs")) == 1);
+  wax_glob_free(rest);
+  wax_glob_free(glob);
+  CHECK(wax_glob_new(TEXT("/a/**"), &glob, &span) == 0);
+  CHECK(wax_glob_facts(glob, &facts) == 0 && facts.least_depth == 1 && facts.greatest_depth == SIZE_MAX);
+  CHECK(facts.has_root == 2 && facts.is_exhaustive == 2);
+  wax_glob_free(glob);
+  CHECK(wax_glob_new(TEXT("a/[b]"), &glob, &span) == 0);
+  CHECK(wax_glob_text(glob, prefix, 2, &written) == -21 && written == 3 && prefix[0] == 's');
+  CHECK(wax_glob_text(glob, prefix, 3, &written) == 1 && written == 3 && memcmp(prefix, "a/b/#", 5) == 0);
+  wax_glob_free(glob);
+  CHECK(wax_glob_new(TEXT("a/b"), &glob, &span) == 0);
+  CHECK(wax_glob_partition(glob, prefix, sizeof prefix, &written, &rest) == 0 && written == 3 && rest == NULL);
+  wax_glob_free(glob);
+}
+
+static void sets(void) {
+  static const size_t lengths[] = {7, 7, 8};
+  size_t which = 7, found[3] = {77, 77, 77}, count;
+  wax_span span = {7, 7};
+  wax_set *set = NULL;
+  CHECK(wax_set_new(TEXT("**/*.rsdocs/****/test*"), lengths, 3, &set, &which, &span) == 0 && set != NULL && which == 3);
+  CHECK(wax_set_is_match(set, TEXT("src/test.rs")) == 1);
+  CHECK(wax_set_is_match(set, TEXT("src/a.c")) == 0);
+  CHECK(wax_set_is_match(set, "\xff", 1) == -20);
+  CHECK(wax_set_matches(set, TEXT("src/test.rs"), found, 1, &count) == -21 && count == 2 && found[0] == 77);
+  CHECK(wax_set_matches(set, TEXT("src/test.rs"), found, 3, &count) == 0 && count == 2);
+  CHECK(found[0] == 0 && found[1] == 2 && found[2] == 77);
+  CHECK(wax_set_matches(set, TEXT("a"), found, 0, &count) == 0 && count == 0);
+  CHECK(wax_set_matches(set, "\xff", 1, found, 3, &count) == -20 && count == 0);
+  CHECK(wax_set_goes_on(set, TEXT("docs")) == 1);
+  CHECK(wax_set_goes_on(set, "\xff", 1) == -20);
+  wax_set_free(set);
+  wax_set_free(NULL);
+  CHECK(wax_set_new(TEXT("a/bc//d"), (size_t[]){3, 4}, 2, &set, &which, &span) == -2 && set == NULL && which == 1);
+  CHECK(span.start == 1 && span.length == 2);
+  CHECK(wax_set_new("a\xff", 2, (size_t[]){1, 1}, 2, &set, &which, &span) == -20 && set == NULL && which == 1);
+  CHECK(wax_set_new("src/*", 5, (size_t[]){3, 99}, 2, &set, &which, &span) == 0 && which == 2);
+  CHECK(wax_set_is_match(set, TEXT("/a")) == 1 && wax_set_is_match(set, TEXT("src")) == 1);
+  CHECK(wax_set_goes_on(set, TEXT("src")) == 0);
+  wax_set_free(set);
+  CHECK(wax_set_new("", 0, lengths, 0, &set, &which, &span) == 0 && which == 0);
+  CHECK(wax_set_is_match(set, "", 0) == 0);
+  wax_set_free(set);
+}
+
 static void lists(void) {
   size_t line = 7;
   wax_ignore *list = NULL;
-  CHECK(wax_ignore_new(TEXT("# logs\n**/*.log\n!x/**\n"), &list, &line) == 0 && list != NULL && line == 0);
+  CHECK(wax_ignore_new(TEXT("# logs\n**/*.log\n!x/**\nbuilt/**\n"), &list, &line) == 0 && list != NULL && line == 0);
   for (int time = 0; time < 2; time++) {
     CHECK(wax_ignore_is_ignored(list, TEXT("a.log")) == 1);
     CHECK(wax_ignore_is_ignored(list, TEXT("y/b.log")) == 1);
     CHECK(wax_ignore_is_ignored(list, TEXT("x/a.log")) == 0);
     CHECK(wax_ignore_is_ignored(list, TEXT("a")) == 0);
+    CHECK(wax_ignore_excludes_below(list, TEXT("built")) == 1);
+    CHECK(wax_ignore_excludes_below(list, TEXT("built/a")) == 1);
+    CHECK(wax_ignore_excludes_below(list, TEXT("x")) == 0);
+    CHECK(wax_ignore_excludes_below(list, "", 0) == 0);
   }
   CHECK(wax_ignore_is_ignored(list, "\xff", 1) == -20);
+  static const char input[] = "a.log\nx/a.log\n\xff\nb", kept[] = "x/a.log\nb\n";
+  char output[20];
+  size_t written = 77;
+  memset(output, '#', sizeof output);
+  CHECK(wax_ignore_filter(list, TEXT(input), output, 9, &written) == -21 && written == 10 && output[0] == '#');
+  CHECK(wax_ignore_filter(list, TEXT(input), output, sizeof output, &written) == 0 && written == 10);
+  CHECK(memcmp(output, kept, written) == 0 && output[written] == '#');
+  CHECK(wax_ignore_excludes_below(list, "\xff", 1) == -20);
   wax_ignore_free(list);
   wax_ignore_free(NULL);
   CHECK(wax_ignore_new(TEXT("a\n\n{b\n{c\n"), &list, &line) == -1 && list == NULL && line == 3);
@@ -110,9 +233,10 @@ static void lists(void) {
 // one call of each, whose answers are 1 or 0 or a refusal; returns how many were refused
 static int calls(void) {
   char output[100];
-  size_t written, line;
+  size_t written, line, lengths[4], count;
   wax_span span;
-  wax_glob *glob;
+  wax_glob *glob, *rest;
+  wax_set *set;
   wax_ignore *list;
   int none = 0;
   int32_t status = wax_glob_new(TEXT(expression), &glob, &span);
@@ -122,9 +246,22 @@ static int calls(void) {
     status = wax_glob_is_match(glob, TEXT("src/a/b.rs"));
     none += status == -10;
     CHECK(status == 1 || status == -10);
+    status = wax_glob_goes_on(glob, TEXT("src/a"));
+    none += status == -10;
+    CHECK(status == 1 || status == -10);
     status = wax_glob_filter(glob, TEXT(lines), output, sizeof output, &written);
     none += status == -10;
     CHECK(status == 0 ? written == strlen(wanted) : status == -10 && written == 0);
+    status = wax_glob_captures(glob, TEXT("src/a/b.rs"), output, sizeof output, lengths, 4, &count);
+    none += status == -10;
+    CHECK(status == 1 ? count == 3 : status == -10 && count == 0);
+    status = wax_glob_text(glob, output, sizeof output, &written);
+    none += status == -10;
+    CHECK((status == 0 || status == -10) && written == 0);
+    status = wax_glob_partition(glob, output, sizeof output, &written, &rest);
+    none += status == -10;
+    CHECK(status == 0 ? written == 3 && rest != NULL : status == -10 && written == 0 && rest == NULL);
+    wax_glob_free(rest);
   }
   wax_glob_free(glob);
   status = wax_filter(TEXT(expression), TEXT(lines), output, sizeof output, &written);
@@ -133,6 +270,27 @@ static int calls(void) {
   status = wax_is_match(TEXT(expression), TEXT("src/a/b.c"));
   none += status == -10;
   CHECK(status == 0 || status == -10);
+  status = wax_escape(TEXT("a*"), output, sizeof output, &written);
+  none += status == -10;
+  CHECK(status == 0 ? written == 3 : status == -10 && written == 0);
+  status = wax_picture(TEXT("a//b"), output, sizeof output, &written);
+  none += status == -10;
+  CHECK(status == 0 ? written > 5 : status == -10 && written == 0);
+  status = wax_set_new(TEXT("*.ca/**"), (size_t[]){3, 4}, 2, &set, &line, &span);
+  none += status == -10;
+  CHECK(status == 0 ? set != NULL && line == 2 : status == -10 && set == NULL);
+  if (set) {
+    status = wax_set_is_match(set, TEXT("a/b"));
+    none += status == -10;
+    CHECK(status == 1 || status == -10);
+    status = wax_set_matches(set, TEXT("a/b"), lengths, 4, &count);
+    none += status == -10;
+    CHECK(status == 0 ? count == 1 && lengths[0] == 1 : status == -10 && count == 0);
+    status = wax_set_goes_on(set, TEXT("b"));
+    none += status == -10;
+    CHECK(status == 0 || status == -10);
+  }
+  wax_set_free(set);
   status = wax_ignore_new(TEXT("**/*.log\n!x/**\n"), &list, &line);
   none += status == -10;
   CHECK(line == 0 && (status == 0 ? list != NULL : status == -10 && list == NULL));
@@ -140,6 +298,12 @@ static int calls(void) {
     status = wax_ignore_is_ignored(list, TEXT("y/b.log"));
     none += status == -10;
     CHECK(status == 1 || status == -10);
+    status = wax_ignore_filter(list, "a.log\nb\n", 8, output, sizeof output, &written);
+    none += status == -10;
+    CHECK(status == 0 ? written == 2 : status == -10 && written == 0);
+    status = wax_ignore_excludes_below(list, TEXT("x"));
+    none += status == -10;
+    CHECK(status == 0 || status == -10);
   }
   wax_ignore_free(list);
   return none;
@@ -167,7 +331,7 @@ int main(int count, char **words) {
   if (count > 1 && !strcmp(words[1], "fail")) {
     failing();
   } else {
-    expressions(), errors(), filters(), globs(), lists();
+    expressions(), errors(), filters(), texts(), globs(), captures(), parts(), sets(), lists();
     CHECK(wax_blocks() == 0);
   }
   printf("%ld checks failed\n", failures);

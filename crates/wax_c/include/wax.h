@@ -43,6 +43,17 @@ int32_t wax_is_match(const char *expression, size_t expression_length, const cha
 int32_t wax_filter(const char *expression, size_t expression_length, const char *input, size_t input_length,
                    char *output, size_t output_length, size_t *written);
 
+/* Writes an expression that matches only this text to the beginning of the output, and the number of its bytes to
+ * `written`. What is written for a text with a backslash is no expression, since a backslash can't be escaped. An output
+ * of 2 * text_length bytes is always large enough. Errors leave the output and `written` as for wax_filter. */
+int32_t wax_escape(const char *text, size_t text_length, char *output, size_t output_length, size_t *written);
+
+/* Draws why an expression isn't built: writes the expression to the beginning of the output, and under it a line for
+ * each part that the error names; and the number of these bytes to `written`, which is 0 if the expression has no error.
+ * Errors leave the output and `written` as for wax_filter. */
+int32_t wax_picture(const char *expression, size_t expression_length, char *output, size_t output_length,
+                    size_t *written);
+
 /* A handle of a glob: build it once to match many paths. */
 typedef struct wax_glob wax_glob;
 
@@ -58,12 +69,71 @@ int32_t wax_glob_new(const char *expression, size_t expression_length, wax_glob 
 /* Returns 1 if the glob matches the path, 0 if not. */
 int32_t wax_glob_is_match(const wax_glob *glob, const char *path, size_t path_length);
 
+/* Returns 1 if something below the folder with this path can match, that is, if the glob matches the path of something
+ * below it; 0 if not. A walk needs to open only such folders. The empty path is the folder where paths begin. */
+int32_t wax_glob_goes_on(const wax_glob *glob, const char *folder, size_t folder_length);
+
 /* Writes the lines of the input that the glob matches, as wax_filter does. */
 int32_t wax_glob_filter(const wax_glob *glob, const char *input, size_t input_length, char *output,
                         size_t output_length, size_t *written);
 
+/* Returns 1 if the glob matches the path, 0 if not. If it matches, writes the texts of its captures to the beginning of
+ * `texts`, one after another, how many bytes each has to the beginning of `lengths`, and the number of captures to
+ * `count`. Each class, wildcard, alternation and repetition that isn't inside another token captures. An output of
+ * path_length bytes, with as many lengths as the expression has bytes, is always large enough. After the error 21,
+ * `count` is the number of captures; if the glob doesn't match, and after other errors, it is 0. `texts` and `lengths`
+ * are unchanged in all these cases. */
+int32_t wax_glob_captures(const wax_glob *glob, const char *path, size_t path_length, char *texts, size_t texts_length,
+                          size_t *lengths, size_t lengths_length, size_t *count);
+
+/* What is known of all paths that a glob matches. The depths are numbers of components, where `*`, `$` and a class are
+ * one character; `greatest_depth` is SIZE_MAX if there is no greatest. `has_root` is 2 if each match begins with `/`, and
+ * `is_exhaustive` is 2 if everything below each match matches too; 1 and 0 promise nothing. */
+typedef struct {
+    size_t least_depth, greatest_depth;
+    int32_t has_root, is_exhaustive;
+} wax_facts;
+
+/* Writes what is known of the glob to `facts`. It has no errors. */
+int32_t wax_glob_facts(const wax_glob *glob, wax_facts *facts);
+
+/* If the expression is written as one text, returns 1 and writes this text, the only one that the glob matches, to the
+ * beginning of the output, and the number of its bytes to `written`. Otherwise returns 0, and `written` is 0. Errors
+ * leave the output and `written` as for wax_filter. */
+int32_t wax_glob_text(const wax_glob *glob, char *output, size_t output_length, size_t *written);
+
+/* Writes the prefix of the glob, with which each match begins, to the beginning of `prefix`, the number of its bytes to
+ * `written`, and a new handle of the rest of the glob to `rest`, or null if there is none. The first handle stays as it
+ * is. After an error the new handle is null, and `prefix` and `written` are left as for wax_filter. */
+int32_t wax_glob_partition(const wax_glob *glob, char *prefix, size_t prefix_length, size_t *written, wax_glob **rest);
+
 /* Frees a handle. Does nothing if it is null. */
 void wax_glob_free(wax_glob *glob);
+
+/* A handle of a set of globs. */
+typedef struct wax_set wax_set;
+
+/* Builds a set from expressions, and writes its handle to `out`. The expressions are one after another in `patterns`, and
+ * `lengths` has the number of bytes of each. After an error the handle is null. If it is due to an expression, `which` is
+ * the index of the first such expression and `span` is as for wax_glob_new; otherwise `which` is `count`. The error 9 with
+ * `which` equal to `count` means that the set is too large. */
+int32_t wax_set_new(const char *patterns, size_t patterns_length, const size_t *lengths, size_t count, wax_set **out,
+                    size_t *which, wax_span *span);
+
+/* Returns 1 if one of the expressions matches the path, 0 if not. */
+int32_t wax_set_is_match(const wax_set *set, const char *path, size_t path_length);
+
+/* Writes the indexes of all expressions that match the path to the beginning of `which`, ascending, and their number to
+ * `count`. After the error 21, `count` is how many there are; after others it is 0. `which` is unchanged after any
+ * error. */
+int32_t wax_set_matches(const wax_set *set, const char *path, size_t path_length, size_t *which, size_t which_length,
+                        size_t *count);
+
+/* Returns 1 if one of the expressions matches the path of something below the folder with this path, 0 if not. */
+int32_t wax_set_goes_on(const wax_set *set, const char *folder, size_t folder_length);
+
+/* Frees a handle. Does nothing if it is null. */
+void wax_set_free(wax_set *set);
 
 /* A handle of an ignore list. Each line is a glob: paths that it matches are ignored or, after a `!`, aren't. The last
  * line that matches a path decides. Lines that are empty or begin with `#` are skipped. */
@@ -75,6 +145,14 @@ int32_t wax_ignore_new(const char *text, size_t text_length, wax_ignore **out, s
 
 /* Returns 1 if the list ignores the path, 0 if not. The list keeps what it learns from the path for the next ones. */
 int32_t wax_ignore_is_ignored(const wax_ignore *list, const char *path, size_t path_length);
+
+/* Writes the lines of the input that the list doesn't ignore, as wax_filter does. */
+int32_t wax_ignore_filter(const wax_ignore *list, const char *input, size_t input_length, char *output,
+                          size_t output_length, size_t *written);
+
+/* Returns 1 if the list ignores everything below the folder with this path, so that a walk needn't open it; 0 if
+ * something below it might not be ignored. The path has no `/` at its end. */
+int32_t wax_ignore_excludes_below(const wax_ignore *list, const char *folder, size_t folder_length);
 
 /* Frees a handle. Does nothing if it is null. */
 void wax_ignore_free(wax_ignore *list);

@@ -1,1 +1,4 @@
+mod Collected
+mod CutEach
+mod Filled
 mod Values

@@ -1,14 +1,15 @@
 -- How calls of handles of globs end.
-use Rattle.std.specs.Prelude.{◌≡◌, ℕ, ℤ, List, Option, Some, None, Result, Ok, Err}
+use Rattle.std.specs.Prelude.{◌≡◌, ℕ, ℤ, List, Option, Some, None, Result, Ok, Err, chars}
 use Rattle.wax.specs.GlobView.{GlobView}
 use Rattle.wax_c.specs.Numbers.{status_number}
-use Rattle.wax_c.specs.Outcomes.{IsGlobOf, IsNoGlob}
+use Rattle.wax_c.specs.Outcomes.{Fills, IsGlobOf, IsNoGlob, KeepsAfterError, Output}
 use Rattle.wax_c.specs.declared.error.CallError.{CallError}
 use Rattle.wax_c.specs.declared.error.CallError.TheVariants.{Build, NotText, NoRoom}
 use Rattle.wax_c.specs.declared.handle.GlobHandle.{GlobHandle}
 use Rattle.wax_c.specs.declared.globs.WaxSpan.{WaxSpan}
 use denote.RawPtr.{null_ptr}
 use Rattle.wax.specs.Language.{location_of}
+use Rattle.wax.specs.Partition.{HasParts}
 use Rattle.wax.specs.Queries.{Label}
 
 abbrev pub no_span : WaxSpan
@@ -36,3 +37,22 @@ abbrev pub IsGlobHandle : List ℕ → GlobHandle → WaxSpan → ℤ → Type 0
 IsGlobHandle e handle span number =
     (outcome : Result (Unit {0}) CallError) × HasGlob e handle outcome
     × (span ≡ span_of outcome) × (number ≡ status_number outcome)
+
+-- the handle is null if it has no glob
+abbrev pub IsNullIfEmpty : GlobHandle → Type 0
+IsNullIfEmpty handle = handle.held ≡ None → handle.at ≡ null_ptr
+
+-- the output has the prefix of the glob, and the handle has the rest, if there is one; or it is null for this
+-- error
+abbrev pub HasRest : GlobView → List ℕ → Output → GlobHandle → Result (Unit {0}) CallError → Type 0
+HasRest g before output rest (Ok done) =
+    Fills (λ prefix. HasParts g (chars prefix) rest.held) before output (Ok done) × IsNullIfEmpty rest
+HasRest g before output rest (Err error) =
+    Fills (λ prefix. (u : Option GlobView) × HasParts g (chars prefix) u) before output (Err error)
+    × (rest.held ≡ None) × (rest.at ≡ null_ptr)
+
+-- so it is, with the number of the error
+abbrev pub IsPartitioned : GlobView → List ℕ → Output → GlobHandle → ℤ → Type 0
+IsPartitioned g before output rest number =
+    (outcome : Result (Unit {0}) CallError) × HasRest g before output rest outcome
+    × KeepsAfterError before output outcome × (number ≡ status_number outcome)

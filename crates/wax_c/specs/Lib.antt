@@ -1,6 +1,11 @@
+pub mod Captures
+pub mod Facts
 pub mod GlobHandles
 pub mod GlobOwned
 pub mod ListHandles
 pub mod ListOwned
 pub mod Numbers
 pub mod Outcomes
+pub mod SetOwned
+pub mod Sets
+pub mod Texts

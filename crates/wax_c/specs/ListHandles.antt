@@ -1,13 +1,15 @@
 -- How calls of handles of ignore lists end.
-use Rattle.std.specs.Prelude.{◌≡◌, ℕ, ℤ, Bool, List, Some, None, Result, Ok, Err, IsUtf8, chars}
-use Rattle.wax.specs.Ignoring.{HoldsLines, IsFirstUnread, IsListOf}
+use Rattle.std.specs.Prelude.{◌≡◌, ◌↔◌, ℕ, ℤ, Bool, IsTrue, true, List, Some, None, Result, Ok, Err, IsUtf8}
+use Rattle.wax.specs.Ignoring.{HoldsLines, IgnoresBelow, IsFirstUnread, IsListOf, IsUnignored, Line}
+use Rattle.wax.specs.Ignoring.{is_ignored}
+use Rattle.wax.specs.Matching.{Filters, IsBelow, WritesMeant, lines}
+use Rattle.wax.specs.Walks.{NoSlashAfterNames, folder_at}
 use Rattle.wax.specs.declared.ignoring.IgnoreList.{IgnoreList}
-use Rattle.wax_c.specs.Numbers.{answer_number, status_number}
+use Rattle.wax_c.specs.Numbers.{status_number}
 use Rattle.wax_c.specs.declared.error.CallError.{CallError}
 use Rattle.wax_c.specs.declared.error.CallError.TheVariants.{Build, NotText, NoRoom}
 use Rattle.wax_c.specs.declared.list_handle.ListHandle.{ListHandle}
 use denote.RawPtr.{null_ptr}
-use Rattle.wax.specs.Ignoring.{is_ignored, Line}
 use Rattle.wax.specs.Language.{BuildError, Memory, Span}
 
 -- a list of these bytes, which are text
@@ -38,16 +40,21 @@ IsListHandle text handle line number =
     (outcome : Result (Unit {0}) CallError) × HasList text handle line outcome
     × (number ≡ status_number outcome)
 
--- whether the list ignores the path of these bytes; nothing is said if an allocation fails
-abbrev pub Ignores : IgnoreList → List ℕ → Result Bool CallError → Type 0
-Ignores list path (Ok answer) =
-    IsUtf8 path
-    × ((lines : List (Line Span)) → HoldsLines list lines → answer ≡ is_ignored lines (chars path))
-Ignores list path (Err (Build error)) = error ≡ Memory
-Ignores list path (Err NotText) = IsUtf8 path → ⊥
-Ignores list path (Err NoRoom) = ⊥
+-- the answer is whether the list ignores the path
+abbrev pub SaysIgnored : IgnoreList → List ℕ → Bool → Type 0
+SaysIgnored list path answer =
+    (lines : List (Line Span)) → HoldsLines list lines → answer ≡ is_ignored lines path
 
--- the number is that of an outcome for the path
-abbrev pub IgnoresAs : IgnoreList → List ℕ → ℤ → Type 0
-IgnoresAs list path number =
-    (outcome : Result Bool CallError) × Ignores list path outcome × (number ≡ answer_number outcome)
+-- What the answer says of all that is below the folder.
+pub record SaysIgnoredBelow (list : IgnoreList) (folder : List ℕ) (answer : Bool) : Type 0 where
+  -- whether a line that ignores covers the folder, and no line after it begins with `!`
+  pub exactly : (lines : List (Line Span)) → HoldsLines list lines
+      → IsTrue answer ↔ IgnoresBelow lines (folder_at folder)
+  -- if so, the list ignores each path below
+  pub below : NoSlashAfterNames folder → IsTrue answer → (lines : List (Line Span)) → HoldsLines list lines
+      → (path : List ℕ) → IsBelow folder path → is_ignored lines path ≡ true
+
+-- the lines of the input that are text and that the list doesn't ignore, each with a line feed
+abbrev pub AreUnignored : IgnoreList → List ℕ → List ℕ → Type 0
+AreUnignored list input out = (held : List (Line Span)) → HoldsLines list held
+    → (bad : ℕ) × Filters (WritesMeant (IsUnignored held)) (lines input) out bad

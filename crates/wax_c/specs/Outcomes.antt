@@ -1,5 +1,5 @@
 -- How calls end.
-use Rattle.std.specs.Prelude.{◌≡◌, ◌↔◌, ◌<◌, ◌≤◌, ℕ, ℤ, Bool, IsTrue, List, length, drop, take}
+use Rattle.std.specs.Prelude.{◌≡◌, ◌↔◌, ◌<◌, ◌≤◌, ◌++◌, ℕ, ℤ, Bool, IsTrue, List, length, drop, take}
 use Rattle.std.specs.Prelude.{IsUtf8, chars}
 use Rattle.std.specs.Prelude.{Result, Ok, Err}
 use Rattle.std.specs.Prelude.{IfErr, OnErr}
@@ -9,7 +9,7 @@ use Rattle.wax_c.specs.Numbers.{answer_number, status_number}
 use Rattle.wax_c.specs.declared.error.CallError.{CallError}
 use Rattle.wax_c.specs.declared.error.CallError.TheVariants.{Build, NotText, NoRoom}
 use Rattle.wax.specs.Language.{Memory}
-use Rattle.wax.specs.Matching.{Filters, lines, WritesMeant}
+use Rattle.wax.specs.Matching.{Filters, lines, MeansBelow, WritesMeant}
 
 -- a glob of these bytes, which are text
 abbrev pub IsGlobOf : List ℕ → GlobView → Type 0
@@ -21,12 +21,21 @@ IsNoGlob e (Build error) = IsUtf8 e × MatchGlob (chars e) (Err error)
 IsNoGlob e NotText = IsUtf8 e → ⊥
 IsNoGlob e NoRoom = ⊥
 
--- whether the glob matches the path of these bytes; nothing is said if an allocation fails
-abbrev pub Decides : GlobView → List ℕ → Result Bool CallError → Type 0
-Decides g path (Ok answer) = IsUtf8 path × (IsTrue answer ↔ IsMeant g (chars path))
-Decides g path (Err (Build error)) = error ≡ Memory
-Decides g path (Err NotText) = IsUtf8 path → ⊥
-Decides g path (Err NoRoom) = ⊥
+-- the answer for the path of these bytes, of which this says what it means; nothing is said if an allocation
+-- fails
+abbrev pub Decides : (List ℕ → Bool → Type 0) → List ℕ → Result Bool CallError → Type 0
+Decides Says path (Ok answer) = IsUtf8 path × Says (chars path) answer
+Decides Says path (Err (Build error)) = error ≡ Memory
+Decides Says path (Err NotText) = IsUtf8 path → ⊥
+Decides Says path (Err NoRoom) = ⊥
+
+-- the answer is whether the glob matches the path
+abbrev pub SaysMatch : GlobView → List ℕ → Bool → Type 0
+SaysMatch g path answer = IsTrue answer ↔ IsMeant g path
+
+-- the answer is whether the glob matches the path of something below the folder
+abbrev pub SaysGoesOn : GlobView → List ℕ → Bool → Type 0
+SaysGoesOn g folder answer = IsTrue answer ↔ MeansBelow g.tree folder
 
 -- what a call returns of an expression: why it builds no glob, or what the call returns of the glob
 pub data OfExpression {A : Type 0} (e : List ℕ) (OfGlob : GlobView → Result A CallError → Type 0)
@@ -38,21 +47,25 @@ pub data OfExpression {A : Type 0} (e : List ℕ) (OfGlob : GlobView → Result 
 abbrev pub AreLines : GlobView → List ℕ → List ℕ → Type 0
 AreLines g input out = (bad : ℕ) × Filters (WritesMeant (IsMeant g)) (lines input) out bad
 
+-- the list begins with these numbers now, and goes on as before
+abbrev pub HoldsFirst : List ℕ → List ℕ → List ℕ → Type 0
+HoldsFirst numbers before after =
+    (length numbers ≤ length before) × (after ≡ numbers ++ drop (length numbers) before)
+
 -- What a call leaves of an output and of the number of bytes written.
 pub record Output : Type 0 where
   pub bytes : List ℕ
   pub written : ℕ
 
--- the output begins with the lines that the glob matches, and goes on as before; or these are too long for it
-abbrev pub Fills : GlobView → List ℕ → List ℕ → Output → Result (Unit {0}) CallError → Type 0
-Fills g input before output (Ok done) =
-    AreLines g input (take output.written output.bytes) × (output.written ≤ length output.bytes)
+-- the output begins with such bytes, and goes on as before; or these are too long for it
+abbrev pub Fills : (List ℕ → Type 0) → List ℕ → Output → Result (Unit {0}) CallError → Type 0
+Fills Wanted before output (Ok done) =
+    Wanted (take output.written output.bytes) × (output.written ≤ length output.bytes)
     × (drop output.written output.bytes ≡ drop output.written before)
-Fills g input before output (Err NoRoom) =
-    (out : List ℕ) × AreLines g input out × (output.written ≡ length out)
-    × (length output.bytes < output.written)
-Fills g input before output (Err (Build error)) = error ≡ Memory
-Fills g input before output (Err NotText) = ⊥
+Fills Wanted before output (Err NoRoom) =
+    (out : List ℕ) × Wanted out × (output.written ≡ length out) × (length output.bytes < output.written)
+Fills Wanted before output (Err (Build error)) = error ≡ Memory
+Fills Wanted before output (Err NotText) = ⊥
 
 -- the number is that of an outcome that this says of a glob of the expression, or that there is none
 abbrev pub AnswersAs : List ℕ → (GlobView → Result Bool CallError → Type 0) → ℤ → Type 0
@@ -64,14 +77,31 @@ Ends e OfGlob number =
     (outcome : Result (Unit {0}) CallError) × OfExpression e OfGlob outcome × (number ≡ status_number outcome)
 
 -- the number is that of an outcome for the path
-abbrev pub DecidesAs : GlobView → List ℕ → ℤ → Type 0
-DecidesAs g path number =
-    (outcome : Result Bool CallError) × Decides g path outcome × (number ≡ answer_number outcome)
+abbrev pub DecidesAs : (List ℕ → Bool → Type 0) → List ℕ → ℤ → Type 0
+DecidesAs Says path number =
+    (outcome : Result Bool CallError) × Decides Says path outcome × (number ≡ answer_number outcome)
 
--- the output has the lines that the glob matches, or it is as before; and the number is that of this outcome
-abbrev pub FillsAs : GlobView → List ℕ → List ℕ → Output → ℤ → Type 0
-FillsAs g input before output number =
-    (outcome : Result (Unit {0}) CallError) × Fills g input before output outcome
-    × OnErr outcome (output.bytes ≡ before)
+-- after an error the output is as before, and no byte counts as written unless it is too small
+abbrev pub KeepsAfterError : {A : Type 0} → List ℕ → Output → Result A CallError → Type 0
+KeepsAfterError before output outcome =
+    OnErr outcome (output.bytes ≡ before)
     × IfErr outcome (λ error. (error ≡ NoRoom → ⊥) → output.written ≡ 0)
-    × (number ≡ status_number outcome)
+
+-- the output begins with such bytes, or it is as before; and the number is that of this outcome
+abbrev pub FillsAs : (List ℕ → Type 0) → List ℕ → Output → ℤ → Type 0
+FillsAs Wanted before output number =
+    (outcome : Result (Unit {0}) CallError) × Fills Wanted before output outcome
+    × KeepsAfterError before output outcome × (number ≡ status_number outcome)
+
+-- what a call returns of the characters of these bytes, or that they aren't text
+pub data OfText {A : Type 0} (bytes : List ℕ) (OfCharacters : List ℕ → Result A CallError → Type 0)
+    (outcome : Result A CallError) : Type 0 where
+  is_text : IsUtf8 bytes → OfCharacters (chars bytes) outcome → OfText bytes OfCharacters outcome
+  no_text : (IsUtf8 bytes → ⊥) → outcome ≡ Err NotText → OfText bytes OfCharacters outcome
+
+-- so it is, for bytes that are computed of a text
+abbrev pub FillsOfText : List ℕ → (List ℕ → List ℕ → Type 0) → List ℕ → Output → ℤ → Type 0
+FillsOfText text Wanted before output number =
+    (outcome : Result (Unit {0}) CallError)
+    × OfText text (λ characters. Fills (Wanted characters) before output) outcome
+    × KeepsAfterError before output outcome × (number ≡ status_number outcome)

@@ -1,8 +1,9 @@
 //! What calls do, with `Result`s in place of numbers.
 ghost use Rattle.std.specs.Prelude.{◌≡◌, IfErr, IfOk, MatchResult, OnErr};
-ghost use Rattle.wax_c.specs.Outcomes.{AreLines, Decides, Fills, IsGlobOf, IsNoGlob};
+ghost use Rattle.wax_c.specs.Outcomes.{AreLines, Decides, Fills, IsGlobOf, IsNoGlob, SaysGoesOn, SaysMatch};
 
 use crate::error::CallError;
+use crate::output::put;
 use std::alloc::Global;
 use wax::{BuildError, CandidatePath, Counted, Glob, Program, filter_lines};
 
@@ -29,13 +30,30 @@ pub(crate) fn build<'e>(alloc: Global, expression: &'e [u8]) -> Result<Glob<'e>,
 ///
 /// Returns `NotText` (20) if the path isn't UTF-8, and `Build(Memory)` (10) if allocation fails.
 pub(crate) fn decide(alloc: Global, glob: &Glob<'_>, path: &[u8]) -> Result<bool, CallError>
-    ensures { Decides glob.now path.now result }
+    ensures { Decides (SaysMatch glob.now) path.now result }
 {
     let Ok(path) = str::from_utf8(path) else {
         return Err(CallError::NotText);
     };
     match glob.is_match(alloc, &CandidatePath::from(path)) {
         Ok(answer) => Ok(answer),
+        Err(_) => Err(CallError::Build(BuildError::Memory)),
+    }
+}
+
+/// Returns whether the glob matches the path of something below the folder.
+///
+/// # Errors
+///
+/// Returns the errors of `decide`.
+pub(crate) fn decide_below(alloc: Global, glob: &Glob<'_>, folder: &[u8]) -> Result<bool, CallError>
+    ensures { Decides (SaysGoesOn glob.now) folder.now result }
+{
+    let Ok(folder) = str::from_utf8(folder) else {
+        return Err(CallError::NotText);
+    };
+    match glob.goes_on(alloc, &CandidatePath::from(folder)) {
+        Ok(goes_on) => Ok(goes_on),
         Err(_) => Err(CallError::Build(BuildError::Memory)),
     }
 }
@@ -55,20 +73,14 @@ pub(crate) fn fill(
     output: &mut [u8],
     written: &mut usize,
 ) -> Result<(), CallError>
-    ensures fills { Fills glob.now input.now output.old
+    ensures fills { Fills (AreLines glob.now input.now) output.old
         (record { bytes = output.new; written = written.new }) result }
     ensures unchanged { OnErr result (output.new ≡ output.old) }
     ensures nothing { IfErr result (λ error. (error ≡ CallError.NoRoom → ⊥) → written.new ≡ 0) }
 {
     *written = 0;
     let lines = lines_of(alloc, glob, input)?;
-    *written = lines.len();
-    if lines.len() > output.len() {
-        return Err(CallError::NoRoom);
-    }
-    let (room, _) = output.split_at_mut(lines.len());
-    room.copy_from_slice(&lines);
-    Ok(())
+    put(&lines, output, written)
 }
 
 // Collects the lines in memory, so that the output stays unchanged if they don't fit.

@@ -3,10 +3,11 @@ ghost use Rattle.std.specs.Prelude.{◌≡◌, MatchResult, Option};
 ghost use Rattle.wax.specs.GlobView.{GlobView};
 ghost use Rattle.wax_c.specs.GlobHandles.{HasGlob, IsGlobHandle, span_of};
 ghost use Rattle.wax_c.specs.GlobOwned.{glob_at, maybe_glob_at};
-ghost use Rattle.wax_c.specs.Outcomes.{DecidesAs, FillsAs, IsGlobOf, IsNoGlob};
+ghost use Rattle.wax_c.specs.Outcomes.{AreLines, DecidesAs, FillsAs, IsGlobOf, IsNoGlob};
+ghost use Rattle.wax_c.specs.Outcomes.{SaysGoesOn, SaysMatch};
 ghost use types.Logic.{sem};
 
-use crate::calls::{build, decide, fill};
+use crate::calls::{build, decide, decide_below, fill};
 use crate::error::{CallError, answer_of, status_of};
 use crate::handle::{GlobHandle, HeldGlob};
 use crate::loose::Loose;
@@ -60,9 +61,25 @@ pub unsafe extern "C" fn wax_glob_is_match(alloc: Global, glob: *const u8, path:
     ghost held: { GlobView }
     requires* { sem 𝓛 (glob_at alloc glob held) }
     ensures* back { sem 𝓛 (glob_at alloc glob held) }
-    ensures answer { DecidesAs held path.now result }
+    ensures answer { DecidesAs (SaysMatch held) path.now result }
 {
     answer_held(alloc, &*(glob as *const HeldGlob), path)
+}
+
+/// Returns 1 if something below the folder with this path can match, that is, if the glob matches
+/// the path of something below it, and 0 if not. The empty path is the folder where paths begin.
+///
+/// # Errors
+///
+/// Returns -10 if allocation fails, and -20 if the path isn't UTF-8.
+#[unsafe(no_mangle)]
+pub unsafe extern "C" fn wax_glob_goes_on(alloc: Global, glob: *const u8, folder: &[u8]) -> i32
+    ghost held: { GlobView }
+    requires* { sem 𝓛 (glob_at alloc glob held) }
+    ensures* back { sem 𝓛 (glob_at alloc glob held) }
+    ensures answer { DecidesAs (SaysGoesOn held) folder.now result }
+{
+    answer_below(alloc, &*(glob as *const HeldGlob), folder)
 }
 
 /// Writes the lines of the input that the glob matches to the beginning of the output, as
@@ -82,7 +99,7 @@ pub unsafe extern "C" fn wax_glob_filter(
     ghost held: { GlobView }
     requires* { sem 𝓛 (glob_at alloc glob held) }
     ensures* back { sem 𝓛 (glob_at alloc glob held) }
-    ensures fills { FillsAs held input.now output.old
+    ensures fills { FillsAs (AreLines held input.now) output.old
         (record { bytes = output.new; written = written.new }) result }
 {
     fill_held(alloc, &*(glob as *const HeldGlob), input, output, written)
@@ -128,8 +145,8 @@ fn boxed(alloc: Global, expression: &[u8]) -> Result<Box<HeldGlob>, CallError>
     }
 }
 
-// Returns the place of an error in the expression, or 0 bytes at 0 if it has none.
-fn place_of(outcome: &Result<(), CallError>) -> WaxSpan
+/// Returns the place of an error in the expression, or 0 bytes at 0 if it has none.
+pub(crate) fn place_of(outcome: &Result<(), CallError>) -> WaxSpan
     ensures { result ≡ span_of outcome.now }
 {
     if let Err(CallError::Build(error)) = outcome {
@@ -145,9 +162,15 @@ fn place_of(outcome: &Result<(), CallError>) -> WaxSpan
 }
 
 fn answer_held(alloc: Global, held: &HeldGlob, path: &[u8]) -> i32
-    ensures { DecidesAs held.now.glob path.now result }
+    ensures { DecidesAs (SaysMatch held.now.glob) path.now result }
 {
     answer_of(&decide(alloc, &held.glob, path))
+}
+
+fn answer_below(alloc: Global, held: &HeldGlob, folder: &[u8]) -> i32
+    ensures { DecidesAs (SaysGoesOn held.now.glob) folder.now result }
+{
+    answer_of(&decide_below(alloc, &held.glob, folder))
 }
 
 fn fill_held(
@@ -157,7 +180,7 @@ fn fill_held(
     output: &mut [u8],
     written: &mut usize,
 ) -> i32
-    ensures { FillsAs held.now.glob input.now output.old
+    ensures { FillsAs (AreLines held.now.glob input.now) output.old
         (record { bytes = output.new; written = written.new }) result }
 {
     status_of(&fill(alloc, &held.glob, input, output, written))

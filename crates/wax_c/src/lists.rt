@@ -1,17 +1,19 @@
 //! Calls that build, use and free handles of ignore lists.
-ghost use Rattle.std.specs.Prelude.{◌≡◌, MatchResult, Option};
+ghost use Rattle.std.specs.Prelude.{◌≡◌, IfErr, IfOk, MatchResult, Option};
 ghost use Rattle.wax.specs.declared.ignoring.IgnoreList.{IgnoreList};
-ghost use Rattle.wax_c.specs.ListHandles.{HasList, Ignores, IgnoresAs, IsListHandle};
-ghost use Rattle.wax_c.specs.ListHandles.{IsListOfBytes, IsUnlistedAt};
+ghost use Rattle.wax_c.specs.ListHandles.{AreUnignored, HasList, IsListHandle, IsListOfBytes};
+ghost use Rattle.wax_c.specs.ListHandles.{IsUnlistedAt, SaysIgnored, SaysIgnoredBelow};
 ghost use Rattle.wax_c.specs.ListOwned.{list_at, maybe_list_at};
+ghost use Rattle.wax_c.specs.Outcomes.{Decides, DecidesAs, FillsAs};
 ghost use types.Logic.{sem};
 
 use crate::error::{CallError, answer_of, status_of};
 use crate::list_handle::ListHandle;
 use crate::loose::Loose;
+use crate::output::put;
 use std::alloc::Global;
 use wax::walk::{IgnoreError, IgnoreList};
-use wax::{BuildError, CandidatePath};
+use wax::{BuildError, CandidatePath, Counted, filter_unignored};
 
 // The result of a call that builds a handle. `line` is the number of the line with an error, or 0.
 struct ListOpening {
@@ -57,9 +59,59 @@ pub unsafe extern "C" fn wax_ignore_is_ignored(alloc: Global, list: *const u8, p
     ghost held: { IgnoreList }
     requires* { sem 𝓛 (list_at alloc list held) }
     ensures* back { sem 𝓛 (list_at alloc list held) }
-    ensures answer { IgnoresAs held path.now result }
+    ensures answer { DecidesAs (SaysIgnored held) path.now result }
 {
     answer_list(alloc, &mut *(list as *mut IgnoreList), path)
+}
+
+/// Writes the lines of the input that the list doesn't ignore to the beginning of the output, as
+/// `wax_filter` does. The list keeps what it learns from each line for the next ones.
+///
+/// # Errors
+///
+/// Returns -10 and -21 as `wax_filter` does.
+#[unsafe(no_mangle)]
+pub unsafe extern "C" fn wax_ignore_filter(
+    alloc: Global,
+    list: *const u8,
+    input: &[u8],
+    output: &mut [u8],
+    written: &mut usize,
+) -> i32
+    ghost held: { IgnoreList }
+    requires* { sem 𝓛 (list_at alloc list held) }
+    ensures* back { sem 𝓛 (list_at alloc list held) }
+    ensures fills { FillsAs (AreUnignored held input.now) output.old
+        (record { bytes = output.new; written = written.new }) result }
+{
+    fill_unignored(
+        alloc,
+        &mut *(list as *mut IgnoreList),
+        input,
+        output,
+        written,
+    )
+}
+
+/// Returns 1 if the list ignores everything below the folder with this path, so that it needn't be
+/// opened, and 0 if a path below it might not be ignored. If a `/` follows the last name of the path,
+/// no promise is made of what is below.
+///
+/// # Errors
+///
+/// Returns -10 if allocation fails, and -20 if the path isn't UTF-8.
+#[unsafe(no_mangle)]
+pub unsafe extern "C" fn wax_ignore_excludes_below(
+    alloc: Global,
+    list: *const u8,
+    folder: &[u8],
+) -> i32
+    ghost held: { IgnoreList }
+    requires* { sem 𝓛 (list_at alloc list held) }
+    ensures* back { sem 𝓛 (list_at alloc list held) }
+    ensures answer { DecidesAs (SaysIgnoredBelow held) folder.now result }
+{
+    answer_below(alloc, &*(list as *const IgnoreList), folder)
 }
 
 /// Frees what the handle points to. A null handle is ignored.
@@ -110,14 +162,14 @@ fn boxed_list(alloc: Global, text: &[u8]) -> Result<Box<IgnoreList>, (CallError,
 }
 
 fn answer_list(alloc: Global, list: &mut IgnoreList, path: &[u8]) -> i32
-    ensures { IgnoresAs list.old path.now result × (list.new ≡ list.old) }
+    ensures { DecidesAs (SaysIgnored list.old) path.now result × (list.new ≡ list.old) }
 {
     let outcome = is_ignored(alloc, list, path);
     answer_of(&outcome)
 }
 
 fn is_ignored(alloc: Global, list: &mut IgnoreList, path: &[u8]) -> Result<bool, CallError>
-    ensures answer { Ignores list.old path.now result }
+    ensures answer { Decides (SaysIgnored list.old) path.now result }
     ensures same { list.new ≡ list.old }
 {
     let Ok(path) = str::from_utf8(path) else {
@@ -125,6 +177,56 @@ fn is_ignored(alloc: Global, list: &mut IgnoreList, path: &[u8]) -> Result<bool,
     };
     match list.is_ignored_cached(alloc, &CandidatePath::from(path)) {
         Ok(answer) => Ok(answer),
+        Err(_) => Err(CallError::Build(BuildError::Memory)),
+    }
+}
+
+fn fill_unignored(
+    alloc: Global,
+    list: &mut IgnoreList,
+    input: &[u8],
+    output: &mut [u8],
+    written: &mut usize,
+) -> i32
+    ensures { FillsAs (AreUnignored list.old input.now) output.old
+        (record { bytes = output.new; written = written.new }) result × (list.new ≡ list.old) }
+{
+    *written = 0;
+    let outcome = match unignored(alloc, list, input) {
+        Ok(lines) => put(&lines, output, written),
+        Err(error) => Err(error),
+    };
+    status_of(&outcome)
+}
+
+// Collects the lines in memory, so that the output stays unchanged if they don't fit.
+fn unignored(alloc: Global, list: &mut IgnoreList, input: &[u8]) -> Result<Vec<u8>, CallError>
+    ensures ok { IfOk result (λ out. AreUnignored list.old input.now out.items) }
+    ensures err { IfErr result (λ error. error ≡ CallError.Build BuildError.Memory) }
+    ensures same { list.new ≡ list.old }
+{
+    let mut lines = Counted::new(input);
+    let mut kept = Counted::new(Vec::new(alloc));
+    match filter_unignored(alloc, &mut lines, &mut kept, list) {
+        Ok(_) => Ok(kept.into_inner()),
+        Err(_) => Err(CallError::Build(BuildError::Memory)),
+    }
+}
+
+fn answer_below(alloc: Global, list: &IgnoreList, folder: &[u8]) -> i32
+    ensures { DecidesAs (SaysIgnoredBelow list.now) folder.now result }
+{
+    answer_of(&excludes_below(alloc, list, folder))
+}
+
+fn excludes_below(alloc: Global, list: &IgnoreList, folder: &[u8]) -> Result<bool, CallError>
+    ensures { Decides (SaysIgnoredBelow list.now) folder.now result }
+{
+    let Ok(folder) = str::from_utf8(folder) else {
+        return Err(CallError::NotText);
+    };
+    match list.ignores_below(alloc, &CandidatePath::from(folder)) {
+        Ok(ignores) => Ok(ignores),
         Err(_) => Err(CallError::Build(BuildError::Memory)),
     }
 }

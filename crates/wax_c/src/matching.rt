@@ -1,6 +1,7 @@
 //! Calls that take an expression.
 ghost use Rattle.std.specs.Prelude.{◌≡◌, IfErr, OnErr, neg_ℤ, pos};
-ghost use Rattle.wax_c.specs.Outcomes.{AnswersAs, Decides, Ends, Fills, OfExpression};
+ghost use Rattle.wax_c.specs.Outcomes.{AnswersAs, AreLines, Decides, Ends, Fills, OfExpression};
+ghost use Rattle.wax_c.specs.Outcomes.{SaysMatch};
 
 use crate::calls::{build, decide, fill};
 use crate::error::{CallError, answer_of, status_of};
@@ -14,7 +15,7 @@ use std::alloc::Global;
 /// texts isn't UTF-8.
 #[unsafe(no_mangle)]
 pub extern "C" fn wax_is_match(alloc: Global, expression: &[u8], path: &[u8]) -> i32
-    ensures { AnswersAs expression.now (λ glob. Decides glob path.now) result }
+    ensures { AnswersAs expression.now (λ glob. Decides (SaysMatch glob) path.now) result }
 {
     answer_of(&is_match(alloc, expression, path))
 }
@@ -36,7 +37,7 @@ pub extern "C" fn wax_filter(
     output: &mut [u8],
     written: &mut usize,
 ) -> i32
-    ensures fills { Ends expression.now (λ glob. Fills glob input.now output.old
+    ensures fills { Ends expression.now (λ glob. Fills (AreLines glob input.now) output.old
         (record { bytes = output.new; written = written.new })) result }
     ensures unchanged { (result ≡ pos 0 → ⊥) → output.new ≡ output.old }
     ensures nothing { (result ≡ pos 0 → ⊥) → (result ≡ neg_ℤ (pos 21) → ⊥) → written.new ≡ 0 }
@@ -45,7 +46,7 @@ pub extern "C" fn wax_filter(
 }
 
 fn is_match(alloc: Global, expression: &[u8], path: &[u8]) -> Result<bool, CallError>
-    ensures { OfExpression expression.now (λ glob. Decides glob path.now) result }
+    ensures { OfExpression expression.now (λ glob. Decides (SaysMatch glob) path.now) result }
 {
     match build(alloc, expression) {
         Ok(glob) => decide(alloc, &glob, path),
@@ -60,7 +61,7 @@ fn filter(
     output: &mut [u8],
     written: &mut usize,
 ) -> Result<(), CallError>
-    ensures fills { OfExpression expression.now (λ glob. Fills glob input.now output.old
+    ensures fills { OfExpression expression.now (λ glob. Fills (AreLines glob input.now) output.old
         (record { bytes = output.new; written = written.new })) result }
     ensures unchanged { OnErr result (output.new ≡ output.old) }
     ensures nothing { IfErr result (λ error. (error ≡ CallError.NoRoom → ⊥) → written.new ≡ 0) }

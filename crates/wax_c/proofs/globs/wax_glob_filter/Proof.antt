@@ -10,7 +10,7 @@ use Rattle.wax_c.specs.contracts.handle.HeldGlob.{the_row as R}
 use Rattle.wax_c.proofs.handle.HeldGlob.TheLaws.{the_row_laws as R_laws}
 use Rattle.wax_c.specs.contracts.globs.fill_held as of
 use Rattle.wax_c.proofs.globs.fill_held.Met as of_met
-use Rattle.wax_c.specs.Outcomes.{FillsAs}
+use Rattle.wax_c.specs.Outcomes.{AreLines, FillsAs}
 use base.Fraction.{full_share}
 use base.Logic.{id⊢, never, fst∗}
 use base.Fml.{Lft, ftrue, flft, flent, Incl-refl}
@@ -103,7 +103,7 @@ wax_glob_filter_spec 𝓤 𝓛 𝓜 𝓡 wired =
     calls_at ! (framed 𝓤 𝓛.H 𝓜 𝓣) G (of_met.met 𝓤 𝓛 𝓜 𝓡 (code.calls-wax_c::globs::fill_held 𝓡.env wired)) z
     (and_then ! (get ! refl) (and_then ! (get ! refl) (and_then ! (get ! refl) (and_then ! (get ! refl) (and_then ! (get ! refl) (no_more !)))))) (λ v.
     use1 𝓛 (later (some (λ (r : ℤ). ((‵ (flft κ full_share) ⊛ toks) ⊛ ‵ (i32.own_val r (v ∷ []))) ⊛ some (λ (ws : Lasts of.ended z.0.0 z.0.3). ‵ (lasts of.ended z.0.0 z.0.3 ws) ⊛
-    raw (fact 𝓤 (FillsAs g t.now m.now (record { bytes = ws.1.1.1.0; written = ws.1.1.1.1.0 }) r)))))) (id⊢ 𝓤 _) $
+    raw (fact 𝓤 (FillsAs (AreLines g t.now) m.now (record { bytes = ws.1.1.1.0; written = ws.1.1.1.1.0 }) r)))))) (id⊢ 𝓤 _) $
     await ! tt $ pick ! (λ r. split ! $ move ! (1 ∷ []) $ pick ! (λ ws. split ! $ move ! (1 ∷ []) $ heard ! _ (λ told_so.
     -- the output and the count at the end
     fsplit ! $ drop ! $ fsplit ! $ drop ! $ fsplit ! $ drop ! $ fsplit ! $ fsplit ! $ fsplit ! $ move ! (1 ∷ []) $ feq_l ! (λ same. fjoin ! $

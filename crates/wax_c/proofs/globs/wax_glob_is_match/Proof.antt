@@ -9,7 +9,7 @@ use Rattle.wax_c.specs.contracts.handle.HeldGlob.{the_row as R}
 use Rattle.wax_c.proofs.handle.HeldGlob.TheLaws.{the_row_laws as R_laws}
 use Rattle.wax_c.specs.contracts.globs.answer_held as of
 use Rattle.wax_c.proofs.globs.answer_held.Met as of_met
-use Rattle.wax_c.specs.Outcomes.{DecidesAs}
+use Rattle.wax_c.specs.Outcomes.{DecidesAs, SaysMatch}
 use base.Fraction.{full_share}
 use base.Logic.{id⊢, never, fst∗, snd∗, ex_e}
 use base.Fml.{Lft, ftrue, flft, flent, Incl-refl}
@@ -63,7 +63,7 @@ wax_glob_is_match_spec 𝓤 𝓛 𝓜 𝓡 wired =
     f.Key.name code.function (code.unfolded 𝓤 𝓛.H 𝓜 𝓡 wired)
     (λ κs. (told, (rawptr_vals, (shr_slice_vals, tt)))) (λ κs. (heap_laws.the_told.tells, (rawptr_Tells, (shr_slice_Tells (named 0) κs.0 u8, tt)))) (λ κs qs bounds a g are.
     let held : R.Denot = record { glob = g } in let tok = ghosts.dealloc_token a.0 in let t = a.1.1.0 in let κ₀ : Lft = κs.0 in
-    let Answer : ℤ → Type 0 = λ r. DecidesAs g t.now r in
+    let Answer : ℤ → Type 0 = λ r. DecidesAs (SaysMatch g) t.now r in
     let y : Ptr → W.Ghost = λ p. ((κs, qs, bounds, (a.0, (p, (t, tt))), (told a.0, (rawptr_vals p, (shr_slice_vals t, tt)))), g) in
     let toks : Item 𝓤 = ‵ (flft κ₀ qs.0) ⊛ ‵ ftrue in
     qed 𝓛 ((toks ⊛ ‵ (owns (Z ∷ RawPtr ∷ ShrSlice (named 0) κ₀ u8 ∷ []) (a.0, (a.1.0, (t, tt))) (told a.0, (rawptr_vals a.1.0, (shr_slice_vals t, tt))))) ∷ ‵ (box_owns tok R a.1.0 held) ∷ []) ∵

@@ -1,0 +1,55 @@
+-- How calls that capture end.
+use Rattle.std.specs.Prelude.{◌≡◌, ◌<◌, ◌⊎◌, ℕ, ℤ, Bool, true, false, Result, Ok, Err}
+use Rattle.std.specs.Prelude.{List, length, map, IsUtf8, chars, encode_utf8_all}
+use Rattle.std.specs.List.{flat_map}
+use Rattle.wax.specs.GlobView.{GlobView, HasCaptures, IsMeant}
+use Rattle.wax.specs.Language.{Memory}
+use Rattle.wax_c.specs.Numbers.{answer_number}
+use Rattle.wax_c.specs.Outcomes.{HoldsFirst}
+use Rattle.wax_c.specs.declared.error.CallError.{CallError}
+use Rattle.wax_c.specs.declared.error.CallError.TheVariants.{Build, NotText, NoRoom}
+
+-- Texts one after another, and how many bytes each has.
+pub record Texts : Type 0 where
+  pub bytes : List ℕ
+  pub lengths : List ℕ
+
+-- the texts of these captures, each as its characters
+abbrev pub texts_of : List (List ℕ) → Texts
+texts_of captures = record {
+  bytes = flat_map encode_utf8_all captures;
+  lengths = map (λ capture. length (encode_utf8_all capture)) captures;
+}
+
+abbrev pub HoldsTexts : Texts → Texts → Texts → Type 0
+HoldsTexts texts before after =
+    HoldsFirst texts.bytes before.bytes after.bytes × HoldsFirst texts.lengths before.lengths after.lengths
+
+-- there are more bytes or more lengths than fit
+abbrev pub LacksRoom : Texts → Texts → Type 0
+LacksRoom texts room =
+    (length room.bytes < length texts.bytes) ⊎ (length room.lengths < length texts.lengths)
+
+-- the glob matches the path of these bytes, and captures so
+abbrev pub MatchesSo : GlobView → List ℕ → List (List ℕ) → Type 0
+MatchesSo g path captures = IsUtf8 path × IsMeant g (chars path) × HasCaptures g (chars path) captures
+
+-- The outputs have the captures of a path that the glob matches, and the count is their number; or they are
+-- as before.
+abbrev pub Captures : GlobView → List ℕ → Texts → Texts → ℕ → Result Bool CallError → Type 0
+Captures g path before after count (Ok true) =
+    (captures : List (List ℕ)) × MatchesSo g path captures
+    × HoldsTexts (texts_of captures) before after × (count ≡ length captures)
+Captures g path before after count (Ok false) =
+    IsUtf8 path × (IsMeant g (chars path) → ⊥) × (after ≡ before) × (count ≡ 0)
+Captures g path before after count (Err NoRoom) =
+    (captures : List (List ℕ)) × MatchesSo g path captures
+    × LacksRoom (texts_of captures) before × (after ≡ before) × (count ≡ length captures)
+Captures g path before after count (Err NotText) = (IsUtf8 path → ⊥) × (after ≡ before) × (count ≡ 0)
+Captures g path before after count (Err (Build error)) = (error ≡ Memory) × (after ≡ before) × (count ≡ 0)
+
+-- the number is that of such an outcome
+abbrev pub CapturesAs : GlobView → List ℕ → Texts → Texts → ℕ → ℤ → Type 0
+CapturesAs g path before after count number =
+    (outcome : Result Bool CallError) × Captures g path before after count outcome
+    × (number ≡ answer_number outcome)

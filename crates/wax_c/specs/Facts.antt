@@ -1,0 +1,55 @@
+-- What calls return of a glob by itself.
+use Rattle.std.specs.Prelude.{◌≡◌, ◌≤◌, ◌++◌, ◌∷◌, ◌-◌, ◌^◌, ℕ, ℤ, pos, Bool, true, false, List, chars}
+use Rattle.std.specs.Prelude.{Option, Some, None, Result, Ok, Err}
+use Rattle.wax.specs.GlobView.{GlobView, IsMeant}
+use Rattle.wax.specs.Queries.{Always, AtMost, Bare, BeginsWithSlash, Bounds, Depth, Never, Sometimes, Text}
+use Rattle.wax.specs.Queries.{Variant, When, component_total, exhaustive, root}
+use Rattle.wax_c.specs.Numbers.{answer_number}
+use Rattle.wax_c.specs.Outcomes.{Fills, KeepsAfterError, Output}
+use Rattle.wax_c.specs.declared.error.CallError.{CallError}
+use Rattle.wax_c.specs.declared.facts.WaxFacts.{WaxFacts}
+
+-- a bound, or the greatest number of 64 bits if there is none
+abbrev pub bound_or_greatest : Option ℕ → ℕ
+bound_or_greatest None = 2 ^ 64 - 1
+bound_or_greatest (Some bound) = bound
+
+-- 2 for all matches, 1 for some, 0 for none
+abbrev pub when_number : When → ℤ
+when_number Always = pos 2
+when_number Sometimes = pos 1
+when_number Never = pos 0
+
+-- What is known of all paths that the glob matches.
+pub record AreFacts (g : GlobView) (facts : WaxFacts) : Type 0 where
+  pub depth : Bounds
+  pub depth_is : Depth g.tree depth
+  pub least : facts.least_depth ≡ depth.0
+  pub greatest : facts.greatest_depth ≡ bound_or_greatest depth.1
+  pub root_is : facts.has_root ≡ when_number (root g.tree)
+  pub exhaustive_is : facts.is_exhaustive ≡ when_number (exhaustive g.tree)
+  -- a match has no more components than the greatest depth, and no fewer than the least, unless it is empty
+  -- or has a `/` at an end
+  pub no_more : (path : List ℕ) → IsMeant g path → AtMost (component_total path) depth.1
+  pub no_fewer : (path : List ℕ) → IsMeant g path → Bare path → depth.0 ≤ component_total path
+  pub rooted : root g.tree ≡ Always → (path : List ℕ) → IsMeant g path → BeginsWithSlash path
+  pub below : exhaustive g.tree ≡ Always → (path name : List ℕ) → IsMeant g path
+      → IsMeant g (path ++ 47 ∷ name)
+
+-- The bytes of the only text that the glob matches, as its tokens show.
+pub record IsOnlyText (g : GlobView) (bytes : List ℕ) : Type 0 where
+  pub shown : Text g.tree (chars bytes)
+  pub only : (path : List ℕ) → IsMeant g path → path ≡ chars bytes
+
+-- the output has that text; or there is none, and the output is as before
+abbrev pub HasText : GlobView → List ℕ → Output → Result Bool CallError → Type 0
+HasText g before output (Ok true) = Fills (IsOnlyText g) before output (Ok tt)
+HasText g before output (Ok false) =
+    Variant g.tree × (output.bytes ≡ before) × (output.written ≡ 0)
+HasText g before output (Err error) = Fills (IsOnlyText g) before output (Err error)
+
+-- the number is that of such an outcome
+abbrev pub HasTextAs : GlobView → List ℕ → Output → ℤ → Type 0
+HasTextAs g before output number =
+    (outcome : Result Bool CallError) × HasText g before output outcome
+    × KeepsAfterError before output outcome × (number ≡ answer_number outcome)

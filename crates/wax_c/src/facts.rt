@@ -1,0 +1,127 @@
+//! What is known of all paths that a glob matches.
+ghost use Rattle.std.specs.Prelude.{◌≡◌, pos};
+ghost use Rattle.wax.specs.GlobView.{GlobView};
+ghost use Rattle.wax_c.specs.Facts.{AreFacts, HasText, HasTextAs, bound_or_greatest, when_number};
+ghost use Rattle.wax_c.specs.GlobOwned.{glob_at};
+ghost use Rattle.wax_c.specs.Outcomes.{KeepsAfterError};
+ghost use types.Logic.{sem};
+
+use crate::error::{CallError, answer_of};
+use crate::handle::HeldGlob;
+use crate::output::put;
+use std::alloc::Global;
+use wax::query::{Variance, When};
+use wax::{BuildError, Glob, Program};
+
+/// What is known of all paths that a glob matches.
+#[repr(C)]
+#[derive(Clone, Copy)]
+pub struct WaxFacts {
+    /// The least number of components of a path that matches.
+    pub least_depth: usize,
+    /// The greatest number of components, or `usize::MAX` if there is none.
+    pub greatest_depth: usize,
+    /// 2 if each match begins with `/`, 0 if none does, and 1 otherwise.
+    pub has_root: i32,
+    /// 2 if everything below each match matches, 0 if this is so of none, and 1 otherwise.
+    pub is_exhaustive: i32,
+}
+
+/// Writes what is known of all paths that the glob matches to `facts`. Returns 0. It doesn't allocate.
+#[unsafe(no_mangle)]
+pub unsafe extern "C" fn wax_glob_facts(alloc: Global, glob: *const u8, facts: &mut WaxFacts) -> i32
+    ghost held: { GlobView }
+    requires* { sem 𝓛 (glob_at alloc glob held) }
+    ensures* back { sem 𝓛 (glob_at alloc glob held) }
+    ensures facts { AreFacts held facts.new × (result ≡ pos 0) }
+{
+    facts_held(alloc, &*(glob as *const HeldGlob), facts)
+}
+
+/// Writes the only text that the glob matches to the beginning of the output, and the number of its
+/// bytes to `written`. Returns 1, or 0 if the expression isn't written as one text; `written` is 0 then,
+/// and the output is unchanged.
+///
+/// # Errors
+///
+/// Returns -10 if allocation fails; `written` is 0 then. Returns -21 if the output is too small;
+/// `written` is how many bytes are needed then. The output is unchanged in both cases.
+#[unsafe(no_mangle)]
+pub unsafe extern "C" fn wax_glob_text(
+    alloc: Global,
+    glob: *const u8,
+    output: &mut [u8],
+    written: &mut usize,
+) -> i32
+    ghost held: { GlobView }
+    requires* { sem 𝓛 (glob_at alloc glob held) }
+    ensures* back { sem 𝓛 (glob_at alloc glob held) }
+    ensures text { HasTextAs held output.old (record { bytes = output.new; written = written.new }) result }
+{
+    text_held(alloc, &*(glob as *const HeldGlob), output, written)
+}
+
+fn facts_held(_alloc: Global, held: &HeldGlob, facts: &mut WaxFacts) -> i32
+    ensures { AreFacts held.now.glob facts.new × (result ≡ pos 0) }
+{
+    *facts = facts_of(&held.glob);
+    0
+}
+
+fn facts_of(glob: &Glob<'_>) -> WaxFacts
+    ensures { AreFacts glob.now result }
+{
+    let depth = glob.depth();
+    WaxFacts {
+        least_depth: depth.lower(),
+        greatest_depth: or_greatest(depth.upper()),
+        has_root: number_of_when(glob.has_root()),
+        is_exhaustive: number_of_when(glob.is_exhaustive()),
+    }
+}
+
+fn or_greatest(bound: Option<usize>) -> usize
+    ensures { result ≡ bound_or_greatest bound }
+{
+    bound.unwrap_or(usize::MAX)
+}
+
+fn number_of_when(when: When) -> i32
+    ensures { result ≡ when_number when }
+{
+    match when {
+        When::Never => 0,
+        When::Sometimes => 1,
+        When::Always => 2,
+    }
+}
+
+fn text_held(alloc: Global, held: &HeldGlob, output: &mut [u8], written: &mut usize) -> i32
+    ensures { HasTextAs held.now.glob output.old
+        (record { bytes = output.new; written = written.new }) result }
+{
+    answer_of(&write_text(alloc, &held.glob, output, written))
+}
+
+fn write_text(
+    alloc: Global,
+    glob: &Glob<'_>,
+    output: &mut [u8],
+    written: &mut usize,
+) -> Result<bool, CallError>
+    ensures text { HasText glob.now output.old
+        (record { bytes = output.new; written = written.new }) result }
+    ensures kept { KeepsAfterError output.old (record { bytes = output.new; written = written.new }) result }
+{
+    *written = 0;
+    let Ok(text) = glob.text(alloc) else {
+        return Err(CallError::Build(BuildError::Memory));
+    };
+    let Variance::Invariant(text) = text else {
+        return Ok(false);
+    };
+    match put(text.as_str().as_bytes(), output, written) {
+        Ok(()) => Ok(true),
+        Err(error) => Err(error),
+    }
+}

@@ -1,0 +1,33 @@
+//! Writing to the outputs of a caller.
+ghost use Rattle.std.specs.Prelude.{◌≡◌, ◌≤◌, ◌++◌, IfErr, OnErr, drop, length};
+ghost use Rattle.wax_c.specs.Outcomes.{Fills};
+
+use crate::error::CallError;
+
+/// Writes the bytes to the beginning of the output, and their number to `written`.
+///
+/// # Errors
+///
+/// Returns `NoRoom` (21) if the output is too small; it is unchanged then.
+pub(crate) fn put(bytes: &[u8], output: &mut [u8], written: &mut usize) -> Result<(), CallError>
+    ensures fills { Fills (λ out. out ≡ bytes.now) output.old
+        (record { bytes = output.new; written = written.new }) result }
+    ensures unchanged { OnErr result (output.new ≡ output.old) }
+    ensures error { IfErr result (λ error. error ≡ CallError.NoRoom) }
+{
+    *written = bytes.len();
+    if bytes.len() > output.len() {
+        return Err(CallError::NoRoom);
+    }
+    write_over(bytes, output);
+    Ok(())
+}
+
+/// Writes the items to the beginning of the output, which goes on as before.
+pub(crate) fn write_over<T: Copy>(items: &[T], output: &mut [T])
+    requires { length items.now ≤ length output.old }
+    ensures { output.new ≡ items.now ++ drop (length items.now) output.old }
+{
+    let (room, _) = output.split_at_mut(items.len());
+    room.copy_from_slice(items);
+}
