@@ -114,9 +114,9 @@ void wax_glob_free(wax_glob *glob);
 typedef struct wax_set wax_set;
 
 /* Builds a set from expressions, and writes its handle to `out`. The expressions are one after another in `patterns`, and
- * `lengths` has the number of bytes of each. After an error the handle is null. If it is due to an expression, `which` is
- * the index of the first such expression and `span` is as for wax_glob_new; otherwise `which` is `count`. The error 9 with
- * `which` equal to `count` means that the set is too large. */
+ * `lengths` has the number of bytes of each. After an error the handle is null. If an expression has an error, `which` is
+ * the index of the first one that has, and `span` is as for wax_glob_new; otherwise `which` is `count`, even if the set is
+ * too large (9). After the error 10, `which` may be either. */
 int32_t wax_set_new(const char *patterns, size_t patterns_length, const size_t *lengths, size_t count, wax_set **out,
                     size_t *which, wax_span *span);
 

@@ -30,20 +30,20 @@ abbrev pub LacksRoom : Texts → Texts → Type 0
 LacksRoom texts room =
     (length room.bytes < length texts.bytes) ⊎ (length room.lengths < length texts.lengths)
 
--- the glob matches the path of these bytes, and captures so
-abbrev pub MatchesSo : GlobView → List ℕ → List (List ℕ) → Type 0
-MatchesSo g path captures = IsUtf8 path × IsMeant g (chars path) × HasCaptures g (chars path) captures
+-- the glob matches the path of these bytes, with these captures
+abbrev pub MatchesWith : GlobView → List ℕ → List (List ℕ) → Type 0
+MatchesWith g path captures = IsUtf8 path × IsMeant g (chars path) × HasCaptures g (chars path) captures
 
 -- The outputs have the captures of a path that the glob matches, and the count is their number; or they are
 -- as before.
 abbrev pub Captures : GlobView → List ℕ → Texts → Texts → ℕ → Result Bool CallError → Type 0
 Captures g path before after count (Ok true) =
-    (captures : List (List ℕ)) × MatchesSo g path captures
+    (captures : List (List ℕ)) × MatchesWith g path captures
     × HoldsTexts (texts_of captures) before after × (count ≡ length captures)
 Captures g path before after count (Ok false) =
     IsUtf8 path × (IsMeant g (chars path) → ⊥) × (after ≡ before) × (count ≡ 0)
 Captures g path before after count (Err NoRoom) =
-    (captures : List (List ℕ)) × MatchesSo g path captures
+    (captures : List (List ℕ)) × MatchesWith g path captures
     × LacksRoom (texts_of captures) before × (after ≡ before) × (count ≡ length captures)
 Captures g path before after count (Err NotText) = (IsUtf8 path → ⊥) × (after ≡ before) × (count ≡ 0)
 Captures g path before after count (Err (Build error)) = (error ≡ Memory) × (after ≡ before) × (count ≡ 0)

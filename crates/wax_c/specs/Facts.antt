@@ -14,7 +14,7 @@ abbrev pub bound_or_greatest : Option ℕ → ℕ
 bound_or_greatest None = 2 ^ 64 - 1
 bound_or_greatest (Some bound) = bound
 
--- 2 for all matches, 1 for some, 0 for none
+-- always, sometimes or never, as a number
 abbrev pub when_number : When → ℤ
 when_number Always = pos 2
 when_number Sometimes = pos 1

@@ -21,8 +21,8 @@ IsNoGlob e (Build error) = IsUtf8 e × MatchGlob (chars e) (Err error)
 IsNoGlob e NotText = IsUtf8 e → ⊥
 IsNoGlob e NoRoom = ⊥
 
--- the answer for the path of these bytes, of which this says what it means; nothing is said if an allocation
--- fails
+-- a call decides about the path of these bytes: `Says` relates the path to the answer; nothing is said if an
+-- allocation fails
 abbrev pub Decides : (List ℕ → Bool → Type 0) → List ℕ → Result Bool CallError → Type 0
 Decides Says path (Ok answer) = IsUtf8 path × Says (chars path) answer
 Decides Says path (Err (Build error)) = error ≡ Memory
@@ -99,7 +99,7 @@ pub data OfText {A : Type 0} (bytes : List ℕ) (OfCharacters : List ℕ → Res
   is_text : IsUtf8 bytes → OfCharacters (chars bytes) outcome → OfText bytes OfCharacters outcome
   no_text : (IsUtf8 bytes → ⊥) → outcome ≡ Err NotText → OfText bytes OfCharacters outcome
 
--- so it is, for bytes that are computed of a text
+-- the same for bytes that are computed of the characters of a text
 abbrev pub FillsOfText : List ℕ → (List ℕ → List ℕ → Type 0) → List ℕ → Output → ℤ → Type 0
 FillsOfText text Wanted before output number =
     (outcome : Result (Unit {0}) CallError)

@@ -82,28 +82,28 @@ fn capture(
     let Some(matched) = matched else {
         return Ok(false);
     };
-    let Ok(parts) = parts_of(alloc, &matched) else {
+    let Ok(found) = collect(alloc, &matched) else {
         return Err(CallError::Build(BuildError::Memory));
     };
-    *count = parts.lengths.len();
-    if parts.texts.len() > texts.len() || parts.lengths.len() > lengths.len() {
+    *count = found.lengths.len();
+    if found.texts.len() > texts.len() || found.lengths.len() > lengths.len() {
         return Err(CallError::NoRoom);
     }
-    write_over(&parts.texts, texts);
-    write_over(&parts.lengths, lengths);
+    write_over(&found.texts, texts);
+    write_over(&found.lengths, lengths);
     Ok(true)
 }
 
-// The captures of a match, one after another, and how many bytes each has.
+// The texts of captures, one after another, and how many bytes each has.
 #[derive(Drop)]
-struct Parts {
+struct Collected {
     texts: Vec<u8>,
     lengths: Vec<usize>,
 }
 
-fn parts_of(alloc: Global, matched: &MatchedText<'_>) -> Result<Parts, AllocError>
-    ensures { IfOk result (λ parts. texts_of matched.now.captures
-        ≡ record { bytes = parts.texts.items; lengths = parts.lengths.items }) }
+fn collect(alloc: Global, matched: &MatchedText<'_>) -> Result<Collected, AllocError>
+    ensures { IfOk result (λ found. texts_of matched.now.captures
+        ≡ record { bytes = found.texts.items; lengths = found.lengths.items }) }
 {
     let mut texts = Vec::new(alloc);
     let mut lengths = Vec::new(alloc);
@@ -111,5 +111,5 @@ fn parts_of(alloc: Global, matched: &MatchedText<'_>) -> Result<Parts, AllocErro
         texts.extend_from_slice(part.as_bytes())?;
         lengths.push(part.len())?;
     }
-    Ok(Parts { texts, lengths })
+    Ok(Collected { texts, lengths })
 }

@@ -17,13 +17,13 @@ use wax::{BuildError, Glob, Program};
 #[repr(C)]
 #[derive(Clone, Copy)]
 pub struct WaxFacts {
-    /// The least number of components of a path that matches.
+    /// The least number of components of a match, where `*`, `$` and a class are one character.
     pub least_depth: usize,
-    /// The greatest number of components, or `usize::MAX` if there is none.
+    /// The greatest number of components, or `usize::MAX` if there is no greatest.
     pub greatest_depth: usize,
-    /// 2 if each match begins with `/`, 0 if none does, and 1 otherwise.
+    /// 2 if each match begins with `/`; 1 and 0 promise nothing.
     pub has_root: i32,
-    /// 2 if everything below each match matches, 0 if this is so of none, and 1 otherwise.
+    /// 2 if everything below each match matches too; 1 and 0 promise nothing.
     pub is_exhaustive: i32,
 }
 

@@ -31,9 +31,10 @@ struct SetOpening {
 ///
 /// # Errors
 ///
-/// Returns the errors of `wax_glob_new` for the first expression that has one; `which` is its index
-/// and `span` the place in it then. Otherwise `which` is the number of expressions. Returns -9 if the
-/// set is too large, and -10 if allocation fails. The handle is null in all these cases.
+/// Returns the error of `wax_glob_new` for the first expression that has one; `which` is its index and
+/// `span` the place in it then. If no expression has an error, `which` is the number of expressions.
+/// Returns -9 if the set is too large, and -10 if allocation fails. The handle is null in all these
+/// cases.
 #[unsafe(no_mangle)]
 pub extern "C" fn wax_set_new(
     alloc: Global,

@@ -1,7 +1,7 @@
 use Rattle.std.proofs.Common.{◌≡◌, ◌+◌, ◌∷◌, ◌++◌, [], Some, None, slice_get, chars, length, ap, sym, ◌∙◌, subst, arith}
 use Rattle.wax.specs.Matching.{texts}
 use Rattle.wax_c.proofs.Collected.{collected_all, collected_next}
-use Rattle.wax_c.proofs.captures.parts_of.Goals as goal
+use Rattle.wax_c.proofs.captures.collect.Goals as goal
 
 pub loop-part-preserved : goal.loop-part-preserved
 loop-part-preserved c =

@@ -1,6 +1,6 @@
 use Rattle.std.proofs.Common.{◌≡◌, ◌-◌, length, take}
 use Rattle.wax_c.specs.Captures.{texts_of}
-use Rattle.wax_c.proofs.captures.parts_of.Given as goal
+use Rattle.wax_c.proofs.captures.collect.Given as goal
 
 -- the captures before this one were collected
 abbrev pub invariant-loop-part : goal.invariant-loop-part
