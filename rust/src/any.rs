@@ -1,0 +1,114 @@
+//! Sets of patterns.
+
+use std::convert::Infallible;
+use std::fmt::{self, Debug, Formatter};
+use std::sync::Arc;
+
+use crate::query::{depth_between, DepthVariance, TextVariance, When, NO_GREATEST};
+use crate::sys::{self, Handle};
+use crate::{BuildError, CandidatePath, Glob, MatchedText, Pattern, Program};
+
+/// A set of patterns, built by [`any`]. It matches a path if one of them does.
+#[derive(Clone)]
+pub struct Any<'t> {
+    globs: Vec<Glob<'t>>,
+    /// the set of those that have an expression
+    set: Arc<Handle<sys::Set>>,
+}
+
+/// Builds a set of expressions, of globs, of sets, or of results of building these.
+///
+/// ```
+/// use wax::{any, Program};
+///
+/// let pictures = any(["**/*.png", "**/*.{jpg,jpeg}"]).unwrap();
+/// assert!(pictures.is_match("a/logo.jpeg"));
+/// assert!(!pictures.is_match("a/logo.svg"));
+/// ```
+///
+/// # Errors
+///
+/// Returns the error of the first pattern that has one, or that the set is too large.
+pub fn any<'t, I>(patterns: I) -> Result<Any<'t>, BuildError>
+where
+    I: IntoIterator,
+    I::Item: Pattern<'t>,
+{
+    let mut globs = Vec::new();
+    for pattern in patterns {
+        globs.extend(pattern.into_globs().map_err(Into::into)?);
+    }
+    let expressions: Vec<_> = globs.iter().filter_map(Glob::whole_expression).collect();
+    let set = Handle::<sys::Set>::new(&expressions).map_err(BuildError::without_place)?;
+    Ok(Any {
+        globs,
+        set: Arc::new(set),
+    })
+}
+
+impl Debug for Any<'_> {
+    fn fmt(&self, f: &mut Formatter<'_>) -> fmt::Result {
+        f.debug_tuple("Any").field(&self.globs).finish()
+    }
+}
+
+impl<'t> Pattern<'t> for Any<'t> {
+    type Error = Infallible;
+
+    fn into_globs(self) -> Result<Vec<Glob<'t>>, Infallible> {
+        Ok(self.globs)
+    }
+}
+
+impl<'t> Program<'t> for Any<'t> {
+    fn is_match<'p>(&self, path: impl Into<CandidatePath<'p>>) -> bool {
+        let path = path.into();
+        let mut rests = self
+            .globs
+            .iter()
+            .filter(|glob| glob.whole_expression().is_none());
+        self.set.is_match(path.as_ref()) || rests.any(|glob| glob.is_match(path.as_ref()))
+    }
+
+    /// Returns the match. The whole set is its only capture.
+    fn matched<'p>(&self, path: &'p CandidatePath<'_>) -> Option<MatchedText<'p>> {
+        let path = path.as_ref();
+        self.is_match(path)
+            .then(|| MatchedText::new(path, path.to_string(), vec![path.len()]))
+    }
+
+    fn depth(&self) -> DepthVariance {
+        let ends = self.globs.iter().map(|glob| match glob.depth() {
+            DepthVariance::Invariant(depth) => (depth, depth),
+            DepthVariance::Variant(range) => (
+                range.lower().bounded().map_or(0, Into::into),
+                range.upper().bounded().map_or(NO_GREATEST, Into::into),
+            ),
+        });
+        let (least, greatest) = ends
+            .reduce(|a, b| (a.0.min(b.0), a.1.max(b.1)))
+            .unwrap_or((0, 0));
+        depth_between(least, greatest)
+    }
+
+    fn text(&self) -> TextVariance<'t> {
+        let mut texts = self.globs.iter().map(Glob::text);
+        match texts.next() {
+            Some(first) if texts.all(|text| text == first) => first,
+            _ => TextVariance::Variant(()),
+        }
+    }
+
+    fn has_root(&self) -> When {
+        of_all(self.globs.iter().map(Glob::has_root))
+    }
+
+    fn is_exhaustive(&self) -> When {
+        of_all(self.globs.iter().map(Glob::is_exhaustive))
+    }
+}
+
+/// Returns what holds of all patterns, or `Sometimes` if they differ.
+fn of_all(patterns: impl Iterator<Item = When>) -> When {
+    patterns.reduce(When::certainty).unwrap_or(When::Never)
+}

@@ -1,0 +1,186 @@
+//! Globs.
+
+use std::borrow::Cow;
+use std::convert::Infallible;
+use std::fmt::{self, Debug, Display, Formatter};
+use std::path::PathBuf;
+use std::str::FromStr;
+use std::sync::Arc;
+
+use crate::query::{depth_between, DepthVariance, TextVariance, When};
+use crate::sys::{self, Handle};
+use crate::{BuildError, CandidatePath, MatchedText, Pattern, Program};
+
+/// A glob: build it once, to match many paths.
+///
+/// A clone uses the same handle of the C library. Threads may share a glob, but match one after another by it; if they
+/// are to match at the same time, build a glob for each.
+///
+/// ```
+/// use std::path::Path;
+/// use wax::{Glob, Program};
+///
+/// let glob = Glob::new("src/**/*.{c,rs}").unwrap();
+/// assert!(glob.is_match("src/net/tcp.c"));
+/// assert!(!glob.is_match(Path::new("README.md")));
+/// ```
+#[derive(Clone)]
+pub struct Glob<'t> {
+    expression: Cow<'t, str>,
+    /// whether this is the rest of a partition, and not the whole expression
+    is_rest: bool,
+    handle: Arc<Handle<sys::Glob>>,
+}
+
+impl<'t> Glob<'t> {
+    /// Builds a glob.
+    ///
+    /// # Errors
+    ///
+    /// Returns an error if the expression can't be parsed, breaks a rule, or is too large.
+    pub fn new(expression: &'t str) -> Result<Self, BuildError> {
+        let handle = Handle::<sys::Glob>::new(expression)
+            .map_err(|failure| BuildError::of_expression(expression, &failure))?;
+        Ok(Glob {
+            expression: expression.into(),
+            is_rest: false,
+            handle: Arc::new(handle),
+        })
+    }
+
+    /// Returns the glob that matches only the empty path.
+    pub fn empty() -> Self {
+        Glob::new("").expect("the empty expression has no error")
+    }
+
+    /// Returns the glob that matches every path.
+    pub fn tree() -> Self {
+        Glob::new("**").expect("`**` has no error")
+    }
+
+    /// Splits the glob into the prefix with which every match begins, and a glob that matches what comes after it. The second
+    /// is `None` if the prefix is the only match.
+    ///
+    /// The rest prints the whole expression, too.
+    ///
+    /// ```
+    /// use std::path::Path;
+    /// use wax::{Glob, Program};
+    ///
+    /// let (prefix, rest) = Glob::new("src/net/*.rs").unwrap().partition();
+    /// assert_eq!(prefix, Path::new("src/net/"));
+    /// assert!(rest.unwrap().is_match("tcp.rs"));
+    /// ```
+    pub fn partition(self) -> (PathBuf, Option<Self>) {
+        let (prefix, rest) = self.handle.partition();
+        let rest = rest.map(|handle| Glob {
+            is_rest: true,
+            handle: Arc::new(handle),
+            ..self
+        });
+        (prefix.into(), rest)
+    }
+
+    /// Splits the glob as [`partition`](Self::partition) does, with the empty glob if there is no rest.
+    pub fn partition_or_empty(self) -> (PathBuf, Self) {
+        let (prefix, rest) = self.partition();
+        (prefix, rest.unwrap_or_else(Glob::empty))
+    }
+
+    /// Splits the glob as [`partition`](Self::partition) does, with the glob `**` if there is no rest.
+    pub fn partition_or_tree(self) -> (PathBuf, Self) {
+        let (prefix, rest) = self.partition();
+        (prefix, rest.unwrap_or_else(Glob::tree))
+    }
+
+    /// Returns the glob with an expression of its own.
+    pub fn into_owned(self) -> Glob<'static> {
+        Glob {
+            expression: Cow::Owned(self.expression.into_owned()),
+            is_rest: self.is_rest,
+            handle: self.handle,
+        }
+    }
+
+    /// Returns the expression, unless the glob is the rest of another.
+    pub(crate) fn whole_expression(&self) -> Option<&str> {
+        (!self.is_rest).then_some(&*self.expression)
+    }
+}
+
+impl Debug for Glob<'_> {
+    fn fmt(&self, f: &mut Formatter<'_>) -> fmt::Result {
+        f.debug_tuple("Glob").field(&self.expression).finish()
+    }
+}
+
+impl Display for Glob<'_> {
+    fn fmt(&self, f: &mut Formatter<'_>) -> fmt::Result {
+        f.write_str(&self.expression)
+    }
+}
+
+impl FromStr for Glob<'static> {
+    type Err = BuildError;
+
+    fn from_str(expression: &str) -> Result<Self, BuildError> {
+        Glob::new(expression).map(Glob::into_owned)
+    }
+}
+
+impl<'t> TryFrom<&'t str> for Glob<'t> {
+    type Error = BuildError;
+
+    fn try_from(expression: &'t str) -> Result<Self, BuildError> {
+        Glob::new(expression)
+    }
+}
+
+impl<'t> Pattern<'t> for Glob<'t> {
+    type Error = Infallible;
+
+    fn into_globs(self) -> Result<Vec<Glob<'t>>, Infallible> {
+        Ok(vec![self])
+    }
+}
+
+impl<'t> Program<'t> for Glob<'t> {
+    fn is_match<'p>(&self, path: impl Into<CandidatePath<'p>>) -> bool {
+        self.handle.is_match(path.into().as_ref())
+    }
+
+    fn matched<'p>(&self, path: &'p CandidatePath<'_>) -> Option<MatchedText<'p>> {
+        let path = path.as_ref();
+        let (captured, lengths) = self.handle.captures(path)?;
+        Some(MatchedText::new(path, captured, lengths))
+    }
+
+    fn depth(&self) -> DepthVariance {
+        let facts = self.handle.facts();
+        depth_between(facts.least_depth, facts.greatest_depth)
+    }
+
+    fn text(&self) -> TextVariance<'t> {
+        match self.handle.text() {
+            Some(text) => TextVariance::Invariant(text.into()),
+            None => TextVariance::Variant(()),
+        }
+    }
+
+    fn has_root(&self) -> When {
+        when(self.handle.facts().has_root)
+    }
+
+    fn is_exhaustive(&self) -> When {
+        when(self.handle.facts().is_exhaustive)
+    }
+}
+
+/// Converts a number of `wax_facts`.
+fn when(number: i32) -> When {
+    match number {
+        2 => When::Always,
+        1 => When::Sometimes,
+        _ => When::Never,
+    }
+}

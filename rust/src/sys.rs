@@ -1,0 +1,322 @@
+//! The C library: its declarations, and safe calls of these. All code that is `unsafe` is here.
+
+use std::ptr::{self, NonNull};
+use std::sync::{Mutex, PoisonError};
+
+use crate::query::Span;
+
+/// The C types of handles, and the functions of the header that this crate calls.
+mod c {
+    #[repr(C)]
+    pub struct Glob {
+        _private: [u8; 0],
+    }
+
+    #[repr(C)]
+    pub struct Set {
+        _private: [u8; 0],
+    }
+
+    #[repr(C)]
+    #[derive(Clone, Copy, Default)]
+    pub struct Span {
+        pub start: usize,
+        pub length: usize,
+    }
+
+    #[repr(C)]
+    #[derive(Default)]
+    pub struct Facts {
+        pub least_depth: usize,
+        pub greatest_depth: usize,
+        pub has_root: i32,
+        pub is_exhaustive: i32,
+    }
+
+    extern "C" {
+        pub fn wax_escape(
+            text: *const u8,
+            length: usize,
+            output: *mut u8,
+            room: usize,
+            written: *mut usize,
+        ) -> i32;
+        pub fn wax_picture(
+            text: *const u8,
+            length: usize,
+            output: *mut u8,
+            room: usize,
+            written: *mut usize,
+        ) -> i32;
+
+        pub fn wax_glob_new(
+            text: *const u8,
+            length: usize,
+            out: *mut *mut Glob,
+            span: *mut Span,
+        ) -> i32;
+        pub fn wax_glob_is_match(glob: *const Glob, path: *const u8, length: usize) -> i32;
+        pub fn wax_glob_captures(
+            glob: *const Glob,
+            path: *const u8,
+            length: usize,
+            texts: *mut u8,
+            texts_room: usize,
+            lengths: *mut usize,
+            lengths_room: usize,
+            count: *mut usize,
+        ) -> i32;
+        pub fn wax_glob_facts(glob: *const Glob, facts: *mut Facts) -> i32;
+        pub fn wax_glob_text(
+            glob: *const Glob,
+            output: *mut u8,
+            room: usize,
+            written: *mut usize,
+        ) -> i32;
+        pub fn wax_glob_partition(
+            glob: *const Glob,
+            prefix: *mut u8,
+            room: usize,
+            written: *mut usize,
+            rest: *mut *mut Glob,
+        ) -> i32;
+        pub fn wax_glob_free(glob: *mut Glob);
+
+        pub fn wax_set_new(
+            patterns: *const u8,
+            patterns_length: usize,
+            lengths: *const usize,
+            count: usize,
+            out: *mut *mut Set,
+            which: *mut usize,
+            span: *mut Span,
+        ) -> i32;
+        pub fn wax_set_is_match(set: *const Set, path: *const u8, length: usize) -> i32;
+        pub fn wax_set_free(set: *mut Set);
+    }
+}
+
+pub use c::{Facts, Glob, Set};
+
+const NO_ROOM: i32 = -21;
+
+/// Why an expression isn't built: the number of the error, and its place.
+pub struct Failure {
+    pub number: i32,
+    pub span: Span,
+}
+
+/// A type of handles.
+pub trait Free {
+    /// Frees a handle.
+    ///
+    /// # Safety
+    ///
+    /// The function for this type made the handle, and nothing uses it from now on.
+    unsafe fn free(handle: *mut Self);
+}
+
+impl Free for Glob {
+    unsafe fn free(handle: *mut Self) {
+        // SAFETY: the caller passes a handle that may be freed.
+        unsafe { c::wax_glob_free(handle) }
+    }
+}
+
+impl Free for Set {
+    unsafe fn free(handle: *mut Self) {
+        // SAFETY: the caller passes a handle that may be freed.
+        unsafe { c::wax_set_free(handle) }
+    }
+}
+
+struct Pointer<T: Free>(NonNull<T>);
+
+// SAFETY: a handle owns only memory of the heap, which any thread may use and free.
+unsafe impl<T: Free> Send for Pointer<T> {}
+
+impl<T: Free> Drop for Pointer<T> {
+    fn drop(&mut self) {
+        // SAFETY: the library made the handle, only this value has it, and it isn't used again.
+        unsafe { T::free(self.0.as_ptr()) }
+    }
+}
+
+/// A handle that this value owns. Since only one call at a time may use it, each call takes the lock.
+pub struct Handle<T: Free>(Mutex<Pointer<T>>);
+
+impl<T: Free> Handle<T> {
+    /// Returns a handle that the library wrote, or `None` if that is null.
+    fn from_library(handle: *mut T) -> Option<Self> {
+        NonNull::new(handle).map(|it| Handle(Mutex::new(Pointer(it))))
+    }
+
+    /// Calls a function of the library while no other call uses the handle.
+    fn with<R>(&self, call: impl FnOnce(*const T) -> R) -> R {
+        let locked = self.0.lock().unwrap_or_else(PoisonError::into_inner);
+        call(locked.0.as_ptr())
+    }
+}
+
+impl Handle<Glob> {
+    /// Builds a glob.
+    pub fn new(expression: &str) -> Result<Self, Failure> {
+        let mut handle = ptr::null_mut();
+        let mut span = c::Span::default();
+        // SAFETY: the text has this length, and the call may write to both variables.
+        let status = unsafe {
+            c::wax_glob_new(
+                expression.as_ptr(),
+                expression.len(),
+                &mut handle,
+                &mut span,
+            )
+        };
+        Handle::from_library(handle).ok_or(Failure {
+            number: -status,
+            span: (span.start, span.length),
+        })
+    }
+
+    pub fn is_match(&self, path: &str) -> bool {
+        // SAFETY: the path has this length, and no other call uses the handle.
+        decided(self.with(|glob| unsafe { c::wax_glob_is_match(glob, path.as_ptr(), path.len()) }))
+    }
+
+    /// Returns the texts of the captures, one after another, and the length of each; or `None` if the path doesn't match.
+    pub fn captures(&self, path: &str) -> Option<(String, Vec<usize>)> {
+        let mut texts = vec![0; path.len()];
+        let mut lengths = vec![0; 8];
+        let mut count = 0;
+        loop {
+            // SAFETY: the path and both outputs have these lengths, and no other call uses the handle.
+            let status = self.with(|glob| unsafe {
+                c::wax_glob_captures(
+                    glob,
+                    path.as_ptr(),
+                    path.len(),
+                    texts.as_mut_ptr(),
+                    texts.len(),
+                    lengths.as_mut_ptr(),
+                    lengths.len(),
+                    &mut count,
+                )
+            });
+            if status != NO_ROOM {
+                lengths.truncate(count);
+                texts.truncate(lengths.iter().sum());
+                return decided(status).then(|| (text_of(texts), lengths));
+            }
+            lengths.resize(count, 0);
+        }
+    }
+
+    pub fn facts(&self) -> Facts {
+        let mut facts = Facts::default();
+        // SAFETY: the call may write to `facts`, and no other call uses the handle.
+        decided(self.with(|glob| unsafe { c::wax_glob_facts(glob, &mut facts) }));
+        facts
+    }
+
+    /// Returns the only text that matches, if the expression is written as one.
+    pub fn text(&self) -> Option<String> {
+        let (is_one, text) = written(|output, room, written| {
+            // SAFETY: the output has this length, and no other call uses the handle.
+            self.with(|glob| unsafe { c::wax_glob_text(glob, output, room, written) })
+        });
+        is_one.then_some(text)
+    }
+
+    /// Returns the prefix, and the rest if there is one.
+    pub fn partition(&self) -> (String, Option<Self>) {
+        let mut rest = ptr::null_mut();
+        let (_, prefix) = written(|output, room, written| {
+            // SAFETY: the output has this length, the call may write to `rest`, and no other call uses the handle.
+            self.with(|glob| unsafe {
+                c::wax_glob_partition(glob, output, room, written, &mut rest)
+            })
+        });
+        (prefix, Handle::from_library(rest))
+    }
+}
+
+impl Handle<Set> {
+    /// Builds a set of expressions, none of which has an error by itself.
+    ///
+    /// # Errors
+    ///
+    /// Returns the number of the error.
+    pub fn new(expressions: &[&str]) -> Result<Self, i32> {
+        let patterns = expressions.concat();
+        let lengths: Vec<_> = expressions.iter().map(|it| it.len()).collect();
+        let (mut handle, mut which, mut span) = (ptr::null_mut(), 0, c::Span::default());
+        // SAFETY: both lists have these lengths, the lengths add up to that of the text, and the call may write to the variables.
+        let status = unsafe {
+            c::wax_set_new(
+                patterns.as_ptr(),
+                patterns.len(),
+                lengths.as_ptr(),
+                lengths.len(),
+                &mut handle,
+                &mut which,
+                &mut span,
+            )
+        };
+        Handle::from_library(handle).ok_or(-status)
+    }
+
+    pub fn is_match(&self, path: &str) -> bool {
+        // SAFETY: the path has this length, and no other call uses the handle.
+        decided(self.with(|set| unsafe { c::wax_set_is_match(set, path.as_ptr(), path.len()) }))
+    }
+}
+
+/// Returns an expression that matches only this text.
+pub fn escaped(text: &str) -> String {
+    // SAFETY: the text and the output have these lengths.
+    written(|output, room, written| unsafe {
+        c::wax_escape(text.as_ptr(), text.len(), output, room, written)
+    })
+    .1
+}
+
+/// Returns a drawing of the error of an expression.
+pub fn picture(expression: &str) -> String {
+    // SAFETY: the text and the output have these lengths.
+    written(|output, room, written| unsafe {
+        c::wax_picture(expression.as_ptr(), expression.len(), output, room, written)
+    })
+    .1
+}
+
+/// Passes an output to a call, which has to be large enough at the second time, and returns what the call decides and writes.
+fn written(mut call: impl FnMut(*mut u8, usize, &mut usize) -> i32) -> (bool, String) {
+    let mut output = vec![0; 64];
+    let mut count = 0;
+    let mut status = call(output.as_mut_ptr(), output.len(), &mut count);
+    if status == NO_ROOM {
+        output.resize(count, 0);
+        status = call(output.as_mut_ptr(), output.len(), &mut count);
+    }
+    let decided = decided(status);
+    output.truncate(count);
+    (decided, text_of(output))
+}
+
+/// Returns whether a call returned 1.
+///
+/// # Panics
+///
+/// Panics if memory ran out. No other error is possible: every text is UTF-8.
+fn decided(status: i32) -> bool {
+    assert!(
+        status >= 0,
+        "memory ran out (error {} of the C library)",
+        -status
+    );
+    status == 1
+}
+
+fn text_of(bytes: Vec<u8>) -> String {
+    String::from_utf8(bytes).expect("the C library writes UTF-8")
+}

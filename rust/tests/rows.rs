@@ -1,0 +1,265 @@
+//! The rows of the repository's tables, whose answers are worked by hand or come from the crate wax 0.7.0. README.md beside the
+//! tables describes them.
+
+use std::fs;
+
+use wax::query::{DepthVariance, TextVariance, When};
+use wax::{any, Any, BuildError, CandidatePath, Glob, Program};
+
+/// Returns the lines of a table, each as its fields.
+fn rows(path: &str) -> Vec<Vec<String>> {
+    let path = format!("{}/../{path}", env!("CARGO_MANIFEST_DIR"));
+    let text = fs::read_to_string(&path).unwrap_or_else(|error| panic!("{path}: {error}"));
+    let lines = text
+        .lines()
+        .filter(|line| !line.is_empty() && !line.starts_with("# "));
+    lines
+        .map(|line| line.split('\t').map(written_out).collect())
+        .collect()
+}
+
+/// Returns a field with its line feeds, and with what it repeats: `«ab×2»` is `abab`.
+fn written_out(field: &str) -> String {
+    let mut text = String::new();
+    let mut rest = field;
+    while let Some((before, after)) = rest.split_once('«') {
+        let (repeated, end) = after.split_once('»').unwrap();
+        let (unit, count) = repeated.rsplit_once('×').unwrap();
+        text += before;
+        text += &unit.repeat(count.trim().parse().unwrap());
+        rest = end;
+    }
+    (text + rest)
+        .replace('␊', "\n")
+        .replace('␍', "\r")
+        .replace('␉', "\t")
+}
+
+/// Returns the number of an error, by what it prints.
+fn number(error: &BuildError) -> &'static str {
+    let text = error.to_string();
+    let reasons = [
+        ("1", "failed to parse"),
+        ("2", "adjacent component boundaries"),
+        ("3", "incompatible repetition bounds"),
+        ("4", "singular tree wildcard"),
+        ("5", "adjacent zero-or-more"),
+        ("6", "overlapping roots"),
+        ("7", "singular zero-or-more"),
+        ("8", "oversized invariant"),
+        ("9", "oversized program"),
+    ];
+    reasons
+        .iter()
+        .find(|(_, reason)| text.contains(reason))
+        .unwrap()
+        .0
+}
+
+fn number_of<T>(result: Result<T, BuildError>) -> String {
+    result
+        .map_or_else(|error| number(&error), |_| "0")
+        .to_string()
+}
+
+fn shown(is_true: bool) -> String {
+    u8::from(is_true).to_string()
+}
+
+fn set(patterns: &str) -> Result<Any<'_>, BuildError> {
+    any(patterns.split(' '))
+}
+
+fn set_of_sets(patterns: &str) -> Result<Any<'_>, BuildError> {
+    any(patterns.split(';').map(set))
+}
+
+/// Returns 1, the whole text and the captures, or 0.
+fn matched<'t>(program: &impl Program<'t>, path: &str) -> Vec<String> {
+    let path = CandidatePath::from(path);
+    match program.matched(&path) {
+        None => vec![shown(false)],
+        Some(matched) => {
+            let texts = (0..).map_while(|index| matched.get(index));
+            [shown(true)]
+                .into_iter()
+                .chain(texts.map(str::to_string))
+                .collect()
+        }
+    }
+}
+
+/// Returns an error with its label and place, or `-` in place of these.
+fn located(result: Result<Glob<'_>, BuildError>) -> Vec<String> {
+    let error = match result {
+        Ok(_) => return vec!["0".to_string()],
+        Err(error) => error,
+    };
+    let labels = error
+        .locations()
+        .map(|it| format!("{it} {} {}", it.span().0, it.span().1));
+    [number(&error).to_string()]
+        .into_iter()
+        .chain(labels)
+        .collect()
+}
+
+/// Returns an error with its place if a rule is broken.
+fn accepted(result: Result<Glob<'_>, BuildError>) -> Vec<String> {
+    let number = number_of(result.clone());
+    let place = result
+        .err()
+        .and_then(|error| error.locations().next().map(|it| it.span()));
+    match place.filter(|_| number != "1") {
+        Some((start, length)) => vec![number, start.to_string(), length.to_string()],
+        None => vec![number, "-".to_string(), "-".to_string()],
+    }
+}
+
+fn depth(depth: DepthVariance) -> String {
+    match depth {
+        DepthVariance::Invariant(depth) => depth.to_string(),
+        DepthVariance::Variant(range) => {
+            let upper = range
+                .upper()
+                .bounded()
+                .map_or(String::new(), |upper| upper.to_string());
+            format!("{}..{upper}", range.lower().bounded().map_or(0, Into::into))
+        }
+    }
+}
+
+fn text(text: &TextVariance<'_>) -> String {
+    text.as_ref()
+        .invariant()
+        .map_or("variant".to_string(), |text| format!("invariant {text}"))
+}
+
+fn when(when: When) -> String {
+    format!("{when:?}").to_lowercase()
+}
+
+fn facts<'t>(program: &impl Program<'t>) -> Vec<String> {
+    vec![
+        depth(program.depth()),
+        text(&program.text()),
+        when(program.has_root()),
+        when(program.is_exhaustive()),
+    ]
+}
+
+/// Returns what this crate says of a row, or `None` for a kind that it has no call for.
+fn answer(kind: &str, inputs: &[String]) -> Option<Vec<String>> {
+    let first = inputs.first()?.as_str();
+    let second = inputs.get(1).map_or("", String::as_str);
+    let glob = || Glob::new(first).unwrap();
+    Some(match kind {
+        "builds" => vec![number_of(Glob::new(first))],
+        "accept" => accepted(Glob::new(first)),
+        "error" => vec![Glob::new(first).unwrap_err().to_string()],
+        "labels" | "error_labels" => located(Glob::new(first)),
+        "is_match" => vec![shown(glob().is_match(second))],
+        "match" => matched(&glob(), second),
+        "glob_text" => vec![text(&glob().text())],
+        "facts" => facts(&glob()),
+        "prefix" => vec![glob().partition().0.to_str()?.to_string()],
+        "rest" => vec![shown(glob().partition_or_empty().1.is_match(second))],
+        "set" => vec![number_of(set(first))],
+        "sets" => vec![number_of(set_of_sets(first))],
+        "set_is_match" => vec![shown(set(first).unwrap().is_match(second))],
+        "sets_is_match" => vec![shown(set_of_sets(first).unwrap().is_match(second))],
+        "meant" => matched(&set(first).unwrap(), second),
+        _ => return None,
+    })
+}
+
+fn inputs_of(kind: &str) -> usize {
+    let two = [
+        "is_match",
+        "match",
+        "rest",
+        "set_is_match",
+        "sets_is_match",
+        "meant",
+    ];
+    1 + usize::from(two.contains(&kind))
+}
+
+/// Compares each row that this crate has a call for. There have to be at least so many of these.
+fn check(table: &str, least: usize) {
+    let mut compared = 0;
+    for row in rows(&format!("crates/wax_vectors/data/{table}.tsv")) {
+        let (kind, fields) = row.split_first().unwrap();
+        let (inputs, wanted) = fields.split_at(inputs_of(kind).min(fields.len()));
+        if let Some(got) = answer(kind, inputs) {
+            let mut wanted = wanted.to_vec();
+            if kind.ends_with("labels") {
+                // (only the first label is reported)
+                wanted.truncate(2);
+            }
+            assert_eq!(got, wanted, "{table}: {row:?}");
+            compared += 1;
+        }
+    }
+    assert!(compared >= least, "only {compared} rows of {table}");
+}
+
+#[test]
+fn builds() {
+    check("accept", 2400);
+    check("worked_accept", 1);
+    check("worked_labels", 20);
+    check("worked_refusals", 1);
+}
+
+#[test]
+fn matches() {
+    check("match", 4000);
+    check("worked_match", 1);
+    check("worked_cases", 1);
+}
+
+#[test]
+fn captures() {
+    check("captures", 2000);
+    check("worked_globs", 1);
+}
+
+#[test]
+fn calls() {
+    check("tests", 200);
+    check("tests_calls", 1);
+    check("worked_sets", 10);
+}
+
+/// Returns the branches of an expression that is an alternation of plain globs.
+fn branches(expression: &str) -> Option<Vec<&str>> {
+    let inner = expression.strip_prefix('{')?.strip_suffix('}')?;
+    let is_plain = !inner.contains(['{', '}', '<', '[', '(', '\\']);
+    is_plain.then(|| inner.split(',').collect())
+}
+
+#[test]
+fn queries() {
+    let mut sets = 0;
+    for row in ["query", "worked_query"]
+        .iter()
+        .flat_map(|table| rows(&format!("tests/data/{table}.tsv")))
+    {
+        let names = ["depth ", "text ", "root ", "exhaustive "];
+        let fields = names.iter().zip(&row[1..]);
+        let wanted: Vec<_> = fields
+            .map(|(name, field)| field.strip_prefix(name).unwrap())
+            .collect();
+        let glob = Glob::new(&row[0]).unwrap();
+        assert_eq!(facts(&glob), wanted, "{}", row[0]);
+        if let Some(patterns) = branches(&row[0]) {
+            assert_eq!(facts(&any(patterns).unwrap()), wanted, "{}", row[0]);
+            sets += 1;
+        }
+        let (prefix, rest) = glob.partition();
+        assert_eq!(format!("prefix {}", prefix.display()), row[5], "{}", row[0]);
+        assert_eq!(rest.is_some(), row[6].starts_with("rest "), "{}", row[0]);
+    }
+    assert!(sets > 10, "only {sets} alternations");
+}
