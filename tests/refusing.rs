@@ -1,0 +1,55 @@
+//! Calls of the Rust crate while each allocation of the C library fails in turn. tests/rust runs it, with tests/refusing.c.
+
+use std::os::raw::c_long;
+use std::panic::catch_unwind;
+
+use wax::{any, escape, BuildError, CandidatePath, Glob, Program};
+
+// what tests/refusing.h declares
+extern "C" {
+    fn wax_refuse(number: c_long);
+    fn wax_requests() -> c_long;
+    fn wax_blocks() -> c_long;
+}
+
+fn make_calls() -> Result<(), BuildError> {
+    let glob = Glob::new("{a,b}/*.rs")?;
+    let path = CandidatePath::from("a/x.rs");
+    assert!(glob.is_match("b/y.rs"));
+    assert_eq!(glob.matched(&path).unwrap().get(2), Some("x"));
+    assert!(glob.depth().is_invariant() && glob.text().is_variant());
+    let (_, rest) = Glob::new("a/*.rs")?.partition();
+    assert!(any([rest.unwrap(), glob])?.is_match("x.rs"));
+    assert_eq!(escape("a*"), r"a\*");
+    let error = Glob::new("a//b").unwrap_err();
+    if error.locations().any(|it| it.to_string() == "here") {
+        Ok(())
+    } else {
+        Err(error)
+    }
+}
+
+#[test]
+fn each_allocation_fails() {
+    let mut errors = 0;
+    for number in 1.. {
+        // SAFETY: these functions only count, and no other thread calls them.
+        let (result, requests, blocks) = unsafe {
+            wax_refuse(number);
+            (catch_unwind(make_calls), wax_requests(), wax_blocks())
+        };
+        assert_eq!(blocks, 0, "not freed after {number}");
+        match result {
+            // (some calls do without a block)
+            Ok(Ok(())) if requests >= number => continue,
+            Ok(Ok(())) => break,
+            Ok(Err(error)) => assert_eq!(error.to_string(), "no memory"),
+            Err(panic) => {
+                let message = panic.downcast_ref::<String>().unwrap();
+                assert!(message.starts_with("memory ran out"), "{message}");
+            }
+        }
+        errors += 1;
+    }
+    assert!(errors > 50, "only {errors} errors");
+}
