@@ -1,6 +1,8 @@
-"""Tests of `wax`. Expected results are those of docs/LANGUAGE.md, docs/ERRORS.md and docs/IGNORE.md, or of `re`."""
+"""Tests of `wax`. Expected results are those of the pages LANGUAGE, ERRORS, GUIDE, IGNORE and QUERIES in docs/, of the manual
+page of `globs`, or of `re`. The examples in the module are run, too."""
 
 import ctypes
+import doctest
 import gc
 import importlib
 import os
@@ -8,6 +10,10 @@ import re
 import unittest
 
 import wax
+
+
+def load_tests(loader, tests, pattern):
+    return unittest.TestSuite([doctest.DocTestSuite(wax), tests])
 
 
 class Matching(unittest.TestCase):
@@ -27,6 +33,22 @@ class Matching(unittest.TestCase):
             wax.Glob("*").is_match("\ud800")
         self.assertEqual(raised.exception.number, 20)
 
+    def test_errors_of_calls(self):
+        glob, patterns, ignored = wax.Glob("*"), wax.GlobSet(["*"]), wax.IgnoreList("*")
+        calls = [glob.goes_on, glob.matched, patterns.is_match, patterns.matches, patterns.goes_on]
+        calls += [ignored.is_ignored, ignored.excludes_below, wax.escape]
+        for call in calls:
+            with self.subTest(call), self.assertRaises(wax.Error) as raised:
+                call("\ud800")
+            self.assertEqual(raised.exception.number, 20)
+
+    def test_long_paths(self):
+        glob = wax.Glob("<a:1,>/*")
+        for length in range(500, 520):
+            self.assertTrue(glob.is_match("a" * (length - 1) + "/"))
+            self.assertTrue(glob.is_match("a" * (length - 2) + "/é"))
+            self.assertFalse(glob.is_match("a" * length))
+
     def test_filter(self):
         paths = ["src/a.rs", "README", "", "src/x/y.toml", "src/a\nb.rs", "src/z.c", "src/é.rs"]
         glob = wax.Glob("src/**/*.{rs,toml}")
@@ -40,6 +62,138 @@ class Matching(unittest.TestCase):
         paths = [f"{'d' * (number % 7)}/{number}.{'rs' if number % 3 else 'c'}" for number in range(50_000)]
         wanted = [path for path in paths if re.fullmatch(r"[^/]*/[^/]*\.rs", path)]
         self.assertEqual(list(wax.Glob("*/*.rs").filter(paths)), wanted)
+
+
+class Capturing(unittest.TestCase):
+    def test_captures(self):
+        for expression, path, captures in [
+            ("src/**/*.{c,rs}", "src/net/tcp.c", ("net/", "tcp", "c")),
+            ("src/**/*.rs", "src/token/mod.rs", ("token/", "mod")),
+            ("src/**/*.rs", "src/mod.rs", ("", "mod")),
+            ("a", "a", ()),
+            ("", "", ()),
+            ("?é*", "€é銀", ("€", "銀")),
+        ]:
+            with self.subTest(expression):
+                matched = wax.Glob(expression).matched(path)
+                self.assertEqual(matched.captures, captures)
+                self.assertEqual(matched.text, path)
+                self.assertEqual([matched[index] for index in range(len(captures) + 1)], [path, *captures])
+                for index in (-1, len(captures) + 1):
+                    with self.assertRaises(IndexError):
+                        matched[index]
+
+    def test_no_match(self):
+        self.assertIsNone(wax.Glob("src/**/*.rs").matched("src/mod.c"))
+        self.assertIsNone(wax.Glob("").matched("a"))
+
+
+class Escaping(unittest.TestCase):
+    def test_escape(self):
+        self.assertEqual(wax.escape("?*$:<>()[]{},"), r"\?\*\$\:\<\>\(\)\[\]\{\}\,")
+        for text in ["", "a/b", "{a,b}*", "é<1>"]:
+            glob = wax.Glob(wax.escape(text))
+            self.assertTrue(glob.is_match(text))
+            self.assertEqual(glob.text, text)
+
+
+class Queries(unittest.TestCase):
+    def test_depth(self):
+        for expression, depth in [
+            ("a", (1, 1)),
+            ("a/", (1, 1)),
+            ("*", (1, 1)),
+            ("{a,*}", (1, 1)),
+            ("a/*", (2, 2)),
+            ("{a/b}", (2, 2)),
+            ("x<a/:3>", (3, 3)),
+            ("x{a,a/b}", (1, 2)),
+            ("a/**/b", (2, None)),
+            ("**", (0, None)),
+            ("", (0, 0)),
+        ]:
+            with self.subTest(expression):
+                self.assertEqual(wax.Glob(expression).depth, depth)
+
+    def test_text(self):
+        for expression, text in [("a", "a"), ("[a]", "a"), ("<a/:3>x", "a/a/a/x"), ("{é,é}", "é"), ("a*", None), ("", "")]:
+            with self.subTest(expression):
+                self.assertEqual(wax.Glob(expression).text, text)
+
+    def test_root_and_exhaustiveness(self):
+        for expression, has_root in [("/a", True), ("/**", True), ("**", False), ("a", False)]:
+            with self.subTest(expression):
+                self.assertIs(wax.Glob(expression).has_root, has_root)
+        for expression, is_exhaustive in [
+            ("**", True),
+            ("a/**", True),
+            ("{a/**,b/**}", True),
+            ("x<a/**:0,1>", False),
+            ("{a/**,**/b}", False),
+            ("", False),
+            ("a/*", False),
+        ]:
+            with self.subTest(expression):
+                self.assertIs(wax.Glob(expression).is_exhaustive, is_exhaustive)
+
+    def test_partition(self):
+        for expression, prefix, matches, others in [
+            ("src/*.rs", "src/", ["a.rs"], ["b/a.rs", "src/a.rs"]),
+            ("src/**", "src", ["", "a/b"], []),
+            ("src/{a/*.rs}", "src/a/", ["b.rs"], ["a/b.rs"]),
+            ("(?i)a/b/*", "", ["A/B/c"], ["c"]),
+            ("</**/a:1>", "/", ["a", "b/a"], ["a/b"]),
+        ]:
+            with self.subTest(expression):
+                found, rest = wax.Glob(expression).partition()
+                self.assertEqual(found, prefix)
+                self.assertEqual(list(rest.filter(matches + others)), matches)
+                self.assertIsNone(rest.expression)
+        self.assertEqual(wax.Glob("a/b").partition(), ("a/b", None))
+        self.assertEqual(wax.Glob("src/*.rs").partition()[1].matched("é.rs").captures, ("é",))
+
+    def test_goes_on(self):
+        for expression, true_for, false_for in [
+            ("src/*/tests/*.rs", ["", "src", "src/net", "src/net/tests"], ["doc", "src/net/tests/a.rs"]),
+            ("a/b", ["", "a", "a/"], ["a//", "/a", "a/b"]),
+            ("a/*/", [], ["", "a", "a/b"]),
+            ("/usr/**", ["/", "/usr", "/usr/lib"], ["", "usr"]),
+        ]:
+            for made in (wax.Glob(expression), wax.GlobSet(["x", expression])):
+                with self.subTest(made):
+                    for folder in true_for:
+                        self.assertIs(made.goes_on(folder), True, folder)
+                    for folder in false_for:
+                        self.assertIs(made.goes_on(folder), folder == "" and isinstance(made, wax.GlobSet), folder)
+
+
+class Sets(unittest.TestCase):
+    def test_matches(self):
+        owners = wax.GlobSet(["src/**", "**/*.rs", "{docs/**,**/*.md}"])
+        self.assertEqual(repr(owners), "GlobSet(['src/**', '**/*.rs', '{docs/**,**/*.md}'])")
+        for path, which in [("src/main.rs", [0, 1]), ("docs/intro.md", [2]), ("LICENSE", [])]:
+            self.assertEqual(owners.matches(path), which)
+            self.assertIs(owners.is_match(path), bool(which))
+
+    def test_many(self):
+        patterns = wax.GlobSet(f"**/{number}*" for number in range(100))
+        self.assertEqual(patterns.matches("a/17b"), [1, 17])
+        self.assertEqual(wax.GlobSet(["a"] * 70).matches("a"), list(range(70)))
+
+    def test_none(self):
+        patterns = wax.GlobSet([])
+        self.assertFalse(patterns.is_match(""))
+        self.assertFalse(patterns.goes_on(""))
+        self.assertEqual(patterns.matches("a"), [])
+
+    def test_error(self):
+        with self.assertRaises(wax.BuildError) as raised:
+            wax.GlobSet(["a", "é//b", "{"])
+        error = raised.exception
+        self.assertEqual((error.number, error.expression, error.span), (2, "é//b", (1, 3)))
+        with self.assertRaises(wax.Error) as raised:
+            wax.GlobSet(["<a*:100000>"] * 6)
+        self.assertEqual(raised.exception.number, 9)
 
 
 class Errors(unittest.TestCase):
@@ -70,12 +224,43 @@ class Errors(unittest.TestCase):
             self.assertEqual(raised.exception.span, span)
             self.assertIsInstance(raised.exception, ValueError)
 
+    def test_picture(self):
+        with self.assertRaises(wax.BuildError) as raised:
+            wax.Glob("{a/,b}/c")
+        picture = "{a/,b}/c\n^^^^^^ in this alternation\n      ^ here\n  ^ here\n"
+        self.assertEqual(raised.exception.picture, picture)
+        self.assertEqual(f"{raised.exception}\n", f"adjacent component boundaries `/` or `**`\n{picture}")
+        with self.assertRaises(wax.BuildError) as raised:
+            wax.Glob("<a*:1000000>")
+        self.assertEqual((raised.exception.picture, str(raised.exception)), ("", "oversized program"))
+
 
 class Ignoring(unittest.TestCase):
     def test_list(self):
         ignored = wax.IgnoreList("# logs\n**/*.log\n!x/**\n")
         for path, wanted in [("a.log", True), ("y/b.log", True), ("x/a.log", False), ("a", False)]:
             self.assertIs(ignored.is_ignored(path), wanted)
+
+    def test_filter(self):
+        ignored = wax.IgnoreList("**/*.log\n!keep.log\n")
+        paths = ["a/b.log", "src/lib.rs", "keep.log"]
+        self.assertEqual(list(ignored.filter(paths)), ["src/lib.rs", "keep.log"])
+        self.assertEqual(list(ignored.filter(["a\nb.log", *paths, "a\nb"])), ["src/lib.rs", "keep.log", "a\nb"])
+        many = [f"{number}.{'log' if number % 3 else 'c'}" for number in range(10_000)]
+        self.assertEqual(list(ignored.filter(many)), [path for path in many if path.endswith(".c")])
+
+    def test_excludes_below(self):
+        for text, true_for, false_for in [
+            ("target/**", ["target", "target/debug"], ["", "src"]),
+            ("**/out/**", ["out", "a/out", "a/out/b"], ["", "a"]),
+            ("{a/**,b/*}", ["a", "a/c"], ["b", "b/c"]),
+            ("**/*.o", [], ["", "a.o"]),
+            ("target/**\n!target/keep", [], ["", "target", "target/debug"]),
+            ("!target/keep\ntarget/**", ["target", "target/debug"], ["", "src"]),
+        ]:
+            ignored = wax.IgnoreList(text)
+            with self.subTest(text):
+                self.assertEqual([it for it in true_for + false_for if ignored.excludes_below(it)], true_for)
 
     def test_bad_line(self):
         with self.assertRaises(wax.LineError) as raised:
@@ -103,9 +288,21 @@ class Memory(unittest.TestCase):
         importlib.reload(wax)
 
     def calls(self):
+        """Makes each call of the library, and returns what the calls return."""
         glob = self.wax.Glob("src/**/*.{rs,toml}")
         ignored = self.wax.IgnoreList("**/*.log\n!x/**\n")
-        return glob.is_match("src/a.rs"), list(glob.filter(["src/a.rs", "b"])), ignored.is_ignored("a.log")
+        patterns = self.wax.GlobSet(["src/**", "**/*.rs"])
+        prefix, rest = glob.partition()
+        try:
+            self.wax.Glob("a//b")
+        except self.wax.BuildError as error:
+            picture = error.picture
+        return (
+            (glob.is_match("src/a.rs"), list(glob.filter(["src/a.rs", "b"])), glob.goes_on("src"), glob.depth, glob.text),
+            (glob.matched("src/a.rs").captures, prefix, rest.is_match("a.rs"), self.wax.Glob("a").text, picture),
+            (ignored.is_ignored("a.log"), ignored.excludes_below("a"), list(ignored.filter(["a.log", "b"]))),
+            (patterns.is_match("a"), patterns.matches("src/a.rs"), patterns.goes_on("src"), self.wax.escape("*")),
+        )
 
     def run_with(self, number):
         self.refusing.wax_refuse(number)
@@ -115,7 +312,12 @@ class Memory(unittest.TestCase):
             return None
 
     def test_each_allocation(self):
-        wanted = (True, ["src/a.rs"], True)
+        wanted = (
+            (True, ["src/a.rs"], True, (2, None), None),
+            (("", "a", "rs"), "src", True, "a", "a//b\n ^^ here\n"),
+            (True, False, ["b"]),
+            (False, [0, 1], True, r"\*"),
+        )
         self.assertEqual(self.run_with(0), wanted)
         requests = self.refusing.wax_requests()
         failed = 0

@@ -1,11 +1,13 @@
 """Matches paths against globs, and checks them against ignore lists, by the C library `libwax.so`.
 
-    glob = Glob("src/**/*.{rs,toml}")
-    glob.is_match("src/a/b.rs")                      # True
-    list(glob.filter(["src/a.rs", "README"]))        # ["src/a.rs"]
-
-    ignored = IgnoreList("**/*.log\\n!keep.log\\n")
-    ignored.is_ignored("a/b.log")                    # True
+    >>> glob = Glob("src/**/*.{rs,toml}")
+    >>> glob.is_match("src/a/b.rs")
+    True
+    >>> list(glob.filter(["src/a.rs", "README"]))
+    ['src/a.rs']
+    >>> ignored = IgnoreList("**/*.log\\n!keep.log\\n")
+    >>> ignored.is_ignored("a/b.log")
+    True
 
 The library is loaded from the path in the environment variable `WAX_LIBRARY`. If that isn't set, it is `libwax.so` in
 the folder of this file or, if there is none, the system's `libwax.so.0`. The script `library` of the repository builds
@@ -18,9 +20,19 @@ import ctypes
 import itertools
 import os
 import threading
-from typing import Iterable, Iterator, Optional
+from typing import Any, Callable, Iterable, Iterator, List, Optional, Sequence, Tuple
 
-__all__ = ["BuildError", "Error", "Glob", "IgnoreList", "LineError", "is_match"]
+__all__ = [
+    "BuildError",
+    "Error",
+    "Glob",
+    "GlobSet",
+    "IgnoreList",
+    "LineError",
+    "Matched",
+    "escape",
+    "is_match",
+]
 
 # how many paths a filter passes in one call
 _CHUNK = 4096
@@ -53,13 +65,26 @@ class BuildError(Error):
 
     `number` is 1 if the expression can't be parsed, 2 to 8 if it breaks a rule, and 9 if it is too large. `expression`
     is the expression. `span` is the place of the error: the index of its first character, and that of the character
-    after its last. For 9 it is None.
+    after its last. For 9 it is None. `picture` is the expression with a line under it for each part that the error
+    names, and is the end of the exception's text; for 9 it is empty.
+
+        >>> try:
+        ...     Glob("src//*.rs")
+        ... except BuildError as error:
+        ...     print(error)
+        adjacent component boundaries `/` or `**`
+        src//*.rs
+           ^^ here
     """
 
-    def __init__(self, number: int, expression: str, span: Optional[tuple[int, int]]) -> None:
-        super().__init__(number)
+    def __init__(
+        self, number: int, expression: str, span: Optional[Tuple[int, int]] = None, picture: str = ""
+    ) -> None:
+        message = _MESSAGES.get(number, f"error {number}")
+        super().__init__(number, f"{message}\n{picture}".rstrip("\n"))
         self.expression = expression
         self.span = span
+        self.picture = picture
 
 
 class LineError(Error):
@@ -72,31 +97,94 @@ class LineError(Error):
 
 
 class _Span(ctypes.Structure):
+    start: int
+    length: int
     _fields_ = [("start", ctypes.c_size_t), ("length", ctypes.c_size_t)]
 
 
-def _loaded() -> ctypes.CDLL:
+class _Facts(ctypes.Structure):
+    least_depth: int
+    greatest_depth: int
+    has_root: int
+    is_exhaustive: int
+    _fields_ = [
+        ("least_depth", ctypes.c_size_t),
+        ("greatest_depth", ctypes.c_size_t),
+        ("has_root", ctypes.c_int32),
+        ("is_exhaustive", ctypes.c_int32),
+    ]
+
+
+def _path_of_library() -> str:
     beside = os.path.join(os.path.dirname(os.path.abspath(__file__)), "libwax.so")
-    library = ctypes.CDLL(os.environ.get("WAX_LIBRARY") or (beside if os.path.exists(beside) else "libwax.so.0"))
+    return os.environ.get("WAX_LIBRARY") or (beside if os.path.exists(beside) else "libwax.so.0")
+
+
+def _loaded() -> ctypes.CDLL:
+    library = ctypes.CDLL(_path_of_library())
     text, size, number = ctypes.c_char_p, ctypes.c_size_t, ctypes.c_int32
     handle, sizes = ctypes.c_void_p, ctypes.POINTER(ctypes.c_size_t)
-    handles, spans = ctypes.POINTER(handle), ctypes.POINTER(_Span)
-    for name, result, arguments in [
-        ("wax_is_match", number, [text, size, text, size]),
+    handles, spans, facts = ctypes.POINTER(handle), ctypes.POINTER(_Span), ctypes.POINTER(_Facts)
+    output: List[Any] = [handle, size, sizes]
+    calls: List[Tuple[str, Any, List[Any]]] = [
+        ("wax_escape", number, [text, size, *output]),
+        ("wax_picture", number, [text, size, *output]),
         ("wax_glob_new", number, [text, size, handles, spans]),
-        ("wax_glob_is_match", number, [handle, text, size]),
-        ("wax_glob_filter", number, [handle, text, size, handle, size, sizes]),
+        ("wax_glob_filter", number, [handle, text, size, *output]),
+        ("wax_glob_captures", number, [handle, text, size, handle, size, sizes, size, sizes]),
+        ("wax_glob_facts", number, [handle, facts]),
+        ("wax_glob_text", number, [handle, *output]),
+        ("wax_glob_partition", number, [handle, *output, handles]),
         ("wax_glob_free", None, [handle]),
+        ("wax_set_new", number, [text, size, sizes, size, handles, sizes, spans]),
+        ("wax_set_matches", number, [handle, text, size, sizes, size, sizes]),
+        ("wax_set_free", None, [handle]),
         ("wax_ignore_new", number, [text, size, handles, sizes]),
-        ("wax_ignore_is_ignored", number, [handle, text, size]),
+        ("wax_ignore_filter", number, [handle, text, size, *output]),
         ("wax_ignore_free", None, [handle]),
-    ]:
+    ]
+    for name, result, arguments in calls:
         function = getattr(library, name)
         function.restype, function.argtypes = result, arguments
     return library
 
 
 _library = _loaded()
+
+# The calls that decide something about a path. A call by PyDLL keeps the lock of the interpreter, and one without
+# argtypes converts no arguments, so all are passed as ctypes' own types and bytes: that takes a third of the time.
+_deciding = ctypes.PyDLL(_path_of_library())
+_glob_is_match = _deciding.wax_glob_is_match
+_glob_goes_on = _deciding.wax_glob_goes_on
+_set_is_match = _deciding.wax_set_is_match
+_set_goes_on = _deciding.wax_set_goes_on
+_ignore_is_ignored = _deciding.wax_ignore_is_ignored
+_ignore_excludes_below = _deciding.wax_ignore_excludes_below
+for _function in (
+    _glob_is_match,
+    _glob_goes_on,
+    _set_is_match,
+    _set_goes_on,
+    _ignore_is_ignored,
+    _ignore_excludes_below,
+):
+    _function.restype = ctypes.c_int32
+
+# the lengths of most paths, since making one takes as long as a call
+_LENGTHS = [ctypes.c_size_t(length) for length in range(512)]
+
+
+def _decided(function: Any, handle: ctypes.c_void_p, path: str) -> bool:
+    """Returns what a call decides about a path, or raises its error. The call takes no expression."""
+    try:
+        text = path.encode()
+    except UnicodeEncodeError:
+        raise Error(20) from None
+    length = len(text)
+    status = function(handle, text, _LENGTHS[length] if length < 512 else ctypes.c_size_t(length))
+    if status < 0:
+        _raise(-status)
+    return bool(status)
 
 
 def _bytes(text: str) -> bytes:
@@ -107,17 +195,53 @@ def _bytes(text: str) -> bytes:
         raise Error(20) from None
 
 
-def _answer(number: int) -> bool:
-    """Returns the result of a call that decides something, or raises its error. The call takes no expression."""
-    if number < 0:
-        _raise(-number)
-    return number == 1
-
-
 def _raise(number: int) -> None:
     if number == 10:
         raise MemoryError
     raise Error(number)
+
+
+def _raise_built(number: int, expression: str, span: _Span) -> None:
+    """Raises the error of an expression that isn't built."""
+    if number in (10, 20):
+        _raise(number)
+    if number == 9:
+        raise BuildError(number, expression)
+    text = _bytes(expression)
+    start = len(text[: span.start].decode())
+    end = start + len(text[span.start : span.start + span.length].decode())
+    picture = _written(_library.wax_picture, text, len(text), room=4 * len(text) + 64)[1]
+    raise BuildError(number, expression, (start, end), picture)
+
+
+def _written(function: Any, *arguments: Any, room: int, out: Sequence[Any] = ()) -> Tuple[int, str]:
+    """Returns the result of a call that writes a text, and the text. The call gets the arguments, then the output with
+    its length and where to write how many bytes it needs, and then `out`. `room` is how long the output is at first."""
+    written = ctypes.c_size_t(room)
+    status = -21
+    while status == -21:
+        room = written.value
+        output = ctypes.create_string_buffer(max(room, 1))
+        status = function(*arguments, output, room, ctypes.byref(written), *out)
+    if status < 0:
+        _raise(-status)
+    return status, ctypes.string_at(output, written.value).decode()
+
+
+def _filtered(function: Any, handle: ctypes.c_void_p, keeps: Callable[[str], bool], paths: List[str]) -> List[str]:
+    """Returns the paths that a call keeps of lines, or `keeps` of single paths if one of them contains a line feed."""
+    text = "\n".join(paths) + "\n"
+    if text.count("\n") != len(paths):
+        return [path for path in paths if keeps(path)]
+    lines = _bytes(text)
+    return _written(function, handle, lines, len(lines), room=len(lines))[1].split("\n")[:-1]
+
+
+def _chunks(paths: Iterable[str]) -> Iterator[List[str]]:
+    """Yields the paths in lists that a filter passes in one call."""
+    paths = iter(paths)
+    while chunk := list(itertools.islice(paths, _CHUNK)):
+        yield chunk
 
 
 def is_match(expression: str, path: str) -> bool:
@@ -126,33 +250,83 @@ def is_match(expression: str, path: str) -> bool:
     Each call builds the glob anew. To match many paths, build a `Glob` once.
 
     Raises `BuildError` if the expression can't be built, `MemoryError` if an allocation fails.
+
+        >>> is_match("**/*.png", "a/b.png")
+        True
     """
     return Glob(expression).is_match(path)
 
 
-class Glob:
-    """A glob, built from an expression.
+def escape(text: str) -> str:
+    """Returns an expression that matches only this text, by a backslash before each character that needs one.
 
-    Raises `BuildError` if the expression can't be built, `MemoryError` if an allocation fails.
+    A backslash can't be escaped, so what is returned for a text with one is no expression.
+
+    Raises `MemoryError` if an allocation fails.
+
+        >>> escape("a[1]*.txt")
+        'a\\\\[1\\\\]\\\\*.txt'
     """
+    encoded = _bytes(text)
+    return _written(_library.wax_escape, encoded, len(encoded), room=2 * len(encoded))[1]
 
-    def __init__(self, expression: str) -> None:
+
+class _Held:
+    """An object with a handle of the library, which is freed with the object."""
+
+    _free = ""
+
+    def __init__(self) -> None:
         self._handle = ctypes.c_void_p()
-        self.expression = expression
-        text, span = _bytes(expression), _Span()
-        status = _library.wax_glob_new(text, len(text), ctypes.byref(self._handle), ctypes.byref(span))
-        if status == -10:
-            raise MemoryError
-        if status:
-            start = len(text[: span.start].decode())
-            length = len(text[span.start : span.start + span.length].decode())
-            raise BuildError(-status, expression, None if status == -9 else (start, start + length))
 
     def __del__(self) -> None:
         handle = getattr(self, "_handle", None)
         if handle:
             self._handle = ctypes.c_void_p()
-            _library.wax_glob_free(handle)
+            getattr(_library, self._free)(handle)
+
+
+class Matched:
+    """What a glob captures of a path.
+
+    `text` is the path, and `captures` has the part of it that each capture matched: that of each class, wildcard,
+    alternation and repetition of the expression that isn't inside another token. Each capture has a part, which may be
+    empty. `matched[0]` is the path, and `matched[1]` the part of the first capture.
+    """
+
+    __slots__ = ("text", "captures")
+
+    def __init__(self, text: str, captures: Tuple[str, ...]) -> None:
+        self.text = text
+        self.captures = captures
+
+    def __getitem__(self, index: int) -> str:
+        if index < 0:
+            raise IndexError("captures are counted from 0, which is the path")
+        return self.captures[index - 1] if index else self.text
+
+    def __repr__(self) -> str:
+        return f"Matched({self.text!r}, {self.captures!r})"
+
+
+class Glob(_Held):
+    """A glob, built from an expression.
+
+    `expression` is this expression. It is None for the rest that `partition` returns.
+
+    Raises `BuildError` if the expression can't be built, `MemoryError` if an allocation fails.
+    """
+
+    _free = "wax_glob_free"
+
+    def __init__(self, expression: str) -> None:
+        super().__init__()
+        self.expression: Optional[str] = expression
+        text, span = _bytes(expression), _Span()
+        self._most_captures = len(text)
+        status = _library.wax_glob_new(text, len(text), ctypes.byref(self._handle), ctypes.byref(span))
+        if status:
+            _raise_built(-status, expression, span)
 
     def __repr__(self) -> str:
         return f"Glob({self.expression!r})"
@@ -160,51 +334,198 @@ class Glob:
     def is_match(self, path: str) -> bool:
         """Returns whether the glob matches the path.
 
-        One call took 1.3 to 5 times as long as a match by `re`. For many paths `filter` is faster.
+        For many paths `filter` is faster.
 
         Raises `MemoryError` if an allocation fails.
         """
-        text = _bytes(path)
-        return _answer(_library.wax_glob_is_match(self._handle, text, len(text)))
+        return _decided(_glob_is_match, self._handle, path)
+
+    def goes_on(self, folder: str) -> bool:
+        """Returns whether the glob matches the path of something below the folder with this path.
+
+        So a walk needs to open a folder only if this is true. The empty path is the folder where paths begin.
+
+        Raises `MemoryError` if an allocation fails.
+
+            >>> glob = Glob("src/*/tests/*.rs")
+            >>> glob.goes_on("src/net"), glob.goes_on("doc")
+            (True, False)
+        """
+        return _decided(_glob_goes_on, self._handle, folder)
+
+    def matched(self, path: str) -> Optional[Matched]:
+        """Returns what the glob captures of the path, or None if it doesn't match the path.
+
+        Raises `MemoryError` if an allocation fails.
+
+            >>> matched = Glob("src/**/*.{c,rs}").matched("src/net/tcp.c")
+            >>> matched.captures
+            ('net/', 'tcp', 'c')
+            >>> matched[0], matched[2]
+            ('src/net/tcp.c', 'tcp')
+        """
+        text, count = _bytes(path), ctypes.c_size_t()
+        texts = ctypes.create_string_buffer(max(len(text), 1))
+        lengths = (ctypes.c_size_t * self._most_captures)()
+        status = _library.wax_glob_captures(
+            self._handle, text, len(text), texts, len(text), lengths, self._most_captures, ctypes.byref(count)
+        )
+        if status < 0:
+            _raise(-status)
+        if not status:
+            return None
+        written, ends = texts.raw, list(itertools.accumulate(lengths[: count.value]))
+        parts = (written[start:end].decode() for start, end in zip([0, *ends], ends))
+        return Matched(path, tuple(parts))
 
     def filter(self, paths: Iterable[str]) -> Iterator[str]:
         """Yields the paths that the glob matches, in order.
 
         Paths are passed to the library 4,096 at a time; if one of these contains a line feed, they are passed one by
-        one. For 100,000 paths and four patterns this took 0.25 to 0.8 of the time that `re` took, and a seventh to a
-        quarter of that of `is_match` in a loop.
+        one. For 100,000 paths and four patterns this took 0.25 to 0.8 of the time that `re` took.
 
         Raises `MemoryError` if an allocation fails.
         """
-        paths = iter(paths)
-        while chunk := list(itertools.islice(paths, _CHUNK)):
-            yield from self._filtered(chunk)
+        for chunk in _chunks(paths):
+            yield from _filtered(_library.wax_glob_filter, self._handle, self.is_match, chunk)
 
-    def _filtered(self, paths: list[str]) -> list[str]:
-        """Returns the paths that the glob matches."""
-        text = "\n".join(paths) + "\n"
-        if text.count("\n") != len(paths):
-            return [path for path in paths if self.is_match(path)]
-        lines = _bytes(text)
-        room = ctypes.create_string_buffer(len(lines))
-        written = ctypes.c_size_t()
-        status = _library.wax_glob_filter(
-            self._handle, lines, len(lines), room, len(lines), ctypes.byref(written)
+    def _facts(self) -> _Facts:
+        facts = _Facts()
+        _library.wax_glob_facts(self._handle, ctypes.byref(facts))
+        return facts
+
+    @property
+    def depth(self) -> Tuple[int, Optional[int]]:
+        """The least and the greatest number of components that a match can have. The greatest is None if there is none.
+
+        `*`, `$` and a class count as one character, so a match that is empty, or has a `/` at an end, may have fewer.
+
+            >>> Glob("src/*/mod.rs").depth, Glob("a/**/b").depth
+            ((3, 3), (2, None))
+        """
+        facts = self._facts()
+        has_greatest = facts.greatest_depth != ctypes.c_size_t(-1).value
+        return facts.least_depth, facts.greatest_depth if has_greatest else None
+
+    @property
+    def has_root(self) -> bool:
+        """Whether it is certain that each match begins with `/`.
+
+        >>> Glob("/usr/**").has_root, Glob("**").has_root
+        (True, False)
+        """
+        return self._facts().has_root == 2
+
+    @property
+    def is_exhaustive(self) -> bool:
+        """Whether it is certain that everything below a match matches, too.
+
+        >>> Glob("src/**").is_exhaustive, Glob("src/*").is_exhaustive
+        (True, False)
+        """
+        return self._facts().is_exhaustive == 2
+
+    @property
+    def text(self) -> Optional[str]:
+        """The only path that the glob matches, if the expression is written so that there is only one; otherwise None.
+
+        >>> Glob("<a/:3>x").text
+        'a/a/a/x'
+        >>> Glob("a*").text is None
+        True
+        """
+        status, text = _written(_library.wax_glob_text, self._handle, room=self._most_captures)
+        return text if status else None
+
+    def partition(self) -> Tuple[str, Optional[Glob]]:
+        """Returns the prefix with which each match begins, and a glob of the rest, or None if there is no rest.
+
+        The rest matches what this glob matches after the prefix, and after a `/` unless the prefix is empty or ends
+        with one. It has no expression of its own.
+
+        Raises `MemoryError` if an allocation fails.
+
+            >>> prefix, rest = Glob("src/{a/*.rs}").partition()
+            >>> prefix, rest.is_match("b.rs")
+            ('src/a/', True)
+        """
+        rest = Glob.__new__(Glob)
+        _Held.__init__(rest)
+        rest.expression, rest._most_captures = None, self._most_captures
+        out = [ctypes.byref(rest._handle)]
+        _, prefix = _written(_library.wax_glob_partition, self._handle, room=self._most_captures, out=out)
+        return prefix, rest if rest._handle else None
+
+
+class GlobSet(_Held):
+    """A set of globs, built from expressions. `expressions` are these.
+
+    Raises `BuildError` for the first expression that can't be built, `Error` 9 if the set is too large, `MemoryError`
+    if an allocation fails.
+
+        >>> pictures = GlobSet(["**/*.png", "**/*.{jpg,jpeg}", "a/**"])
+        >>> pictures.is_match("b/logo.jpeg"), pictures.matches("a/logo.png")
+        (True, [0, 2])
+    """
+
+    _free = "wax_set_free"
+
+    def __init__(self, expressions: Iterable[str]) -> None:
+        super().__init__()
+        self.expressions = tuple(expressions)
+        texts = [_bytes(expression) for expression in self.expressions]
+        joined, count = b"".join(texts), len(texts)
+        lengths = (ctypes.c_size_t * count)(*map(len, texts))
+        which, span = ctypes.c_size_t(), _Span()
+        status = _library.wax_set_new(
+            joined, len(joined), lengths, count, ctypes.byref(self._handle), ctypes.byref(which), ctypes.byref(span)
         )
+        if status and which.value < count:
+            _raise_built(-status, self.expressions[which.value], span)
         if status:
             _raise(-status)
-        return ctypes.string_at(room, written.value).decode().split("\n")[:-1]
+
+    def __repr__(self) -> str:
+        return f"GlobSet({list(self.expressions)!r})"
+
+    def is_match(self, path: str) -> bool:
+        """Returns whether one of the expressions matches the path.
+
+        Raises `MemoryError` if an allocation fails.
+        """
+        return _decided(_set_is_match, self._handle, path)
+
+    def matches(self, path: str) -> List[int]:
+        """Returns the indexes of all expressions that match the path, ascending.
+
+        Raises `MemoryError` if an allocation fails.
+        """
+        text, count, room = _bytes(path), ctypes.c_size_t(), len(self.expressions)
+        which = (ctypes.c_size_t * room)()
+        status = _library.wax_set_matches(self._handle, text, len(text), which, room, ctypes.byref(count))
+        if status:
+            _raise(-status)
+        return which[: count.value]
+
+    def goes_on(self, folder: str) -> bool:
+        """Returns whether one of the expressions matches the path of something below the folder with this path.
+
+        Raises `MemoryError` if an allocation fails.
+        """
+        return _decided(_set_goes_on, self._handle, folder)
 
 
-class IgnoreList:
+class IgnoreList(_Held):
     """An ignore list, with a glob on each line: paths that it matches are ignored or, after a `!`, aren't. The last
     line that matches a path decides. Lines that are empty or begin with `#` are skipped.
 
     Raises `LineError` if the glob of a line has an error, `MemoryError` if an allocation fails.
     """
 
+    _free = "wax_ignore_free"
+
     def __init__(self, text: str) -> None:
-        self._handle = ctypes.c_void_p()
+        super().__init__()
         self._lock = threading.Lock()  # (a call keeps what it learns in the list, so one at a time may use it)
         lines, line = _bytes(text), ctypes.c_size_t()
         status = _library.wax_ignore_new(lines, len(lines), ctypes.byref(self._handle), ctypes.byref(line))
@@ -213,17 +534,39 @@ class IgnoreList:
         if status:
             _raise(-status)
 
-    def __del__(self) -> None:
-        handle = getattr(self, "_handle", None)
-        if handle:
-            self._handle = ctypes.c_void_p()
-            _library.wax_ignore_free(handle)
-
     def is_ignored(self, path: str) -> bool:
         """Returns whether the list ignores the path, and keeps what it learns from it for the next ones.
 
         Raises `MemoryError` if an allocation fails.
         """
-        text = _bytes(path)
         with self._lock:
-            return _answer(_library.wax_ignore_is_ignored(self._handle, text, len(text)))
+            return _decided(_ignore_is_ignored, self._handle, path)
+
+    def excludes_below(self, folder: str) -> bool:
+        """Returns True if the list ignores everything below the folder with this path, so that a walk needn't open it,
+        and False if something below it might not be ignored. The path has no `/` at its end.
+
+        Raises `MemoryError` if an allocation fails.
+
+            >>> ignored = IgnoreList("target/**\\n")
+            >>> ignored.excludes_below("target/debug"), ignored.excludes_below("src")
+            (True, False)
+        """
+        with self._lock:
+            return _decided(_ignore_excludes_below, self._handle, folder)
+
+    def filter(self, paths: Iterable[str]) -> Iterator[str]:
+        """Yields the paths that the list doesn't ignore, in order, as `Glob.filter` does for those that match.
+
+        Raises `MemoryError` if an allocation fails.
+
+            >>> list(IgnoreList("**/*.log\\n!keep.log\\n").filter(["a/b.log", "src/lib.rs", "keep.log"]))
+            ['src/lib.rs', 'keep.log']
+        """
+        for chunk in _chunks(paths):
+            with self._lock:
+                kept = _filtered(_library.wax_ignore_filter, self._handle, self._keeps, chunk)
+            yield from kept
+
+    def _keeps(self, path: str) -> bool:
+        return not _decided(_ignore_is_ignored, self._handle, path)
