@@ -1,13 +1,16 @@
-"""Tests of `wax`. Expected results are those of the pages LANGUAGE, ERRORS, GUIDE, IGNORE and QUERIES in docs/, of the manual
-page of `globs`, or of `re`. The examples in the module are run, too."""
+"""Tests of `wax`. Expected results are those of the pages LANGUAGE, ERRORS, GUIDE, IGNORE, QUERIES and WALKS in docs/, of the
+manual page of `globs`, of `re`, or of `pathlib`. The examples in the module are run, too. tests/walking has more tests of walks."""
 
 import ctypes
 import doctest
 import gc
 import importlib
 import os
+import pathlib
 import re
+import tempfile
 import unittest
+from unittest import mock
 
 import wax
 
@@ -269,6 +272,158 @@ class Ignoring(unittest.TestCase):
         with self.assertRaises(wax.Error) as raised:
             wax.IgnoreList("\ud800")
         self.assertEqual(raised.exception.number, 20)
+
+
+class Walking(unittest.TestCase):
+    """The tree and the walks of docs/WALKS.md."""
+
+    def setUp(self):
+        room = tempfile.TemporaryDirectory()
+        self.addCleanup(room.cleanup)
+        self.root = os.path.realpath(room.name)
+        for path in ["doc/guide.md", "src/glob.rs", "src/lib.rs", "tests/harness/mod.rs", "tests/walk.rs", "README.md"]:
+            self.add(path)
+
+    def add(self, path):
+        file = pathlib.Path(self.root, path)
+        file.parent.mkdir(parents=True, exist_ok=True)
+        file.touch()
+
+    def walked(self, pattern, **options):
+        """Returns the sorted candidates that a walk yields, and those of the folders that it opens."""
+        opened, scandir = [], os.scandir
+
+        def opening(folder):
+            opened.append(os.path.relpath(folder, self.root).replace(".", ""))
+            return scandir(folder)
+
+        with mock.patch("os.scandir", opening):
+            found = [it.candidate for it in wax.walk(self.root, pattern, **options)]
+        return sorted(found), sorted(opened)
+
+    def test_rows(self):
+        rust = ["src/glob.rs", "src/lib.rs"]
+        below_tests = ["tests/harness", "tests/harness/mod.rs", "tests/walk.rs"]
+        for pattern, found, opened in [
+            ("*/*.rs", [*rust, "tests/walk.rs"], ["", "doc", "src", "tests"]),
+            ("src/*", rust, ["src"]),
+            ("tests/*", ["tests/harness", "tests/walk.rs"], ["tests"]),
+            ("tests", ["tests"], []),
+            ("{src,tests}/**", ["src", *rust, "tests", *below_tests], ["", "src", "tests", "tests/harness"]),
+            ("*", ["", "README.md", "doc", "src", "tests"], [""]),
+            ("{src/*,README.md}", ["README.md", *rust], ["", "src"]),
+            ("{doc,src/*}", ["doc", *rust], ["", "src"]),
+            ("{src/,README.md}", ["README.md"], [""]),
+            ("x<{/}:2>", [], []),
+            (wax.GlobSet(["src/*", "README.md"]), ["README.md", *rust], ["", "src"]),
+            (wax.GlobSet(["tests/*.rs", "tests/*"]), ["tests/harness", "tests/walk.rs"], ["tests"]),
+            (wax.GlobSet(["tests/*.rs", "test"]), ["tests/walk.rs"], ["", "tests"]),
+            (wax.GlobSet(["/a/*", "src/*"]), rust, ["", "src"]),
+            (wax.GlobSet([]), [], []),
+            (wax.Glob("src/*"), rust, ["src"]),
+        ]:
+            with self.subTest(pattern):
+                self.assertEqual(self.walked(pattern), (found, opened))
+
+    def test_depths(self):
+        self.assertEqual(
+            self.walked("tests/**", min_depth=2, max_depth=2), (["tests/harness", "tests/walk.rs"], ["tests"])
+        )
+        self.assertEqual(self.walked("src/*", max_depth=0), ([], []))
+        self.assertEqual(self.walked("**", max_depth=0), ([""], []))
+
+    def test_excluding(self):
+        everything, _ = self.walked("**")
+        self.add("#a\n/#b\r")
+        for pattern, excluded, unopened in [
+            ("tests/**", "tests", ["tests", "tests/harness"]),
+            ("tests", None, []),
+            ("{tests/**,*.md}", "tests", ["tests", "tests/harness"]),
+            ("", None, []),
+        ]:
+            with self.subTest(pattern):
+                kept, opened = self.walked("**", exclude=[pattern, "#*/**", "#a\n", "#a\n/#b\r"])
+                lost = [it for it in everything if wax.is_match(pattern, it)]
+                self.assertEqual(kept, [it for it in everything if it not in lost])
+                self.assertEqual(opened, [it for it in ["", "doc", "src", "tests", "tests/harness"] if it not in unopened])
+        self.assertEqual(self.walked("**", exclude="**"), ([], []))
+        patterns = [wax.Glob("#*/**"), wax.GlobSet(["**/harness/**", "src/**"])]
+        found = ["doc/guide.md", "tests/walk.rs"]
+        self.assertEqual(self.walked("*/*.{md,rs}", exclude=patterns)[0], found)
+
+    def test_ignoring(self):
+        ignored = wax.IgnoreList("**/*.rs\n!tests/**\n")
+        kept, _ = self.walked("**/*.rs", ignore=ignored)
+        self.assertEqual(kept, ["tests/harness/mod.rs", "tests/walk.rs"])
+        kept, opened = self.walked("**", ignore=wax.IgnoreList("tests/**\n"), exclude="{doc,src}/**")
+        self.assertEqual((kept, opened), (["", "README.md"], [""]))
+
+    def test_errors(self):
+        for pattern, kind, path in [
+            ("lib/*", FileNotFoundError, "lib"),
+            ("README.md/x", NotADirectoryError, "README.md"),
+            ("README.md/*", None, None),
+        ]:
+            errors = []
+            self.assertEqual(self.walked(pattern, onerror=errors.append), ([], []))
+            self.assertEqual([type(it) for it in errors], [kind] if kind else [])
+            self.assertEqual([it.filename for it in errors], [os.path.join(self.root, path)] if path else [])
+        self.assertEqual(list(wax.walk(os.path.join(self.root, "nothing"), "**")), [])
+        with self.assertRaises(wax.BuildError):
+            wax.walk(self.root, "a//b")
+        with self.assertRaises(wax.BuildError):
+            wax.walk(self.root, "**", exclude=["a", "a//b"])
+
+    def test_folder_that_cannot_be_opened(self):
+        scandir, refused = os.scandir, PermissionError(13, "Permission denied")
+
+        def refusing(folder):
+            if folder.endswith("src"):
+                raise refused
+            return scandir(folder)
+
+        errors = []
+        with mock.patch("os.scandir", refusing):
+            found = [it.candidate for it in wax.walk(self.root, "**/*.rs", onerror=errors.append)]
+        self.assertEqual(sorted(found), ["tests/harness/mod.rs", "tests/walk.rs"])
+        self.assertEqual(errors, [refused])
+
+    def test_name_that_is_no_text(self):
+        os.mkdir(os.fsencode(self.root) + b"/src/\xff")
+        errors = []
+        self.assertEqual(self.walked("src/*", onerror=errors.append), (["src/glob.rs", "src/lib.rs"], ["src"]))
+        self.assertEqual([it.filename for it in errors], [f"{self.root}/src/\udcff"])
+
+    def test_entries(self):
+        os.symlink("src", f"{self.root}/link")
+        found = {it.candidate: it for it in wax.walk(pathlib.Path(self.root), "**")}
+        self.assertNotIn("link/lib.rs", found)
+        for path, entry in found.items():
+            beside = pathlib.Path(self.root, path)
+            self.assertEqual(pathlib.Path(entry), beside)
+            self.assertEqual(entry.name, beside.name)
+            self.assertEqual(entry.depth, len(beside.parts) - len(pathlib.Path(self.root).parts))
+            self.assertEqual((entry.is_dir(), entry.is_file()), (beside.is_dir(), beside.is_file()))
+            is_link = beside.is_symlink()
+            self.assertEqual(entry.is_symlink(), is_link)
+            self.assertEqual(entry.is_dir(follow_symlinks=False), beside.is_dir() and not is_link)
+            self.assertEqual(entry.is_file(follow_symlinks=False), beside.is_file() and not is_link)
+            self.assertEqual(entry.stat().st_ino, beside.stat().st_ino)
+        (start,) = wax.walk(self.root, "link")
+        self.assertEqual((start.name, start.is_symlink(), start.is_dir()), ("link", True, True))
+        self.assertFalse(start.is_dir(follow_symlinks=False))
+
+    def test_from_the_root(self):
+        pattern = f"{wax.escape(self.root)}/src/*"
+        self.assertEqual(self.walked(pattern), ([f"{self.root}/src/glob.rs", f"{self.root}/src/lib.rs"], ["src"]))
+        (start,) = wax.walk("nowhere", "/*", max_depth=0)
+        self.assertEqual((start.candidate, start.path, start.name, start.depth), ("/", "/", "", 0))
+
+    def test_beside_pathlib(self):
+        for pattern in ["*/*.rs", "**/*.rs", "src/*", "tests/*/mod.rs", "**/[a-l]*.rs", "t*/**/w*.rs", "*/harness"]:
+            with self.subTest(pattern):
+                wanted = sorted(str(it) for it in pathlib.Path(self.root).glob(pattern))
+                self.assertEqual(sorted(it.path for it in wax.walk(self.root, pattern)), wanted)
 
 
 @unittest.skipUnless("WAX_REFUSING" in os.environ, "tests/python builds the library for it")

@@ -1,4 +1,4 @@
-"""Matches paths against globs, and checks them against ignore lists, by the C library `libwax.so`.
+"""Matches paths against globs, checks them against ignore lists, and walks folders, by the C library `libwax.so`.
 
     >>> glob = Glob("src/**/*.{rs,toml}")
     >>> glob.is_match("src/a/b.rs")
@@ -9,6 +9,8 @@
     >>> ignored.is_ignored("a/b.log")
     True
 
+`walk` yields the files and folders that a glob matches.
+
 The library is loaded from the path in the environment variable `WAX_LIBRARY`. If that isn't set, it is `libwax.so` in
 the folder of this file or, if there is none, the system's `libwax.so.0`. The script `library` of the repository builds
 it. `crates/wax_c/README.md` says what is proved.
@@ -17,13 +19,16 @@ it. `crates/wax_c/README.md` says what is proved.
 from __future__ import annotations
 
 import ctypes
+import errno
 import itertools
 import os
+import stat
 import threading
-from typing import Any, Callable, Iterable, Iterator, List, Optional, Sequence, Tuple
+from typing import Any, Callable, Iterable, Iterator, List, NoReturn, Optional, Sequence, Tuple, Union
 
 __all__ = [
     "BuildError",
+    "Entry",
     "Error",
     "Glob",
     "GlobSet",
@@ -32,6 +37,7 @@ __all__ = [
     "Matched",
     "escape",
     "is_match",
+    "walk",
 ]
 
 # how many paths a filter passes in one call
@@ -151,8 +157,8 @@ def _loaded() -> ctypes.CDLL:
 
 _library = _loaded()
 
-# The calls that decide something about a path. A call by PyDLL keeps the lock of the interpreter, and one without
-# argtypes converts no arguments, so all are passed as ctypes' own types and bytes: that takes a third of the time.
+# The calls that decide something about a path. By PyDLL they keep the lock of the interpreter, and without argtypes
+# nothing converts their arguments, which are bytes and numbers of ctypes: so an empty call takes a third of the time.
 _deciding = ctypes.PyDLL(_path_of_library())
 _glob_is_match = _deciding.wax_glob_is_match
 _glob_goes_on = _deciding.wax_glob_goes_on
@@ -170,8 +176,9 @@ for _function in (
 ):
     _function.restype = ctypes.c_int32
 
-# the lengths of most paths, since making one takes as long as a call
-_LENGTHS = [ctypes.c_size_t(length) for length in range(512)]
+# the lengths of most paths, since to make one takes half as long as a call
+_SHORT = 512
+_LENGTHS = [ctypes.c_size_t(length) for length in range(_SHORT)]
 
 
 def _decided(function: Any, handle: ctypes.c_void_p, path: str) -> bool:
@@ -181,7 +188,7 @@ def _decided(function: Any, handle: ctypes.c_void_p, path: str) -> bool:
     except UnicodeEncodeError:
         raise Error(20) from None
     length = len(text)
-    status = function(handle, text, _LENGTHS[length] if length < 512 else ctypes.c_size_t(length))
+    status = function(handle, text, _LENGTHS[length] if length < _SHORT else ctypes.c_size_t(length))
     if status < 0:
         _raise(-status)
     return bool(status)
@@ -195,13 +202,13 @@ def _bytes(text: str) -> bytes:
         raise Error(20) from None
 
 
-def _raise(number: int) -> None:
+def _raise(number: int) -> NoReturn:
     if number == 10:
         raise MemoryError
     raise Error(number)
 
 
-def _raise_built(number: int, expression: str, span: _Span) -> None:
+def _raise_built(number: int, expression: str, span: _Span) -> NoReturn:
     """Raises the error of an expression that isn't built."""
     if number in (10, 20):
         _raise(number)
@@ -456,6 +463,12 @@ class Glob(_Held):
         _, prefix = _written(_library.wax_glob_partition, self._handle, room=self._most_captures, out=out)
         return prefix, rest if rest._handle else None
 
+    def _expressions(self) -> Sequence[Optional[str]]:
+        return [self.expression]
+
+    def _prefixes(self) -> List[str]:
+        return [self.partition()[0]]
+
 
 class GlobSet(_Held):
     """A set of globs, built from expressions. `expressions` are these.
@@ -514,6 +527,12 @@ class GlobSet(_Held):
         """
         return _decided(_set_goes_on, self._handle, folder)
 
+    def _expressions(self) -> Sequence[Optional[str]]:
+        return self.expressions
+
+    def _prefixes(self) -> List[str]:
+        return [Glob(expression).partition()[0] for expression in self.expressions]
+
 
 class IgnoreList(_Held):
     """An ignore list, with a glob on each line: paths that it matches are ignored or, after a `!`, aren't. The last
@@ -570,3 +589,214 @@ class IgnoreList(_Held):
 
     def _keeps(self, path: str) -> bool:
         return not _decided(_ignore_is_ignored, self._handle, path)
+
+
+class Entry:
+    """A file, a link or a folder that `walk` yields. It has what an `os.DirEntry` has, except for `inode`.
+
+    `path` begins with the root of the walk, so that it can be opened. `candidate` is the path that the glob matches,
+    which begins below the root. `depth` is the number of names in it.
+    """
+
+    __slots__ = ("path", "candidate", "depth", "_found")
+
+    def __init__(self, path: str, candidate: str, depth: int, found: Optional[os.DirEntry[str]] = None) -> None:
+        self.path = path
+        self.candidate = candidate
+        self.depth = depth
+        self._found = found
+
+    def __fspath__(self) -> str:
+        return self.path
+
+    def __repr__(self) -> str:
+        return f"<Entry {self.path!r}>"
+
+    @property
+    def name(self) -> str:
+        """The last name of the path."""
+        return self._found.name if self._found else os.path.basename(self.path)
+
+    def stat(self, *, follow_symlinks: bool = True) -> os.stat_result:
+        """Returns what `os.stat` returns for the path."""
+        if self._found:
+            return self._found.stat(follow_symlinks=follow_symlinks)
+        return os.stat(self.path, follow_symlinks=follow_symlinks)
+
+    def is_dir(self, *, follow_symlinks: bool = True) -> bool:
+        """Returns whether this is a folder or, unless `follow_symlinks` is false, a link to one."""
+        if self._found:
+            return self._found.is_dir(follow_symlinks=follow_symlinks)
+        return self._has_mode(stat.S_ISDIR, follow_symlinks)
+
+    def is_file(self, *, follow_symlinks: bool = True) -> bool:
+        """Returns whether this is a file or, unless `follow_symlinks` is false, a link to one."""
+        if self._found:
+            return self._found.is_file(follow_symlinks=follow_symlinks)
+        return self._has_mode(stat.S_ISREG, follow_symlinks)
+
+    def is_symlink(self) -> bool:
+        """Returns whether this is a link."""
+        return self._found.is_symlink() if self._found else os.path.islink(self.path)
+
+    def _has_mode(self, test: Callable[[int], bool], follow_symlinks: bool) -> bool:
+        try:
+            return test(self.stat(follow_symlinks=follow_symlinks).st_mode)
+        except FileNotFoundError:
+            return False
+
+
+Pattern = Union[str, Glob, GlobSet]
+_OnError = Callable[[OSError], object]
+
+
+def walk(
+    root: Union[str, os.PathLike[str]],
+    pattern: Pattern,
+    *,
+    exclude: Union[Pattern, Iterable[Pattern]] = (),
+    ignore: Optional[IgnoreList] = None,
+    min_depth: int = 0,
+    max_depth: Optional[int] = None,
+    onerror: Optional[_OnError] = None,
+) -> Iterator[Entry]:
+    """Yields an `Entry` for each file, link and folder below the folder `root` whose path from there the pattern
+    matches, in no particular order. The root itself has the empty path. Links aren't followed, the root neither.
+
+    `pattern` is an expression, a `Glob` or a `GlobSet`. If all that it matches begins with `/`, the walk begins at the
+    root of the file system.
+
+    - `exclude` is one pattern or several: what they match isn't yielded.
+    - `ignore` is a list: what it ignores isn't yielded.
+    - `min_depth` and `max_depth` are the least and the greatest number of names that a path from the root may have.
+    - `onerror` is called with an `OSError` for each folder that can't be opened and each name that isn't UTF-8, as by
+      `os.walk`. The walk then goes on. Without it, errors are ignored.
+
+    A folder is opened only if something below it can match, by `goes_on`, and if neither an excluded pattern nor the
+    list excludes everything below it, by `excludes_below`. The loop is Python's own, over `os.scandir`. What is proved
+    are these decisions about each path, and not the walk.
+
+    Raises `BuildError` if an expression can't be built, `MemoryError` if an allocation fails.
+
+        >>> import pathlib, tempfile
+        >>> with tempfile.TemporaryDirectory() as root:
+        ...     for name in ["src/net/tcp.c", "src/main.rs", "docs/guide.md", "README.md"]:
+        ...         path = pathlib.Path(root, name)
+        ...         path.parent.mkdir(parents=True, exist_ok=True)
+        ...         path.touch()
+        ...     found = walk(root, "{src/**,*.md}", exclude="**/*.rs")
+        ...     sorted(entry.candidate for entry in found if entry.is_file())
+        ['README.md', 'src/net/tcp.c']
+    """
+    patterns = [exclude] if isinstance(exclude, (str, Glob, GlobSet)) else list(exclude)
+    excluding = _Exclusion([_built(it) for it in patterns], ignore)
+    deepest = float("inf") if max_depth is None else max_depth
+    return _walk(os.fspath(root), _built(pattern), excluding, min_depth, deepest, onerror or (lambda _: None))
+
+
+def _built(pattern: Pattern) -> Union[Glob, GlobSet]:
+    return Glob(pattern) if isinstance(pattern, str) else pattern
+
+
+class _Exclusion:
+    """What a walk excludes: the paths that patterns match, and those that an ignore list ignores.
+
+    The patterns are lines of another list, which says below which folders they exclude everything. An expression
+    that can't be written as a line is matched by itself.
+    """
+
+    def __init__(self, patterns: Sequence[Union[Glob, GlobSet]], ignore: Optional[IgnoreList]) -> None:
+        lines: List[str] = []
+        self._others: List[Union[Glob, GlobSet]] = []
+        for pattern in patterns:
+            expressions = pattern._expressions()
+            written = [it for it in expressions if it and "\n" not in it]
+            # (a carriage return at the end of a line is dropped, and `#` and `!` at its beginning aren't of the glob)
+            lines += [f"{'(?-i)' if it[0] in '#!' else ''}{it}\r\n" for it in written]
+            if len(written) < len(expressions):
+                self._others.append(pattern)
+        self._lists = [IgnoreList("".join(lines))] if lines else []
+        if ignore is not None:
+            self._lists.append(ignore)
+
+    def excludes(self, path: str) -> bool:
+        return any(it.is_ignored(path) for it in self._lists) or any(it.is_match(path) for it in self._others)
+
+    def excludes_below(self, folder: str) -> bool:
+        return any(it.excludes_below(folder) for it in self._lists)
+
+
+def _walk(
+    root: str,
+    pattern: Union[Glob, GlobSet],
+    excluding: _Exclusion,
+    min_depth: int,
+    max_depth: float,
+    onerror: _OnError,
+) -> Iterator[Entry]:
+    left = _begun(root, pattern, max_depth, onerror)
+    while left:
+        entry = left.pop()
+        path = entry.candidate
+        if min_depth <= entry.depth <= max_depth and pattern.is_match(path) and not excluding.excludes(path):
+            yield entry
+        if entry.depth < max_depth and _is_folder(entry):
+            if pattern.goes_on(path) and not excluding.excludes_below(path):
+                left += reversed(_listed(entry, onerror))
+
+
+def _is_folder(entry: Entry) -> bool:
+    try:
+        return entry.is_dir(follow_symlinks=False)
+    except OSError:
+        return False
+
+
+def _begun(root: str, pattern: Union[Glob, GlobSet], max_depth: float, onerror: _OnError) -> List[Entry]:
+    """Returns the entry at which a walk begins, in a list that is empty if nothing is there: with the prefix of all
+    matches. On the way to it nothing is opened."""
+    prefixes = [it for it in pattern._prefixes() if "//" not in it]
+    if not prefixes:
+        return []
+    roots = {it.startswith("/") for it in prefixes}
+    names = [[name for name in it.split("/") if name] for it in prefixes] if len(roots) == 1 else [[]]
+    shared = os.path.commonprefix(names)
+    if len(shared) > max_depth:
+        return []
+    candidate = "/" if roots == {True} else ""
+    path = candidate or root
+    try:
+        is_folder = stat.S_ISDIR(os.lstat(path).st_mode)
+        for name in shared:
+            if not is_folder:
+                raise NotADirectoryError(errno.ENOTDIR, os.strerror(errno.ENOTDIR), path)
+            candidate, path = _before_name(candidate) + name, os.path.join(path, name)
+            is_folder = stat.S_ISDIR(os.lstat(path).st_mode)
+    except OSError as error:
+        onerror(error)
+        return []
+    return [Entry(path, candidate, len(shared))]
+
+
+def _before_name(folder: str) -> str:
+    """Returns what comes before a name in the paths of what is in a folder."""
+    return folder if folder in ("", "/") else f"{folder}/"
+
+
+def _listed(folder: Entry, onerror: _OnError) -> List[Entry]:
+    """Returns the entries in a folder."""
+    try:
+        with os.scandir(folder.path) as items:
+            found = list(items)
+    except OSError as error:
+        onerror(error)
+        return []
+    before, depth, entries = _before_name(folder.candidate), folder.depth + 1, []
+    for item in found:
+        try:
+            item.name.encode()
+        except UnicodeEncodeError:
+            onerror(OSError(errno.EILSEQ, os.strerror(errno.EILSEQ), item.path))
+        else:
+            entries.append(Entry(item.path, before + item.name, depth, item))
+    return entries
