@@ -38,13 +38,14 @@ explain:
 library:
 	./library
 
-bench: globs explain
+bench: globs explain library
 	cd crates/wax_vectors && rt run </dev/null
 	bench/table
 	bench/run
 	bench/families
 	bench/lists
 	bench/compare
+	bench/python
 	bench/folders
 	bench/shards
 
