@@ -646,6 +646,7 @@ class Entry:
             return False
 
 
+# an expression, or what is built from one or several
 Pattern = Union[str, Glob, GlobSet]
 _OnError = Callable[[OSError], object]
 
@@ -660,23 +661,25 @@ def walk(
     max_depth: Optional[int] = None,
     onerror: Optional[_OnError] = None,
 ) -> Iterator[Entry]:
-    """Yields an `Entry` for each file, link and folder below the folder `root` whose path from there the pattern
-    matches, in no particular order. The root itself has the empty path. Links aren't followed, the root neither.
+    """Yields an `Entry` for each file, link and folder in the folder `root`, at any depth, whose path from there the
+    pattern matches. The order is that of the file system. `root` itself has the empty path. No links are followed: if
+    `root` is one, nothing in it is found.
 
     `pattern` is an expression, a `Glob` or a `GlobSet`. If all that it matches begins with `/`, the walk begins at the
-    root of the file system.
+    root of the file system, and `root` is ignored.
 
     - `exclude` is one pattern or several: what they match isn't yielded.
     - `ignore` is a list: what it ignores isn't yielded.
-    - `min_depth` and `max_depth` are the least and the greatest number of names that a path from the root may have.
-    - `onerror` is called with an `OSError` for each folder that can't be opened and each name that isn't UTF-8, as by
-      `os.walk`. The walk then goes on. Without it, errors are ignored.
+    - `min_depth` and `max_depth` are the least and the greatest number of names that a path may have.
+    - `onerror` is called with an `OSError` if a folder isn't there or can't be opened, or if a name isn't UTF-8. The
+      walk then goes on if it can. Without it such errors are ignored, as by `os.walk`.
 
     A folder is opened only if something below it can match, by `goes_on`, and if neither an excluded pattern nor the
-    list excludes everything below it, by `excludes_below`. The loop is Python's own, over `os.scandir`. What is proved
-    are these decisions about each path, and not the walk.
+    list excludes everything below it, by `excludes_below`. The loop is Python's own, over `os.scandir`: what is proved
+    is each of these decisions about a path, and not the walk.
 
-    Raises `BuildError` if an expression can't be built, `MemoryError` if an allocation fails.
+    Raises `BuildError` if an expression can't be built, `Error` 9 if the excluded patterns together are too large,
+    `MemoryError` if an allocation fails.
 
         >>> import pathlib, tempfile
         >>> with tempfile.TemporaryDirectory() as root:
@@ -711,7 +714,7 @@ class _Exclusion:
         for pattern in patterns:
             expressions = pattern._expressions()
             written = [it for it in expressions if it and "\n" not in it]
-            # (a carriage return at the end of a line is dropped, and `#` and `!` at its beginning aren't of the glob)
+            # (a line's last carriage return is dropped, and a `#` or `!` at its beginning isn't part of the glob)
             lines += [f"{'(?-i)' if it[0] in '#!' else ''}{it}\r\n" for it in written]
             if len(written) < len(expressions):
                 self._others.append(pattern)
@@ -753,8 +756,8 @@ def _is_folder(entry: Entry) -> bool:
 
 
 def _begun(root: str, pattern: Union[Glob, GlobSet], max_depth: float, onerror: _OnError) -> List[Entry]:
-    """Returns the entry at which a walk begins, in a list that is empty if nothing is there: with the prefix of all
-    matches. On the way to it nothing is opened."""
+    """Returns the entry at which a walk begins, at the names with which all matches begin, in a list that is empty if
+    nothing is there. On the way to it no folder is opened."""
     prefixes = [it for it in pattern._prefixes() if "//" not in it]
     if not prefixes:
         return []
