@@ -737,15 +737,19 @@ def _walk(
     max_depth: float,
     onerror: _OnError,
 ) -> Iterator[Entry]:
-    left = _begun(root, pattern, max_depth, onerror)
-    while left:
-        entry = left.pop()
-        path = entry.candidate
-        if min_depth <= entry.depth <= max_depth and pattern.is_match(path) and not excluding.excludes(path):
-            yield entry
-        if entry.depth < max_depth and _is_folder(entry):
-            if pattern.goes_on(path) and not excluding.excludes_below(path):
-                left += reversed(_listed(entry, onerror))
+    # what is left of each folder that contains the entry
+    levels = [_begun(root, pattern, max_depth, onerror)]
+    while levels:
+        for entry in levels[-1]:
+            path = entry.candidate
+            if min_depth <= entry.depth and pattern.is_match(path) and not excluding.excludes(path):
+                yield entry
+            if entry.depth < max_depth and _is_folder(entry):
+                if pattern.goes_on(path) and not excluding.excludes_below(path):
+                    levels.append(_listed(entry, onerror))
+                    break
+        else:
+            levels.pop()
 
 
 def _is_folder(entry: Entry) -> bool:
@@ -755,17 +759,17 @@ def _is_folder(entry: Entry) -> bool:
         return False
 
 
-def _begun(root: str, pattern: Union[Glob, GlobSet], max_depth: float, onerror: _OnError) -> List[Entry]:
-    """Returns the entry at which a walk begins, at the names with which all matches begin, in a list that is empty if
-    nothing is there. On the way to it no folder is opened."""
+def _begun(root: str, pattern: Union[Glob, GlobSet], max_depth: float, onerror: _OnError) -> Iterator[Entry]:
+    """Yields the entry at which a walk begins, at the names with which all matches begin, if something is there. On the
+    way to it no folder is opened."""
     prefixes = [it for it in pattern._prefixes() if "//" not in it]
     if not prefixes:
-        return []
+        return
     roots = {it.startswith("/") for it in prefixes}
     names = [[name for name in it.split("/") if name] for it in prefixes] if len(roots) == 1 else [[]]
     shared = os.path.commonprefix(names)
     if len(shared) > max_depth:
-        return []
+        return
     candidate = "/" if roots == {True} else ""
     path = candidate or root
     try:
@@ -777,8 +781,8 @@ def _begun(root: str, pattern: Union[Glob, GlobSet], max_depth: float, onerror: 
             is_folder = stat.S_ISDIR(os.lstat(path).st_mode)
     except OSError as error:
         onerror(error)
-        return []
-    return [Entry(path, candidate, len(shared))]
+    else:
+        yield Entry(path, candidate, len(shared))
 
 
 def _before_name(folder: str) -> str:
@@ -786,20 +790,19 @@ def _before_name(folder: str) -> str:
     return folder if folder in ("", "/") else f"{folder}/"
 
 
-def _listed(folder: Entry, onerror: _OnError) -> List[Entry]:
-    """Returns the entries in a folder."""
+def _listed(folder: Entry, onerror: _OnError) -> Iterator[Entry]:
+    """Yields the entries in a folder."""
     try:
         with os.scandir(folder.path) as items:
             found = list(items)
     except OSError as error:
         onerror(error)
-        return []
-    before, depth, entries = _before_name(folder.candidate), folder.depth + 1, []
+        return
+    before, depth = _before_name(folder.candidate), folder.depth + 1
     for item in found:
         try:
             item.name.encode()
         except UnicodeEncodeError:
             onerror(OSError(errno.EILSEQ, os.strerror(errno.EILSEQ), item.path))
         else:
-            entries.append(Entry(item.path, before + item.name, depth, item))
-    return entries
+            yield Entry(item.path, before + item.name, depth, item)
