@@ -294,7 +294,7 @@ class Walking(unittest.TestCase):
         opened, scandir = [], os.scandir
 
         def opening(folder):
-            opened.append(os.path.relpath(folder, self.root).replace(".", ""))
+            opened.append("" if folder == self.root else os.path.relpath(folder, self.root))
             return scandir(folder)
 
         with mock.patch("os.scandir", opening):

@@ -389,7 +389,8 @@ class Glob(_Held):
         """Yields the paths that the glob matches, in order.
 
         Paths are passed to the library 4,096 at a time; if one of these contains a line feed, they are passed one by
-        one. For 100,000 paths and four patterns this took 0.25 to 0.8 of the time that `re` took.
+        one. For 100,000 paths and four patterns this took 0.3 to 0.9 of the time that `re` took, and a quarter to 0.3
+        of that of `is_match` in a loop.
 
         Raises `MemoryError` if an allocation fails.
         """
