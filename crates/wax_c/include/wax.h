@@ -151,7 +151,7 @@ int32_t wax_ignore_filter(const wax_ignore *list, const char *input, size_t inpu
                           size_t output_length, size_t *written);
 
 /* Returns 1 if the list ignores everything below the folder with this path, so that a walk needn't open it; 0 if
- * something below it might not be ignored. The path has no `/` at its end. */
+ * something below it might not be ignored. If a `/` follows the last name of the path, 1 promises nothing. */
 int32_t wax_ignore_excludes_below(const wax_ignore *list, const char *folder, size_t folder_length);
 
 /* Frees a handle. Does nothing if it is null. */
