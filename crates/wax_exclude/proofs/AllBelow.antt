@@ -72,151 +72,150 @@ differ [] x y other a b e = other (cc)
 differ (n ∷ names) x y other a b e =
     let rest : (names ++ y ∷ []) ++ a ≡ (names ++ x ∷ []) ++ b = cc in differ names x y other a b rest
 
-module _ (root : List ℕ) where
-  entry_avoids : (at : Location) (names others : List (List ℕ)) (x : List ℕ) → IsAt root at others → IsPlain x
-      → Clash names (others ++ x ∷ []) → (more : List (List ℕ))
-      → names_in_path (join at.candidate x) ≡ names ++ more → ⊥
-  entry_avoids at names others x here plain clash more e =
-      clash [] more (append-nil (others ++ x ∷ []) ∙ sym (item_names root at others x here plain) ∙ e)
+entry_avoids : (at : Location) (names others : List (List ℕ)) (x : List ℕ) → IsAt at others → IsPlain x
+    → Clash names (others ++ x ∷ []) → (more : List (List ℕ))
+    → names_in_path (join at.candidate x) ≡ names ++ more → ⊥
+entry_avoids at names others x here plain clash more e =
+    clash [] more (append-nil (others ++ x ∷ []) ∙ sym (item_names at others x here plain) ∙ e)
 
-  clash_avoids : (at : Location) (l : Items) (names others : List (List ℕ)) (ys : List Given)
-      → IsAt root at others → ArePlainItems l → Clash names others → Avoids names ys
-      → Avoids names (whole_items root at l ++ ys)
-  clash_avoids at end names others ys here plain clash rest = rest
-  clash_avoids at (leaf x link l) names others ys here plain clash rest = (
-    entry_avoids at names others x here plain.0 (clash_more names others x clash),
-    clash_avoids at l names others ys here plain.1 clash rest,
-  )
-  clash_avoids at (folder x inner l) names others ys here plain clash rest =
-      let deep : List Given = whole_items root (one_deeper (item_location at x)) inner in
-      let more : List Given = whole_items root at l in (
-        entry_avoids at names others x here plain.0 (clash_more names others x clash),
-        subst (Avoids names) (sym (append_assoc deep more ys))
-            (clash_avoids (one_deeper (item_location at x)) inner names (others ++ x ∷ []) (more ++ ys)
-            (below_at root at others x here plain.0) plain.1 (clash_more names others x clash)
-            (clash_avoids at l names others ys here plain.2 clash rest)),
-      )
-  clash_avoids at (sealed x l) names others ys here plain clash rest = (
-    entry_avoids at names others x here plain.0 (clash_more names others x clash),
-    clash_avoids at l names others ys here plain.1 clash rest,
-  )
-  clash_avoids at (misnamed x kind l) names others ys here plain clash rest =
-      clash_avoids at l names others ys here plain clash rest
-  clash_avoids at (unread l) names others ys here plain clash rest =
-      clash_avoids at l names others ys here plain clash rest
-  clash_avoids at (not_text l) names others ys here plain clash rest =
-      clash_avoids at l names others ys here plain clash rest
+clash_avoids : (at : Location) (l : Items) (names others : List (List ℕ)) (ys : List Given)
+    → IsAt at others → ArePlainItems l → Clash names others → Avoids names ys
+    → Avoids names (whole_items at l ++ ys)
+clash_avoids at end names others ys here plain clash rest = rest
+clash_avoids at (leaf x link l) names others ys here plain clash rest = (
+  entry_avoids at names others x here plain.0 (clash_more names others x clash),
+  clash_avoids at l names others ys here plain.1 clash rest,
+)
+clash_avoids at (folder x inner l) names others ys here plain clash rest =
+    let deep : List Given = whole_items (one_deeper (item_location at x)) inner in
+    let more : List Given = whole_items at l in (
+      entry_avoids at names others x here plain.0 (clash_more names others x clash),
+      subst (Avoids names) (sym (append_assoc deep more ys))
+          (clash_avoids (one_deeper (item_location at x)) inner names (others ++ x ∷ []) (more ++ ys)
+          (below_at at others x here plain.0) plain.1 (clash_more names others x clash)
+          (clash_avoids at l names others ys here plain.2 clash rest)),
+    )
+clash_avoids at (sealed x l) names others ys here plain clash rest = (
+  entry_avoids at names others x here plain.0 (clash_more names others x clash),
+  clash_avoids at l names others ys here plain.1 clash rest,
+)
+clash_avoids at (misnamed x kind l) names others ys here plain clash rest =
+    clash_avoids at l names others ys here plain clash rest
+clash_avoids at (unread l) names others ys here plain clash rest =
+    clash_avoids at l names others ys here plain clash rest
+clash_avoids at (not_text l) names others ys here plain clash rest =
+    clash_avoids at l names others ys here plain clash rest
 
-  -- other names of the same folder, with what is below them
-  others_avoid : (at : Location) (l : Items) (names : List (List ℕ)) (x : List ℕ) (ys : List Given)
-      → IsAt root at names → ArePlainItems l → IsNew x l → Avoids (names ++ x ∷ []) ys
-      → Avoids (names ++ x ∷ []) (whole_items root at l ++ ys)
-  others_avoid at end names x ys here plain new rest = rest
-  others_avoid at (leaf y link l) names x ys here plain new rest = (
-    entry_avoids at (names ++ x ∷ []) names y here plain.0 (differ names x y new.0),
-    others_avoid at l names x ys here plain.1 new.1 rest,
-  )
-  others_avoid at (folder y inner l) names x ys here plain new rest =
-      let deep : List Given = whole_items root (one_deeper (item_location at y)) inner in
-      let more : List Given = whole_items root at l in (
-        entry_avoids at (names ++ x ∷ []) names y here plain.0 (differ names x y new.0),
-        subst (Avoids (names ++ x ∷ [])) (sym (append_assoc deep more ys))
-            (clash_avoids (one_deeper (item_location at y)) inner (names ++ x ∷ []) (names ++ y ∷ []) (more ++ ys)
-            (below_at root at names y here plain.0) plain.1 (differ names x y new.0)
-            (others_avoid at l names x ys here plain.2 new.1 rest)),
-      )
-  others_avoid at (sealed y l) names x ys here plain new rest = (
-    entry_avoids at (names ++ x ∷ []) names y here plain.0 (differ names x y new.0),
-    others_avoid at l names x ys here plain.1 new.1 rest,
-  )
-  others_avoid at (misnamed y kind l) names x ys here plain new rest =
-      others_avoid at l names x ys here plain new rest
-  others_avoid at (unread l) names x ys here plain new rest = others_avoid at l names x ys here plain new rest
-  others_avoid at (not_text l) names x ys here plain new rest = others_avoid at l names x ys here plain new rest
+-- other names of the same folder, with what is below them
+others_avoid : (at : Location) (l : Items) (names : List (List ℕ)) (x : List ℕ) (ys : List Given)
+    → IsAt at names → ArePlainItems l → IsNew x l → Avoids (names ++ x ∷ []) ys
+    → Avoids (names ++ x ∷ []) (whole_items at l ++ ys)
+others_avoid at end names x ys here plain new rest = rest
+others_avoid at (leaf y link l) names x ys here plain new rest = (
+  entry_avoids at (names ++ x ∷ []) names y here plain.0 (differ names x y new.0),
+  others_avoid at l names x ys here plain.1 new.1 rest,
+)
+others_avoid at (folder y inner l) names x ys here plain new rest =
+    let deep : List Given = whole_items (one_deeper (item_location at y)) inner in
+    let more : List Given = whole_items at l in (
+      entry_avoids at (names ++ x ∷ []) names y here plain.0 (differ names x y new.0),
+      subst (Avoids (names ++ x ∷ [])) (sym (append_assoc deep more ys))
+          (clash_avoids (one_deeper (item_location at y)) inner (names ++ x ∷ []) (names ++ y ∷ []) (more ++ ys)
+          (below_at at names y here plain.0) plain.1 (differ names x y new.0)
+          (others_avoid at l names x ys here plain.2 new.1 rest)),
+    )
+others_avoid at (sealed y l) names x ys here plain new rest = (
+  entry_avoids at (names ++ x ∷ []) names y here plain.0 (differ names x y new.0),
+  others_avoid at l names x ys here plain.1 new.1 rest,
+)
+others_avoid at (misnamed y kind l) names x ys here plain new rest =
+    others_avoid at l names x ys here plain new rest
+others_avoid at (unread l) names x ys here plain new rest = others_avoid at l names x ys here plain new rest
+others_avoid at (not_text l) names x ys here plain new rest = others_avoid at l names x ys here plain new rest
 
-  -- what is in a folder is deeper than the folder
-  all_under : (at : Location) (l : Items) (d : ℕ) (names : List (List ℕ)) (ys : List Given) → d < at.depth
-      → Under d names ys → Under d names (whole_items root at l ++ ys)
-  all_under at end d names ys less rest = rest
-  all_under at (leaf x link l) d names ys less rest =
-      inl (lt-ltb d at.depth less, all_under at l d names ys less rest)
-  all_under at (folder x inner l) d names ys less rest =
-      let deep : List Given = whole_items root (one_deeper (item_location at x)) inner in
-      let more : List Given = whole_items root at l in
+-- what is in a folder is deeper than the folder
+all_under : (at : Location) (l : Items) (d : ℕ) (names : List (List ℕ)) (ys : List Given) → d < at.depth
+    → Under d names ys → Under d names (whole_items at l ++ ys)
+all_under at end d names ys less rest = rest
+all_under at (leaf x link l) d names ys less rest =
+    inl (lt-ltb d at.depth less, all_under at l d names ys less rest)
+all_under at (folder x inner l) d names ys less rest =
+    let deep : List Given = whole_items (one_deeper (item_location at x)) inner in
+    let more : List Given = whole_items at l in
+    inl (
+      lt-ltb d at.depth less,
+      subst (Under d names) (sym (append_assoc deep more ys))
+          (all_under (one_deeper (item_location at x)) inner d names (more ++ ys) (omega (arith, less))
+          (all_under at l d names ys less rest)),
+    )
+all_under at (sealed x l) d names ys less rest =
+    inl (
+      lt-ltb d at.depth less,
       inl (
-        lt-ltb d at.depth less,
-        subst (Under d names) (sym (append_assoc deep more ys))
-            (all_under (one_deeper (item_location at x)) inner d names (more ++ ys) (omega (arith, less))
-            (all_under at l d names ys less rest)),
-      )
-  all_under at (sealed x l) d names ys less rest =
-      inl (
-        lt-ltb d at.depth less,
-        inl (
-          not_less at.depth d (omega (arith, less)),
-          all_under at l d names ys less rest,
-        ),
-      )
-  all_under at (misnamed x kind l) d names ys less rest =
-      inl (not_less (at.depth - 1) d (omega (arith, less)), all_under at l d names ys less rest)
-  all_under at (unread l) d names ys less rest =
-      inl (not_less (at.depth - 1) d (omega (arith, less)), all_under at l d names ys less rest)
-  all_under at (not_text l) d names ys less rest =
-      inl (not_less (at.depth - 1) d (omega (arith, less)), all_under at l d names ys less rest)
+        not_less at.depth d (omega (arith, less)),
+        all_under at l d names ys less rest,
+      ),
+    )
+all_under at (misnamed x kind l) d names ys less rest =
+    inl (not_less (at.depth - 1) d (omega (arith, less)), all_under at l d names ys less rest)
+all_under at (unread l) d names ys less rest =
+    inl (not_less (at.depth - 1) d (omega (arith, less)), all_under at l d names ys less rest)
+all_under at (not_text l) d names ys less rest =
+    inl (not_less (at.depth - 1) d (omega (arith, less)), all_under at l d names ys less rest)
 
-  under_item : (at : Location) (names : List (List ℕ)) (x : List ℕ) (xs : List Given) → IsAt root at names
-      → IsPlain x → Under at.depth (names ++ x ∷ []) xs → Under at.depth (names_in_path (join at.candidate x)) xs
-  under_item at names x xs here plain h =
-      subst (λ ns. Under at.depth ns xs) (sym (item_names root at names x here plain)) h
+under_item : (at : Location) (names : List (List ℕ)) (x : List ℕ) (xs : List Given) → IsAt at names
+    → IsPlain x → Under at.depth (names ++ x ∷ []) xs → Under at.depth (names_in_path (join at.candidate x)) xs
+under_item at names x xs here plain h =
+    subst (λ ns. Under at.depth ns xs) (sym (item_names at names x here plain)) h
 
-  items_split : (at : Location) (l : Items) (names : List (List ℕ)) (ys : List Given) → IsAt root at names
-      → ArePlainItems l → AreDistinct l → Avoids names ys → Splits ys → Splits (whole_items root at l ++ ys)
-  items_split at end names ys here plain distinct avoids rest = rest
-  items_split at (leaf x link l) names ys here plain distinct avoids rest =
-      let more : List Given = whole_items root at l ++ ys in (
-        under_item at names x more here plain.0 (avoids_under at.depth (names ++ x ∷ []) more
-            (others_avoid at l names x ys here plain.1 distinct.0 (avoids_more names x ys avoids))),
-        items_split at l names ys here plain.1 distinct.1 avoids rest,
-      )
-  items_split at (folder x inner l) names ys here plain distinct avoids rest =
-      let inside : Location = one_deeper (item_location at x) in
-      let deep : List Given = whole_items root inside inner in
-      let more : List Given = whole_items root at l in
-      let apart : Avoids (names ++ x ∷ []) (more ++ ys) =
-      others_avoid at l names x ys here plain.2 distinct.0 (avoids_more names x ys avoids) in
-      let same : (deep ++ more) ++ ys ≡ deep ++ (more ++ ys) = append_assoc deep more ys in (
-        under_item at names x ((deep ++ more) ++ ys) here plain.0
-            (subst (Under at.depth (names ++ x ∷ [])) (sym same)
-            (all_under inside inner at.depth (names ++ x ∷ []) (more ++ ys) (omega arith)
-            (avoids_under at.depth (names ++ x ∷ []) (more ++ ys) apart))),
-        subst Splits (sym same) (items_split inside inner (names ++ x ∷ []) (more ++ ys)
-            (below_at root at names x here plain.0) plain.1 distinct.1 apart
-            (items_split at l names ys here plain.2 distinct.2 avoids rest)),
-      )
-  items_split at (sealed x l) names ys here plain distinct avoids rest =
-      let more : List Given = whole_items root at l ++ ys in (
-        under_item at names x (fault Listing (join at.path x) at.depth ∷ more) here plain.0
-            (inl (
-              not_less at.depth at.depth (omega arith),
-              avoids_under at.depth (names ++ x ∷ []) more
-                  (others_avoid at l names x ys here plain.1 distinct.0 (avoids_more names x ys avoids)),
-            )),
-        items_split at l names ys here plain.1 distinct.1 avoids rest,
-      )
-  items_split at (misnamed x kind l) names ys here plain distinct avoids rest =
-      items_split at l names ys here plain distinct avoids rest
-  items_split at (unread l) names ys here plain distinct avoids rest =
-      items_split at l names ys here plain distinct avoids rest
-  items_split at (not_text l) names ys here plain distinct avoids rest =
-      items_split at l names ys here plain distinct avoids rest
+items_split : (at : Location) (l : Items) (names : List (List ℕ)) (ys : List Given) → IsAt at names
+    → ArePlainItems l → AreDistinct l → Avoids names ys → Splits ys → Splits (whole_items at l ++ ys)
+items_split at end names ys here plain distinct avoids rest = rest
+items_split at (leaf x link l) names ys here plain distinct avoids rest =
+    let more : List Given = whole_items at l ++ ys in (
+      under_item at names x more here plain.0 (avoids_under at.depth (names ++ x ∷ []) more
+          (others_avoid at l names x ys here plain.1 distinct.0 (avoids_more names x ys avoids))),
+      items_split at l names ys here plain.1 distinct.1 avoids rest,
+    )
+items_split at (folder x inner l) names ys here plain distinct avoids rest =
+    let inside : Location = one_deeper (item_location at x) in
+    let deep : List Given = whole_items inside inner in
+    let more : List Given = whole_items at l in
+    let apart : Avoids (names ++ x ∷ []) (more ++ ys) =
+    others_avoid at l names x ys here plain.2 distinct.0 (avoids_more names x ys avoids) in
+    let same : (deep ++ more) ++ ys ≡ deep ++ (more ++ ys) = append_assoc deep more ys in (
+      under_item at names x ((deep ++ more) ++ ys) here plain.0
+          (subst (Under at.depth (names ++ x ∷ [])) (sym same)
+          (all_under inside inner at.depth (names ++ x ∷ []) (more ++ ys) (omega arith)
+          (avoids_under at.depth (names ++ x ∷ []) (more ++ ys) apart))),
+      subst Splits (sym same) (items_split inside inner (names ++ x ∷ []) (more ++ ys)
+          (below_at at names x here plain.0) plain.1 distinct.1 apart
+          (items_split at l names ys here plain.2 distinct.2 avoids rest)),
+    )
+items_split at (sealed x l) names ys here plain distinct avoids rest =
+    let more : List Given = whole_items at l ++ ys in (
+      under_item at names x (fault Listing (join at.path x) at.depth ∷ more) here plain.0
+          (inl (
+            not_less at.depth at.depth (omega arith),
+            avoids_under at.depth (names ++ x ∷ []) more
+                (others_avoid at l names x ys here plain.1 distinct.0 (avoids_more names x ys avoids)),
+          )),
+      items_split at l names ys here plain.1 distinct.1 avoids rest,
+    )
+items_split at (misnamed x kind l) names ys here plain distinct avoids rest =
+    items_split at l names ys here plain distinct avoids rest
+items_split at (unread l) names ys here plain distinct avoids rest =
+    items_split at l names ys here plain distinct avoids rest
+items_split at (not_text l) names ys here plain distinct avoids rest =
+    items_split at l names ys here plain distinct avoids rest
 
 walk_splits : (start : List ℕ) (s : Shown) → IsPlainShown s → IsDistinct s → Splits (whole start s)
 walk_splits start (a_leaf link) plain distinct = (tt, tt)
 walk_splits start (a_folder l) plain distinct =
     let at : Location = one_deeper (start_location start) in
-    let items : List Given = whole_items start at l in (
-      subst (Under 0 []) (append-nil items) (all_under start at l 0 [] [] (omega arith) tt),
-      subst Splits (append-nil items) (items_split start at l [] []
+    let items : List Given = whole_items at l in (
+      subst (Under 0 []) (append-nil items) (all_under at l 0 [] [] (omega arith) tt),
+      subst Splits (append-nil items) (items_split at l [] []
           (record { has = refl; depth = refl }) plain distinct tt tt),
     )
 walk_splits start a_sealed plain distinct = (inl (refl, tt), tt)

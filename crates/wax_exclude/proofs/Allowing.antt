@@ -43,6 +43,6 @@ module _ (request : PlainRequest) where
   lists_allowed s named =
       subst (λ f. All (MayList (unignored_request request).wanted request.range (unignored_request request).origin)
       (listings (stacked (ignore_rules request.lines) f)))
-      (unchanged (plain (scope_in request.range request.start) s))
+      (unchanged (plain (scope_in request.range) request.start s))
       (lists_few (unignored_request request).wanted request.range request.range (unignored_request request).origin
       can_walk s named)

@@ -16,9 +16,9 @@ use Rattle.wax_walk.specs.Given.{Facts, Mark, Given, entry, fault, no_memory, cu
 use Rattle.wax_walk.specs.declared.error.FaultKind.TheVariants.{Listing}
 use Rattle.wax_walk.specs.Left.{are_below, is_cancelled, is_deeper}
 use Rattle.wax_exclude.specs.NamesBelow.{IsBelowCut}
-use Rattle.wax_tree.specs.Plain.{Location, start_location, item_location, one_deeper}
+use Rattle.wax_tree.specs.Plain.{Location, start_location, item_location, one_deeper, plain_entry}
 use Rattle.wax_exclude.specs.Premises.{ArePlainItems, IsPlainShown}
-use Rattle.wax_tree.specs.Whole.{whole, whole_entry, whole_items}
+use Rattle.wax_tree.specs.Whole.{whole, whole_items}
 
 abbrev pub names_of : Facts → List (List ℕ)
 names_of f = names_in_path f.candidate
@@ -39,74 +39,73 @@ Follows last (no_memory ∷ xs) = Follows last xs
 abbrev Extends : List (List ℕ) → List (List ℕ) → Type 0
 Extends last names = (k : ℕ) → k ≤ length names → take k names ≡ take k last
 
-module _ (root : List ℕ) where
-  -- the location of the items in a folder with these names
-  pub record IsAt (at : Location) (names : List (List ℕ)) : Type 0 where
-    pub has : names_in_path at.candidate ≡ names
-    pub depth : at.depth ≡ suc (length names)
+-- the location of the items in a folder with these names
+pub record IsAt (at : Location) (names : List (List ℕ)) : Type 0 where
+  pub has : names_in_path at.candidate ≡ names
+  pub depth : at.depth ≡ suc (length names)
 
-  one_longer : (names : List (List ℕ)) (x : List ℕ) → length (names ++ x ∷ []) ≡ suc (length names)
-  one_longer names x = omega (arith, length-append names (x ∷ []))
+one_longer : (names : List (List ℕ)) (x : List ℕ) → length (names ++ x ∷ []) ≡ suc (length names)
+one_longer names x = omega (arith, length-append names (x ∷ []))
 
-  pub item_names : (at : Location) (names : List (List ℕ)) (x : List ℕ) → IsAt at names → IsPlain x
-      → names_in_path (join at.candidate x) ≡ names ++ x ∷ []
-  item_names at names x here plain =
-      names_join at.candidate x (plainly x plain) ∙ ap (λ ns. ns ++ x ∷ []) here.has
+pub item_names : (at : Location) (names : List (List ℕ)) (x : List ℕ) → IsAt at names → IsPlain x
+    → names_in_path (join at.candidate x) ≡ names ++ x ∷ []
+item_names at names x here plain =
+    names_join at.candidate x (plainly x plain) ∙ ap (λ ns. ns ++ x ∷ []) here.has
 
-  pub below_at : (at : Location) (names : List (List ℕ)) (x : List ℕ) → IsAt at names → IsPlain x
-      → IsAt (one_deeper (item_location at x)) (names ++ x ∷ [])
-  below_at at names x here plain = record {
-    has = item_names at names x here plain;
-    depth = omega (arith, here.depth, one_longer names x);
-  }
+pub below_at : (at : Location) (names : List (List ℕ)) (x : List ℕ) → IsAt at names → IsPlain x
+    → IsAt (one_deeper (item_location at x)) (names ++ x ∷ [])
+below_at at names x here plain = record {
+  has = item_names at names x here plain;
+  depth = omega (arith, here.depth, one_longer names x);
+}
 
-  extends_itself : (names : List (List ℕ)) (x : List ℕ) → Extends (names ++ x ∷ []) names
-  extends_itself names x k within = sym (take-append-le k names (x ∷ []) within)
+extends_itself : (names : List (List ℕ)) (x : List ℕ) → Extends (names ++ x ∷ []) names
+extends_itself names x k within = sym (take-append-le k names (x ∷ []) within)
 
-  extends_above : (last names : List (List ℕ)) (x : List ℕ) → Extends last (names ++ x ∷ [])
-      → Extends last names
-  extends_above last names x e k within =
-      sym (take-append-le k names (x ∷ []) within) ∙ e k (omega (arith, within, one_longer names x))
+extends_above : (last names : List (List ℕ)) (x : List ℕ) → Extends last (names ++ x ∷ [])
+    → Extends last names
+extends_above last names x e k within =
+    sym (take-append-le k names (x ∷ []) within) ∙ e k (omega (arith, within, one_longer names x))
 
-  entry_follows : (at : Location) (names : List (List ℕ)) (x : List ℕ) (kind : FileType)
-      (last : List (List ℕ)) (xs : List Given) → IsAt at names → IsPlain x → Extends last names
-      → Follows (names ++ x ∷ []) xs → Follows last (whole_entry root (item_location at x) kind ∷ xs)
-  entry_follows at names x kind last xs here plain extends rest =
-      let is : names_in_path (join at.candidate x) ≡ names ++ x ∷ [] = item_names at names x here plain in
-      let continues : Continues last (names ++ x ∷ []) = λ k within. (
-      let few : k ≤ length names = omega (arith, within, one_longer names x) in
-      take-append-le k names (x ∷ []) few ∙ extends k few) in (
-        subst (Continues last) (sym is) continues,
-        ap length is ∙ one_longer names x ∙ sym here.depth,
-        subst (λ ns. Follows ns xs) (sym is) rest,
-      )
+entry_follows : (at : Location) (names : List (List ℕ)) (x : List ℕ) (kind : FileType)
+    (last : List (List ℕ)) (xs : List Given) → IsAt at names → IsPlain x → Extends last names
+    → Follows (names ++ x ∷ []) xs → Follows last (plain_entry (item_location at x) kind ∷ xs)
+entry_follows at names x kind last xs here plain extends rest =
+    let is : names_in_path (join at.candidate x) ≡ names ++ x ∷ [] = item_names at names x here plain in
+    let continues : Continues last (names ++ x ∷ []) = λ k within. (
+    let few : k ≤ length names = omega (arith, within, one_longer names x) in
+    take-append-le k names (x ∷ []) few ∙ extends k few) in (
+      subst (Continues last) (sym is) continues,
+      ap length is ∙ one_longer names x ∙ sym here.depth,
+      subst (λ ns. Follows ns xs) (sym is) rest,
+    )
 
-  items_follow : (at : Location) (l : Items) (names last : List (List ℕ)) (ys : List Given) → IsAt at names
-      → Extends last names → ArePlainItems l
-      → ((later : List (List ℕ)) → Extends later names → Follows later ys)
-      → Follows last (whole_items root at l ++ ys)
-  items_follow at end names last ys here extends plain rest = rest last extends
-  items_follow at (leaf x link l) names last ys here extends plain rest =
-      entry_follows at names x (leaf_kind link) last (whole_items root at l ++ ys) here plain.0 extends
-      (items_follow at l names (names ++ x ∷ []) ys here (extends_itself names x) plain.1 rest)
-  items_follow at (folder x inner l) names last ys here extends plain rest =
-      let deep : List Given = whole_items root (one_deeper (item_location at x)) inner in
-      let more : List Given = whole_items root at l in
-      entry_follows at names x Folder last ((deep ++ more) ++ ys) here plain.0 extends
-      (subst (Follows (names ++ x ∷ [])) (sym (append_assoc deep more ys))
-      (items_follow (one_deeper (item_location at x)) inner (names ++ x ∷ []) (names ++ x ∷ []) (more ++ ys)
-      (below_at at names x here plain.0) (λ k within. refl) plain.1
-      (λ later e. items_follow at l names later ys here (extends_above later names x e) plain.2 rest)))
-  items_follow at (sealed x l) names last ys here extends plain rest =
-      entry_follows at names x Folder last
-      (fault Listing (join at.path x) at.depth ∷ (whole_items root at l ++ ys)) here plain.0 extends
-      (items_follow at l names (names ++ x ∷ []) ys here (extends_itself names x) plain.1 rest)
-  items_follow at (misnamed x kind l) names last ys here extends plain rest =
-      items_follow at l names last ys here extends plain rest
-  items_follow at (unread l) names last ys here extends plain rest =
-      items_follow at l names last ys here extends plain rest
-  items_follow at (not_text l) names last ys here extends plain rest =
-      items_follow at l names last ys here extends plain rest
+items_follow : (at : Location) (l : Items) (names last : List (List ℕ)) (ys : List Given) → IsAt at names
+    → Extends last names → ArePlainItems l
+    → ((later : List (List ℕ)) → Extends later names → Follows later ys)
+    → Follows last (whole_items at l ++ ys)
+items_follow at end names last ys here extends plain rest = rest last extends
+items_follow at (leaf x link l) names last ys here extends plain rest =
+    entry_follows at names x (leaf_kind link) last (whole_items at l ++ ys) here plain.0 extends
+    (items_follow at l names (names ++ x ∷ []) ys here (extends_itself names x) plain.1 rest)
+items_follow at (folder x inner l) names last ys here extends plain rest =
+    let deep : List Given = whole_items (one_deeper (item_location at x)) inner in
+    let more : List Given = whole_items at l in
+    entry_follows at names x Folder last ((deep ++ more) ++ ys) here plain.0 extends
+    (subst (Follows (names ++ x ∷ [])) (sym (append_assoc deep more ys))
+    (items_follow (one_deeper (item_location at x)) inner (names ++ x ∷ []) (names ++ x ∷ []) (more ++ ys)
+    (below_at at names x here plain.0) (λ k within. refl) plain.1
+    (λ later e. items_follow at l names later ys here (extends_above later names x e) plain.2 rest)))
+items_follow at (sealed x l) names last ys here extends plain rest =
+    entry_follows at names x Folder last
+    (fault Listing (join at.path x) at.depth ∷ (whole_items at l ++ ys)) here plain.0 extends
+    (items_follow at l names (names ++ x ∷ []) ys here (extends_itself names x) plain.1 rest)
+items_follow at (misnamed x kind l) names last ys here extends plain rest =
+    items_follow at l names last ys here extends plain rest
+items_follow at (unread l) names last ys here extends plain rest =
+    items_follow at l names last ys here extends plain rest
+items_follow at (not_text l) names last ys here extends plain rest =
+    items_follow at l names last ys here extends plain rest
 
 no_names : Continues [] []
 no_names k within = absurd (omega (arith, within))
@@ -116,8 +115,8 @@ walk_follows start (a_leaf link) plain = (no_names, refl, tt)
 walk_follows start (a_folder l) plain = (
   no_names,
   refl,
-  subst (Follows []) (append-nil (whole_items start (one_deeper (start_location start)) l))
-      (items_follow start (one_deeper (start_location start)) l [] [] []
+  subst (Follows []) (append-nil (whole_items (one_deeper (start_location start)) l))
+      (items_follow (one_deeper (start_location start)) l [] [] []
       (record { has = refl; depth = refl }) (λ k within. refl) plain (λ later e. tt)),
 )
 walk_follows start a_sealed plain = (no_names, refl, tt)

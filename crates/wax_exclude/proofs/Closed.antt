@@ -9,7 +9,8 @@ use Rattle.std.proofs.lemmas.List.Elements.{All-contains, All-weaker}
 use Rattle.wax_facts.specs.Alternatives.{alternatives}
 use Rattle.wax_directory.specs.Shown.{Shown, a_leaf, a_folder, a_sealed, missing, failing, child_in}
 use Rattle.wax_token.specs.Decided.{means_test}
-use Rattle.wax_tree.specs.Begins.{Origin, scope_in}
+use Rattle.wax_tree.specs.Begins.{Origin, origin_location, scope_in}
+use Rattle.wax_tree.specs.Walking.{entry_location}
 use Rattle.wax_tree.specs.declared.steps.DepthRange.{DepthRange}
 use Rattle.wax_tree.specs.Plain.{WalkScope, Location, plain_at}
 use Rattle.wax_tree.specs.Prefix.{ArePlain, path_from, walk_from}
@@ -23,7 +24,7 @@ use Rattle.wax_exclude.proofs.Headline.{at_start}
 use Rattle.wax_exclude.proofs.Ignored.{below_tested}
 use Rattle.wax_exclude.proofs.Names.{at_join, at_sees}
 use Rattle.wax_exclude.proofs.Reaching.{plain_child}
-use Rattle.wax_exclude.proofs.Staying.{OfNames, location_of, AllLose, Lie, lie_at, lie_filtered, stay, stay_stacked}
+use Rattle.wax_exclude.proofs.Staying.{OfNames, AllLose, Lie, lie_at, lie_filtered, stay, stay_stacked}
 use Rattle.wax_exclude.proofs.Tests.{covers_tested}
 use Rattle.wax_exclude.specs.Candidates.{base, candidate_at}
 use Rattle.wax_exclude.specs.Covers.{covers_test}
@@ -32,7 +33,7 @@ use Rattle.wax_exclude.specs.inner.Descents.{At, child_location}
 use Rattle.wax_exclude.specs.Premises.{IsPlainShown}
 use Rattle.wax_exclude.specs.Pruned.{TestsBelow, opens_where, least_rules, IsUnmeantBelow, IsCovered}
 use Rattle.wax_exclude.specs.Pruned.{SomeCovers, IsCoveredBelow}
-use Rattle.wax_exclude.specs.Walked.{ExcludesBelow, origin_location, origin_walk}
+use Rattle.wax_exclude.specs.Walked.{ExcludesBelow, origin_walk}
 use Rattle.wax_exclude.specs.Wanted.{Filter, not_meant, not_ignored, Wanted, stacked, filter_mark, filter_rules}
 
 pub plain_later : (names others : List (List ℕ)) → ArePlain (names ++ others) → ArePlain others
@@ -63,7 +64,7 @@ lost_then Gone xs ys zs h k =
 module _ {A : Type 0} (w : Wanted A) (goes : List ℕ → Bool) (tested : TestsBelow goes w.rooted w.glob) (least : ℕ)
     (range : DepthRange) (origin : Origin) where
   abbrev scope : WalkScope
-  scope = scope_in range origin.root
+  scope = scope_in range
 
   abbrev start : List ℕ
   start = path_from origin.path origin.names
@@ -75,7 +76,7 @@ module _ {A : Type 0} (w : Wanted A) (goes : List ℕ → Bool) (tested : TestsB
   Shut path = IsUnmeantBelow w origin path ⊎ IsCoveredBelow w origin path
 
   abbrev at_of : Facts → Location
-  at_of f = location_of scope start w.rooted origin.names f
+  at_of f = entry_location f
 
   plain_all : (names more : List (List ℕ)) → ArePlain (origin.names ++ names) → ArePlain more
       → ArePlain (origin.names ++ (names ++ more))

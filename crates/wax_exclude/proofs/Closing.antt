@@ -99,7 +99,7 @@ module _ {A : Type 0} (w : Wanted A) (goes : List ℕ → Bool) (tested : TestsB
 
   -- below a folder that isn't opened nothing is meant
   pub none_meant : (scope : WalkScope) (at : Location) (kind : FileType) (names : List (List ℕ))
-      → At w.rooted at names → cut (plain_entry scope at kind) ≡ true
+      → At w.rooted at names → cut (plain_entry at kind) ≡ true
       → ¬ (MeansLonger w.rooted w.glob (map chars names))
   none_meant scope at kind names a e m =
       shut (goes (chars at.candidate)) (is_folder_kind kind) e
@@ -111,7 +111,7 @@ module _ {A : Type 0} (w : Wanted A) (goes : List ℕ → Bool) (tested : TestsB
       (no_faults : (kind : FaultKind) (path : List ℕ) (depth : ℕ) → p (fault kind path depth) ≡ false)
       (unmeant : (at : Location) (kind : FileType) (names : List (List ℕ)) → At w.rooted at names
       → ¬ (Means w.glob false false (text_at w.rooted (map chars names)))
-      → p (plain_entry scope at kind) ≡ false) where
+      → p (plain_entry at kind) ≡ false) where
     abbrev in_folder : Location → Items → Forest Given
     in_folder at l = items_forest scope (one_deeper at) l
 
@@ -161,15 +161,15 @@ module _ {A : Type 0} (w : Wanted A) (goes : List ℕ → Bool) (tested : TestsB
     of_one kind path depth = ap (λ b. cond b (fault kind path depth ∷ []) []) (no_faults kind path depth)
 
     free_leaf : (at : Location) (kind : FileType) (rest : Forest Given) → Free rest
-        → Free (cond (low at) (followed_by nothing rest) (item (plain_entry scope at kind) nothing rest))
-    free_leaf at kind rest h = none_unless cut p (low at) (plain_entry scope at kind) nothing rest (λ e. refl) tt h
+        → Free (cond (low at) (followed_by nothing rest) (item (plain_entry at kind) nothing rest))
+    free_leaf at kind rest h = none_unless cut p (low at) (plain_entry at kind) nothing rest (λ e. refl) tt h
 
     free_folder : (at : Location) (names : List (List ℕ)) (inner rest : Forest Given) → At w.rooted at names
         → (¬ (MeansLonger w.rooted w.glob (map chars names)) → of inner ≡ []) → Free inner → Free rest
         → Free (cond (low at) (followed_by (cond (high at) (lists at.path inner) nothing) rest)
-        (item (plain_entry scope at Folder) (cond (high at) (lists at.path inner) nothing) rest))
+        (item (plain_entry at Folder) (cond (high at) (lists at.path inner) nothing) rest))
     free_folder at names inner rest a n h k =
-        none_unless cut p (low at) (plain_entry scope at Folder) (cond (high at) (lists at.path inner) nothing) rest
+        none_unless cut p (low at) (plain_entry at Folder) (cond (high at) (lists at.path inner) nothing) rest
         (λ e. of_listed (high at) at.path inner (n (none_meant scope at Folder names a e)))
         (none_if cut p (high at) (lists at.path inner) h) k
 
@@ -213,7 +213,7 @@ module _ {A : Type 0} (w : Wanted A) (goes : List ℕ → Bool) (tested : TestsB
   -- an entry that the glob doesn't mean isn't wanted
   pub unwanted_from : (least : ℕ) (scope : WalkScope) (at : Location) (kind : FileType) (names : List (List ℕ))
       → At w.rooted at names → ¬ (Means w.glob false false (text_at w.rooted (map chars names)))
-      → is_wanted_from least w (plain_entry scope at kind) ≡ false
+      → is_wanted_from least w (plain_entry at kind) ≡ false
   unwanted_from least scope at kind names a n =
       let s = chars at.candidate in
       let deep = not (nat_lt at.depth least) in

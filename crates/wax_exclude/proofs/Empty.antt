@@ -8,7 +8,7 @@ use Rattle.wax_directory.specs.declared.directory.FileType.{FileType}
 use Rattle.wax_directory.specs.declared.directory.FileType.TheVariants.{Folder}
 use Rattle.wax_directory.specs.Shown.{Items, end, leaf, folder, sealed, misnamed, unread, not_text, Shown}
 use Rattle.wax_directory.specs.Shown.{a_leaf, a_folder, a_sealed, missing, failing, leaf_kind}
-use Rattle.wax_tree.specs.Begins.{Origin, scope_in}
+use Rattle.wax_tree.specs.Begins.{Origin, origin_location, scope_in}
 use Rattle.wax_tree.specs.declared.steps.DepthRange.{DepthRange}
 use Rattle.wax_tree.specs.Plain.{WalkScope, Location, one_deeper, plain_entry, items_forest, below_forest, plain_at}
 use Rattle.wax_tree.specs.Prefix.{ArePlain}
@@ -22,14 +22,14 @@ use Rattle.wax_exclude.proofs.Reaching.{of_unless, of_fault}
 use Rattle.wax_exclude.specs.Candidates.{base}
 use Rattle.wax_exclude.specs.inner.Descents.{At, child_location}
 use Rattle.wax_exclude.specs.Premises.{BeginsWith, BoundsNames, IsUnmeant, ArePlainItems, IsPlainShown}
-use Rattle.wax_exclude.specs.Walked.{origin_location, wanted_entries}
+use Rattle.wax_exclude.specs.Walked.{wanted_entries}
 use Rattle.wax_exclude.specs.Wanted.{Wanted, is_wanted}
 
 module _ (p : Given → Bool)
     (no_faults : (kind : FaultKind) (path : List ℕ) (depth : ℕ) → p (fault kind path depth) ≡ false)
     (rooted : Bool) (scope : WalkScope)
     (none : (at : Location) (kind : FileType) (names : List (List ℕ)) → At rooted at names → at.depth ≤ scope.max
-    → p (plain_entry scope at kind) ≡ false) where
+    → p (plain_entry at kind) ≡ false) where
   abbrev of : Forest Given → List Given
   of f = filter p (preorder f)
 
@@ -49,13 +49,13 @@ module _ (p : Given → Bool)
   none_inside at names end d a t = refl
   none_inside at names (leaf x link rest) d a t =
       let c = child_location at x in
-      of_unless p no_faults (low c) (plain_entry scope c (leaf_kind link)) nothing (in_folder at rest)
+      of_unless p no_faults (low c) (plain_entry c (leaf_kind link)) nothing (in_folder at rest)
       (none c (leaf_kind link) (names ++ x ∷ []) (at_join rooted at names x a t.0) (omega (arith, d)))
       ∙ none_inside at names rest d a t.1
   none_inside at names (folder x inner rest) d a t =
       let h = at_join rooted at names x a t.0 in
       let c = child_location at x in
-      of_unless p no_faults (low c) (plain_entry scope c Folder) (below_forest scope c (a_folder inner))
+      of_unless p no_faults (low c) (plain_entry c Folder) (below_forest scope c (a_folder inner))
       (in_folder at rest) (none c Folder (names ++ x ∷ []) h (omega (arith, d)))
       ∙ ap (λ v. v ++ of (in_folder at rest))
       (if_listed c (in_folder c inner) (λ e. none_inside c (names ++ x ∷ []) inner e h t.1)
@@ -63,7 +63,7 @@ module _ (p : Given → Bool)
       ∙ none_inside at names rest d a t.2
   none_inside at names (sealed x rest) d a t =
       let c = child_location at x in
-      of_unless p no_faults (low c) (plain_entry scope c Folder) (below_forest scope c a_sealed)
+      of_unless p no_faults (low c) (plain_entry c Folder) (below_forest scope c a_sealed)
       (in_folder at rest)
       (none c Folder (names ++ x ∷ []) (at_join rooted at names x a t.0) (omega (arith, d)))
       ∙ ap (λ v. v ++ of (in_folder at rest))
@@ -80,16 +80,16 @@ module _ (p : Given → Bool)
   none_at : (at : Location) (names : List (List ℕ)) (s : Shown) → at.depth ≤ scope.max → At rooted at names
       → IsPlainShown s → of (plain_at scope at s nothing) ≡ []
   none_at at names (a_leaf link) d a t =
-      of_unless p no_faults (low at) (plain_entry scope at (leaf_kind link)) nothing nothing
+      of_unless p no_faults (low at) (plain_entry at (leaf_kind link)) nothing nothing
       (none at (leaf_kind link) names a d)
   none_at at names (a_folder l) d a t =
       let below = below_forest scope at (a_folder l) in
-      of_unless p no_faults (low at) (plain_entry scope at Folder) below nothing (none at Folder names a d)
+      of_unless p no_faults (low at) (plain_entry at Folder) below nothing (none at Folder names a d)
       ∙ append-nil (of below)
       ∙ if_listed at (in_folder at l) (λ e. none_inside at names l e a t) (nat_lt at.depth scope.max) refl
   none_at at names a_sealed d a t =
       let below = below_forest scope at a_sealed in
-      of_unless p no_faults (low at) (plain_entry scope at Folder) below nothing (none at Folder names a d)
+      of_unless p no_faults (low at) (plain_entry at Folder) below nothing (none at Folder names a d)
       ∙ append-nil (of below)
       ∙ if_listed at (item (fault Listing at.path at.depth) nothing nothing)
       (λ e. of_fault p no_faults Listing at.path at.depth nothing) (nat_lt at.depth scope.max) refl
@@ -99,7 +99,7 @@ module _ (p : Given → Bool)
 module _ {A : Type 0} (w : Wanted A) (asked : DepthRange) (origin : Origin) (s : Shown) (plain : IsPlainShown s)
     (start : origin.candidate ≡ base w.rooted) where
   abbrev scope : WalkScope
-  scope = scope_in asked origin.root
+  scope = scope_in asked
 
   -- no candidate is meant
   pub none_meant : IsUnmeant w.rooted w.glob → wanted_entries w asked origin s ≡ []

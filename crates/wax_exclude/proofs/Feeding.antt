@@ -6,7 +6,7 @@ use Rattle.wax_directory.specs.Shown.{Shown}
 use Rattle.wax_tree.specs.Programs.{any_mark}
 use Rattle.wax_tree.proofs.InRange.{along_yielded}
 use Rattle.wax_tree.proofs.Levelled.{levelled_along}
-use Rattle.wax_tree.specs.Begins.{scope_in}
+use Rattle.wax_tree.specs.Begins.{origin_location, scope_in}
 use Rattle.wax_tree.specs.Plain.{count_shown}
 use Rattle.wax_walk.proofs.Leaving.{leaves_list, levelled_opened, opens_list}
 use Rattle.wax_walk.specs.Collected.{Yielded, IsCutShort}
@@ -20,19 +20,19 @@ use Rattle.wax_exclude.proofs.StackingRequests.{stacked_any}
 use Rattle.wax_exclude.specs.Feeds.{FeedsByRules, FeedsByWalk, FeedsRuled, feed_of}
 use Rattle.wax_exclude.specs.Feeds.{gives, lacks_memory, over_budget}
 use Rattle.wax_exclude.specs.RuledWalks.{RuledWalk, exceeds_range, ruled_pending}
-use Rattle.wax_exclude.specs.Walked.{origin_location, origin_walk}
+use Rattle.wax_exclude.specs.Walked.{origin_walk}
 use Rattle.wax_exclude.specs.Wanted.{stacked}
 
 pub feeds_by_rules : FeedsByRules
 feeds_by_rules rules opening range origin s fits =
     let walk = origin_walk range origin s in
-    let level = levelled_along (scope_in range origin.root) (origin_location origin) s origin.names in
+    let level = levelled_along (scope_in range) (origin_location origin) s origin.names in
     ap preorder (stacked_any rules (opened_forest opening walk))
     ∙ (leaves_list (changed_by (any_mark rules)) (cut_by (any_mark rules)) level.0 level.1 (opened_forest opening walk)
     (levelled_opened opening level.0 level.1 walk level.2)
     ∙ ap (left_of (any_mark rules)) (opens_list opening level.0 level.1 walk level.2
     ∙ ap (opened_items opening)
-    (along_yielded range origin.root (origin_location origin) s origin.names (omega (arith, fits)))))
+    (along_yielded range (origin_location origin) s origin.names (omega (arith, fits)))))
 
 pub feeds_by_walk : FeedsByWalk
 feeds_by_walk walk s = go (exceeds_range walk) refl where

@@ -12,7 +12,7 @@ use Rattle.wax_directory.specs.Shown.{Shown, a_leaf, a_folder, a_sealed, missing
 use Rattle.wax_token.specs.Decided.{means_test, means_tested}
 use Rattle.wax_token.specs.Meaning.{Means}
 use Rattle.wax_token.specs.Spelled.{LiteralsHaveNoSlash}
-use Rattle.wax_tree.specs.Begins.{Origin, scope_in}
+use Rattle.wax_tree.specs.Begins.{Origin, origin_location, scope_in}
 use Rattle.wax_tree.specs.declared.steps.DepthRange.{DepthRange}
 use Rattle.wax_tree.specs.Follows.{AreDistinctAlong}
 use Rattle.wax_tree.specs.Plain.{WalkScope, Location, plain_entry}
@@ -29,7 +29,7 @@ use Rattle.wax_exclude.proofs.Whole.{at_whole}
 use Rattle.wax_exclude.specs.Candidates.{base, text_at}
 use Rattle.wax_exclude.specs.inner.Descents.{At, child_location}
 use Rattle.wax_exclude.specs.Premises.{BoundsNames, CanWalk, IsPlainShown}
-use Rattle.wax_exclude.specs.Walked.{MayList, origin_location, plain_walk, glob_walk, wanted_entries}
+use Rattle.wax_exclude.specs.Walked.{MayList, plain_walk, glob_walk, wanted_entries}
 use Rattle.wax_exclude.specs.Wanted.{Wanted, none_excludes, is_wanted, is_kept_entry, stacked, rules_of}
 
 chars_same : (x y : List ℕ) → IsUtf8 x → IsUtf8 y → chars x ≡ chars y → x ≡ y
@@ -55,7 +55,7 @@ module _ {A : Type 0} (w : Wanted A) where
   -- an entry that the glob doesn't mean isn't wanted
   pub unmeant : (scope : WalkScope) (at : Location) (kind : FileType) (names : List (List ℕ)) → At w.rooted at names
       → (Means w.glob false false (text_at w.rooted (map chars names)) → ⊥)
-      → is_wanted w (plain_entry scope at kind) ≡ false
+      → is_wanted w (plain_entry at kind) ≡ false
   unmeant scope at kind names a n =
       let s = chars at.candidate in
       ap (λ b. b && none_excludes w.filters s)
@@ -106,7 +106,7 @@ module _ {A : Type 0} (w : Wanted A) where
     may_walk : (names : List (List ℕ)) (at : Location) (done : List (List ℕ)) (s : Shown) → ArePlain names
         → At w.rooted at done → IsPlainShown s → done ++ names ≡ origin.names
         → path_from at.path names ≡ origin_end w range origin
-        → May (walk_from (scope_in range origin.root) at s names nothing)
+        → May (walk_from (scope_in range) at s names nothing)
     may_walk [] at done s n a x e f =
         walk_lists w range origin at s f (subst (λ v. At w.rooted at v) (sym (append-nil done) ∙ e) a) x
     may_walk (x ∷ names) at done (a_leaf link) n a s e f = may_fault NotAFolder at.path at.depth
@@ -122,7 +122,7 @@ module _ {A : Type 0} (w : Wanted A) where
   -- what is wanted of the plain walk is what is wanted of the whole walk
   pub plain_wanted : (asked : DepthRange) (origin : Origin) (s : Shown)
       → of (plain_walk asked origin s) ≡ wanted_entries w asked origin s
-  plain_wanted asked origin s = at_whole (is_wanted w) (λ k p d. refl) asked origin.root (origin_location origin) s
+  plain_wanted asked origin s = at_whole (is_wanted w) (λ k p d. refl) asked (origin_location origin) s
       (omega arith)
 
   pub at_start : (origin : Origin) → origin.candidate ≡ base w.rooted → At w.rooted (origin_location origin) []
@@ -134,12 +134,12 @@ module _ {A : Type 0} (w : Wanted A) where
 
   module _ (asked walked : DepthRange) (origin : Origin) (can : CanWalk w asked walked origin) where
     abbrev scope_to : ℕ → WalkScope
-    scope_to max = record { min = asked.min; max = max; root = origin.root }
+    scope_to max = record { min = asked.min; max = max }
 
     -- what lies beside the names of the origin isn't wanted
     beyond : (scope : WalkScope) (at : Location) (kind : FileType) (names : List (List ℕ)) → At w.rooted at names
         → ((rest : List (List ℕ)) → ¬ (names ≡ origin.names ++ rest))
-        → is_wanted w (plain_entry scope at kind) ≡ false
+        → is_wanted w (plain_entry at kind) ≡ false
     beyond scope at kind names a n = unmeant scope at kind names a
         (λ m.
         let b = can.begins (map chars names) (names_chars names a.are_plain) m in
@@ -148,11 +148,11 @@ module _ {A : Type 0} (w : Wanted A) where
 
     to_least : (max : ℕ) (s : Shown)
         → filter is_kept_entry (preorder (stacked (rules_of w)
-        (walk_from (scope_in walked origin.root) (origin_location origin) s origin.names nothing)))
+        (walk_from (scope_in walked) (origin_location origin) s origin.names nothing)))
         ≡ filter is_kept_entry (preorder (stacked (rules_of w)
         (walk_from (scope_to walked.max) (origin_location origin) s origin.names nothing)))
     to_least max s = ap (λ v. filter is_kept_entry (preorder (stacked (rules_of w)
-        (walk_from (record { min = v; max = walked.max; root = origin.root }) (origin_location origin) s origin.names
+        (walk_from (record { min = v; max = walked.max }) (origin_location origin) s origin.names
         nothing)))) can.least
 
     to_greatest : (s : Shown) → IsPlainShown s → (walked.max ≡ asked.max)
@@ -161,7 +161,7 @@ module _ {A : Type 0} (w : Wanted A) where
         ≡ of (walk_from (scope_to asked.max) (origin_location origin) s origin.names nothing)
     to_greatest s t (inl e) = ap (λ v. of (walk_from (scope_to v) (origin_location origin) s origin.names nothing)) e
     to_greatest s t (inr b) =
-        same_walk (is_wanted w) (λ k p d. refl) w.rooted asked.min origin.root walked.max asked.max b.0
+        same_walk (is_wanted w) (λ k p d. refl) w.rooted asked.min walked.max asked.max b.0
         (λ at k ns h g. unmeant (scope_to asked.max) at k ns h
         (λ m. (let c = b.1 (map chars ns) (names_chars ns h.are_plain) m in
         let e = length_names ns in omega (arith, c, e, g, h.depth_is))))

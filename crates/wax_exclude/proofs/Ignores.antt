@@ -39,7 +39,7 @@ ignored_walk lines rooted scope at names s h x =
     (λ c k ns a g.
     let facts : Facts = record {
       path = c.path;
-      root = scope.root;
+      root = c.root;
       candidate = c.candidate;
       depth = c.depth;
       kind = k;
@@ -49,9 +49,9 @@ ignored_walk lines rooted scope at names s h x =
 
 pub gives_unignored : {A : Type 0} (lines : List (Line A)) (range : DepthRange) (start : List ℕ) (s : Shown)
     → IsPlainShown s
-    → filter is_kept_entry (preorder (stacked (ignore_rules lines) (plain (scope_in range start) s)))
+    → filter is_kept_entry (preorder (stacked (ignore_rules lines) (plain (scope_in range) start s)))
     ≡ filter (λ x. is_in range x && is_unignored lines x) (whole start s)
 gives_unignored lines range start s h =
-    ignored_walk lines false (scope_in range start) (start_location start) [] s
+    ignored_walk lines false (scope_in range) (start_location start) [] s
     (record { candidate_is = refl; depth_is = refl; are_plain = tt }) h
-    ∙ at_whole (is_unignored lines) (λ k p d. refl) range start (start_location start) s (omega arith)
+    ∙ at_whole (is_unignored lines) (λ k p d. refl) range (start_location start) s (omega arith)

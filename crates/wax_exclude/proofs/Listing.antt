@@ -12,6 +12,7 @@ use Rattle.wax_token.specs.Decided.{means_test}
 use Rattle.wax_tree.specs.Begins.{Origin, scope_in}
 use Rattle.wax_tree.specs.declared.steps.DepthRange.{DepthRange}
 use Rattle.wax_tree.specs.Plain.{WalkScope, Location, one_deeper, plain_entry, items_forest, plain_at}
+use Rattle.wax_tree.specs.Walking.{entry_location}
 use Rattle.wax_walk.specs.declared.error.FaultKind.TheVariants.{Listing}
 use Rattle.wax_walk.specs.Forest.{Forest, nothing, item, lists, listings, followed_by, filtered}
 use Rattle.wax_walk.specs.Given.{Facts, Mark, kept, alone, with_tree, Given, entry, fault, combined_mark}
@@ -165,7 +166,7 @@ module _ (rooted : Bool) (scope : WalkScope) (start : List ℕ) (prefix : List (
     pub place : At rooted at (prefix ++ names)
 
   abbrev pub location_at : Facts → List ℕ → Location
-  location_at f path = record { path = path; candidate = f.candidate; depth = f.depth }
+  location_at f path = record (entry_location f) { path = path }
 
   abbrev pub OfFolder : Facts → List ℕ → Type 0
   OfFolder f path = IsBelow (location_at f path) × (f.depth < scope.max) × (f.kind ≡ Folder)
@@ -184,7 +185,7 @@ module _ (rooted : Bool) (scope : WalkScope) (start : List ℕ) (prefix : List (
       → nat_lt at.depth scope.max ≡ c
       → (inner rest : Forest Given) → IsWell inner → IsWell rest
       → IsWell (cond b (followed_by (cond c (lists at.path inner) nothing) rest)
-      (item (plain_entry scope at Folder) (cond c (lists at.path inner) nothing) rest))
+      (item (plain_entry at Folder) (cond c (lists at.path inner) nothing) rest))
   well_folder at s true true e f inner rest h k = (
     (at, refl, s, ltb-true at.depth scope.max f, ltb-true at.depth scope.min e),
     well_followed OfFolder AboveLeast [] inner rest h k,
@@ -196,7 +197,7 @@ module _ (rooted : Bool) (scope : WalkScope) (start : List ℕ) (prefix : List (
         mark = kept;
         facts = record {
           path = at.path;
-          root = scope.root;
+          root = at.root;
           candidate = at.candidate;
           depth = at.depth;
           kind = Folder;
@@ -213,7 +214,7 @@ module _ (rooted : Bool) (scope : WalkScope) (start : List ℕ) (prefix : List (
   well_folder at s false false e f inner rest h k = (tt, k)
 
   well_leaf : (at : Location) (kind : FileType) (b : Bool) (rest : Forest Given) → IsWell rest
-      → IsWell (cond b (followed_by nothing rest) (item (plain_entry scope at kind) nothing rest))
+      → IsWell (cond b (followed_by nothing rest) (item (plain_entry at kind) nothing rest))
   well_leaf at kind true rest k = k
   well_leaf at kind false rest k = (tt, k)
 
@@ -281,7 +282,7 @@ module _ (rooted : Bool) (scope : WalkScope) (start : List ℕ) (prefix : List (
 -- the walk from the last name of an origin on, in a range
 module _ {A : Type 0} (w : Wanted A) (range : DepthRange) (origin : Origin) where
   abbrev scope : WalkScope
-  scope = scope_in range origin.root
+  scope = scope_in range
 
   abbrev pub origin_end : List ℕ
   origin_end = path_from origin.path origin.names

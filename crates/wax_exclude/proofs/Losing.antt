@@ -5,6 +5,7 @@ use Rattle.std.specs.List.{Contains}
 use Rattle.std.specs.Prelude.{All}
 use Rattle.wax_directory.specs.Shown.{Shown}
 use Rattle.wax_tree.specs.Begins.{scope_in}
+use Rattle.wax_tree.specs.Walking.{entry_location}
 use Rattle.wax_tree.specs.declared.steps.DepthRange.{DepthRange}
 use Rattle.wax_tree.specs.Plain.{WalkScope, start_location}
 use Rattle.wax_tree.specs.Plain.{plain}
@@ -14,7 +15,7 @@ use Rattle.wax_walk.specs.Given.{Facts, Mark, with_tree}
 use Rattle.wax_exclude.proofs.Descending.{covered}
 use Rattle.wax_exclude.proofs.Ignored.{below_tested}
 use Rattle.wax_exclude.proofs.Names.{at_sees, seen_at}
-use Rattle.wax_exclude.proofs.Staying.{OfNames, lie_at, location_of, stay_stacked}
+use Rattle.wax_exclude.proofs.Staying.{OfNames, lie_at, stay_stacked}
 use Rattle.wax_exclude.specs.Ignored.{Line, is_ignored, IgnoresBelow, below_test, ignore_mark}
 use Rattle.wax_exclude.specs.Premises.{IsPlainShown}
 use Rattle.wax_exclude.specs.Unignored.{ignore_rules, IsIgnoredBelow}
@@ -28,7 +29,7 @@ module _ {A : Type 0} (lines : List (Line A)) (scope : WalkScope) (start : List 
   loses : (f : Facts) (path : List ℕ) → OfNames scope start false [] f path → rule f ≡ with_tree
       → IsIgnoredBelow lines start path
   loses f path (names, a, u) e =
-      let at = location_of scope start false [] f in (
+      let at = entry_location f in (
         names,
         u.0,
         a.are_plain,
@@ -41,10 +42,10 @@ module _ {A : Type 0} (lines : List (Line A)) (scope : WalkScope) (start : List 
 -- each folder of the plain walk is still listed, or it is or lies below what is ignored with all below it
 pub loses_ignored : {A : Type 0} (lines : List (Line A)) (range : DepthRange) (start : List ℕ) (s : Shown)
     → IsPlainShown s → All (λ path. Contains (listings
-    (stacked (ignore_rules lines) (plain (scope_in range start) s)))
-    path ⊎ IsIgnoredBelow lines start path) (listings (plain (scope_in range start) s))
+    (stacked (ignore_rules lines) (plain (scope_in range) start s)))
+    path ⊎ IsIgnoredBelow lines start path) (listings (plain (scope_in range) start s))
 loses_ignored lines range start s h =
-    let scope = scope_in range start in
+    let scope = scope_in range in
     stay_stacked (OfNames scope start false []) (IsIgnoredBelow lines start) (ignore_rules lines)
     (loses lines scope start, tt) (plain scope s)
     (lie_at scope start false [] (start_location start) s refl

@@ -4,7 +4,7 @@ use Rattle.std.proofs.Common.{sym, ap, subst, ◌∙◌, inl, inr, arith, append
 use Rattle.std.specs.Prelude.{All}
 use Rattle.std.proofs.lemmas.List.Elements.{All-nil, All-weaker}
 use Rattle.wax_directory.specs.Shown.{Shown, a_leaf, a_folder, a_sealed, missing, failing, child_in}
-use Rattle.wax_tree.specs.Begins.{Origin, scope_in}
+use Rattle.wax_tree.specs.Begins.{Origin, origin_location, scope_in}
 use Rattle.wax_tree.specs.declared.steps.DepthRange.{DepthRange}
 use Rattle.wax_tree.specs.Plain.{WalkScope, Location, plain_at}
 use Rattle.wax_tree.specs.Prefix.{ArePlain, path_from, walk_from}
@@ -24,7 +24,6 @@ use Rattle.wax_exclude.specs.inner.Descents.{At, child_location}
 use Rattle.wax_exclude.specs.Premises.{IsPlainShown}
 use Rattle.wax_exclude.specs.Pruned.{TestsBelow, opens_where, least_rules, least_walk, CanWalkLeast}
 use Rattle.wax_exclude.specs.Pruned.{MayOpen}
-use Rattle.wax_exclude.specs.Walked.{origin_location}
 use Rattle.wax_exclude.specs.Wanted.{Wanted, stacked}
 
 opened : (o k : Bool) → k ≡ true → not o && k ≡ false → o ≡ true
@@ -81,7 +80,7 @@ module _ (opens : Facts → Bool) (OfEntry : Facts → List ℕ → Type 0)
 module _ {A : Type 0} (w : Wanted A) (goes : List ℕ → Bool) (tested : TestsBelow goes w.rooted w.glob) (least : ℕ)
     (range : DepthRange) (origin : Origin) (all : range.min ≡ 0) where
   abbrev scope : WalkScope
-  scope = scope_in range origin.root
+  scope = scope_in range
 
   abbrev start : List ℕ
   start = origin_end w range origin

@@ -5,7 +5,7 @@ use Rattle.std.specs.Prelude.{filter, nat_lt}
 use Rattle.std.proofs.lemmas.Bool.{ltb-true}
 use Rattle.wax_directory.specs.declared.directory.FileType.{FileType}
 use Rattle.wax_directory.specs.Shown.{Shown, a_leaf, a_folder, a_sealed, missing, failing, child_in}
-use Rattle.wax_tree.specs.Begins.{Origin, scope_in}
+use Rattle.wax_tree.specs.Begins.{Origin, origin_location, scope_in}
 use Rattle.wax_tree.specs.declared.steps.DepthRange.{DepthRange}
 use Rattle.wax_tree.specs.Follows.{AreDistinctAlong}
 use Rattle.wax_tree.specs.Plain.{WalkScope, Location, plain_entry, plain_at}
@@ -26,7 +26,7 @@ use Rattle.wax_exclude.specs.inner.Descents.{At, child_location}
 use Rattle.wax_exclude.specs.Premises.{BoundsNames, IsPlainShown}
 use Rattle.wax_exclude.specs.Pruned.{TestsBelow, opens_where, least_rules, is_wanted_from, least_walk}
 use Rattle.wax_exclude.specs.Pruned.{CanWalkLeast}
-use Rattle.wax_exclude.specs.Walked.{origin_location, wanted_entries}
+use Rattle.wax_exclude.specs.Walked.{wanted_entries}
 use Rattle.wax_exclude.specs.Wanted.{Wanted, is_wanted, is_kept_entry, stacked}
 
 -- ---- ranges
@@ -62,20 +62,20 @@ module _ {A : Type 0} (w : Wanted A) (asked : DepthRange) where
   of f = filter (is_wanted_from asked.min w) (preorder f)
 
   plain_wanted : (origin : Origin) (s : Shown)
-      → of (plain_at (scope_in (from_start asked) origin.root) (origin_location origin) s nothing)
+      → of (plain_at (scope_in (from_start asked)) (origin_location origin) s nothing)
       ≡ wanted_entries w asked origin s
   plain_wanted origin s =
       let start : 0 ≤ asked.max = omega arith in
       let same : (λ (x : Given). is_in (from_start asked) x && is_wanted_from asked.min w x)
       ≡ (λ (x : Given). is_in asked x && is_wanted w x) = λ i x. wanted_in x i in
-      at_whole (is_wanted_from asked.min w) (λ k p d. refl) (from_start asked) origin.root (origin_location origin) s
+      at_whole (is_wanted_from asked.min w) (λ k p d. refl) (from_start asked) (origin_location origin) s
       start
-      ∙ ap (λ p. filter p (whole_at origin.root (origin_location origin) s)) same
+      ∙ ap (λ p. filter p (whole_at (origin_location origin) s)) same
 
 module _ {A : Type 0} (w : Wanted A) (goes : List ℕ → Bool) (tested : TestsBelow goes w.rooted w.glob)
     (asked walked : DepthRange) (origin : Origin) (can : CanWalkLeast w asked walked origin) where
   abbrev scope_to : ℕ → WalkScope
-  scope_to max = record { min = 0; max = max; root = origin.root }
+  scope_to max = record { min = 0; max = max }
 
   abbrev kept_of : Forest Given → List Given
   kept_of f = filter is_kept_entry (preorder (stacked (least_rules asked.min w) (pruned (opens_where goes) f)))
@@ -101,7 +101,7 @@ module _ {A : Type 0} (w : Wanted A) (goes : List ℕ → Bool) (tested : TestsB
   -- what lies beside the names of the origin isn't wanted
   beyond : (scope : WalkScope) (at : Location) (kind : FileType) (names : List (List ℕ)) → At w.rooted at names
       → ((rest : List (List ℕ)) → ¬ (names ≡ origin.names ++ rest))
-      → is_wanted_from asked.min w (plain_entry scope at kind) ≡ false
+      → is_wanted_from asked.min w (plain_entry at kind) ≡ false
   beyond scope at kind names a n = unwanted_from w goes tested asked.min scope at kind names a
       (λ m.
       let b = can.begins (map chars names) (names_chars names a.are_plain) m in
@@ -115,7 +115,7 @@ module _ {A : Type 0} (w : Wanted A) (goes : List ℕ → Bool) (tested : TestsB
   to_greatest s t (inl e) =
       ap (λ v. of w asked (walk_from (scope_to v) (origin_location origin) s origin.names nothing)) e
   to_greatest s t (inr b) =
-      same_walk (is_wanted_from asked.min w) (λ k p d. refl) w.rooted 0 origin.root walked.max asked.max b.0
+      same_walk (is_wanted_from asked.min w) (λ k p d. refl) w.rooted 0 walked.max asked.max b.0
       (λ at k ns h g. unwanted_from w goes tested asked.min (scope_to asked.max) at k ns h
       (λ m. (let c = b.1 (map chars ns) (names_chars ns h.are_plain) m in
       let e = length_names ns in omega (arith, c, e, g, h.depth_is))))
@@ -133,7 +133,7 @@ module _ {A : Type 0} (w : Wanted A) (goes : List ℕ → Bool) (tested : TestsB
       ≡ wanted_entries w asked origin s
   gives_least s plain distinct l =
       let start = at_start w origin can.candidate in
-      ap (λ v. kept_of (walk_from (record { min = v; max = walked.max; root = origin.root }) (origin_location origin)
+      ap (λ v. kept_of (walk_from (record { min = v; max = walked.max }) (origin_location origin)
       s origin.names nothing)) can.least
       ∙ kept_walk (scope_to walked.max) origin.names (origin_location origin) [] s can.plain start plain
       ∙ to_greatest s plain can.greatest

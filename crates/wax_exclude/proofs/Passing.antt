@@ -103,13 +103,13 @@ module _ (rooted : Bool) (mark : Candidate → Mark) (descends : Descends rooted
   left_inside at names others end h t e = tt
   left_inside at names others (leaf x link rest) h t e =
       let a = at_below at names others x h t.0 in
-      left_unless rule (low (child_location at x)) (plain_entry scope (child_location at x) (leaf_kind link)) nothing
+      left_unless rule (low (child_location at x)) (plain_entry (child_location at x) (leaf_kind link)) nothing
       (in_folder at rest) (left_below (child_location at x) names (others ++ x ∷ []) a e) tt
       (left_inside at names others rest h t.1 e)
   left_inside at names others (folder x inner rest) h t e =
       let a = at_below at names others x h t.0 in
       let c = child_location at x in
-      left_unless rule (low c) (plain_entry scope c Folder) (below_forest scope c (a_folder inner))
+      left_unless rule (low c) (plain_entry c Folder) (below_forest scope c (a_folder inner))
       (in_folder at rest) (left_below c names (others ++ x ∷ []) a e)
       (left_listed rule (high c) c.path (in_folder c inner)
       (left_inside c names (others ++ x ∷ []) inner a t.1 e))
@@ -117,7 +117,7 @@ module _ (rooted : Bool) (mark : Candidate → Mark) (descends : Descends rooted
   left_inside at names others (sealed x rest) h t e =
       let a = at_below at names others x h t.0 in
       let c = child_location at x in
-      left_unless rule (low c) (plain_entry scope c Folder) (below_forest scope c a_sealed)
+      left_unless rule (low c) (plain_entry c Folder) (below_forest scope c a_sealed)
       (in_folder at rest)
       (left_below c names (others ++ x ∷ []) a e) (left_sealed rule scope (high c) c.path c.depth)
       (left_inside at names others rest h t.1 e)
@@ -135,13 +135,13 @@ module _ (rooted : Bool) (mark : Candidate → Mark) (descends : Descends rooted
       → PassesDown rule (in_folder at l)
   passes_inside at names end h t = tt
   passes_inside at names (leaf x link rest) h t =
-      passes_unless rule (low (child_location at x)) (plain_entry scope (child_location at x) (leaf_kind link))
+      passes_unless rule (low (child_location at x)) (plain_entry (child_location at x) (leaf_kind link))
       nothing
       (in_folder at rest) (λ e. tt) tt (passes_inside at names rest h t.1)
   passes_inside at names (folder x inner rest) h t =
       let a = at_join rooted at names x h t.0 in
       let c = child_location at x in
-      passes_unless rule (low c) (plain_entry scope c Folder) (below_forest scope c (a_folder inner))
+      passes_unless rule (low c) (plain_entry c Folder) (below_forest scope c (a_folder inner))
       (in_folder at rest)
       (λ e. left_listed rule (high c) c.path (in_folder c inner)
       (left_within c (names ++ x ∷ []) inner a t.1 e))
@@ -149,7 +149,7 @@ module _ (rooted : Bool) (mark : Candidate → Mark) (descends : Descends rooted
       (passes_inside at names rest h t.2)
   passes_inside at names (sealed x rest) h t =
       let c = child_location at x in
-      passes_unless rule (low c) (plain_entry scope c Folder) (below_forest scope c a_sealed)
+      passes_unless rule (low c) (plain_entry c Folder) (below_forest scope c a_sealed)
       (in_folder at rest)
       (λ e. left_sealed rule scope (high c) c.path c.depth) (passes_sealed rule scope (high c) c.path c.depth)
       (passes_inside at names rest h t.1)
@@ -161,13 +161,13 @@ module _ (rooted : Bool) (mark : Candidate → Mark) (descends : Descends rooted
   pub passes_at : (at : Location) (names : List (List ℕ)) (s : Shown) → At rooted at names → IsPlainShown s
       → PassesDown rule (plain_at scope at s nothing)
   passes_at at names (a_leaf link) h t =
-      passes_unless rule (low at) (plain_entry scope at (leaf_kind link)) nothing nothing (λ e. tt) tt tt
+      passes_unless rule (low at) (plain_entry at (leaf_kind link)) nothing nothing (λ e. tt) tt tt
   passes_at at names (a_folder l) h t =
-      passes_unless rule (low at) (plain_entry scope at Folder) (below_forest scope at (a_folder l)) nothing
+      passes_unless rule (low at) (plain_entry at Folder) (below_forest scope at (a_folder l)) nothing
       (λ e. left_listed rule (high at) at.path (in_folder at l) (left_within at names l h t e))
       (passes_listed rule (high at) at.path (in_folder at l) (passes_inside at names l h t)) tt
   passes_at at names a_sealed h t =
-      passes_unless rule (low at) (plain_entry scope at Folder) (below_forest scope at a_sealed) nothing
+      passes_unless rule (low at) (plain_entry at Folder) (below_forest scope at a_sealed) nothing
       (λ e. left_sealed rule scope (high at) at.path at.depth)
       (passes_sealed rule scope (high at) at.path at.depth) tt
   passes_at at names missing h t = ((λ e. tt), tt, tt)

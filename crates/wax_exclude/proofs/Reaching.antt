@@ -138,12 +138,12 @@ module _ (p : Given → Bool)
   module _ (rooted : Bool) where
     -- ---- nothing is wanted past a depth
 
-    module _ (min : ℕ) (root : List ℕ) (less max : ℕ) (le : less ≤ max) where
+    module _ (min : ℕ) (less max : ℕ) (le : less ≤ max) where
       abbrev few : WalkScope
-      few = record { min = min; max = less; root = root }
+      few = record { min = min; max = less }
 
       abbrev all : WalkScope
-      all = record { min = min; max = max; root = root }
+      all = record { min = min; max = max }
 
       abbrev few_in : Location → Items → Forest Given
       few_in at l = items_forest few (one_deeper at) l
@@ -258,7 +258,7 @@ module _ (p : Given → Bool)
 
     module _ (scope : WalkScope) (target : List (List ℕ))
         (beyond : (at : Location) (kind : FileType) (names : List (List ℕ)) → At rooted at names
-        → ((rest : List (List ℕ)) → ¬ (names ≡ target ++ rest)) → p (plain_entry scope at kind) ≡ false) where
+        → ((rest : List (List ℕ)) → ¬ (names ≡ target ++ rest)) → p (plain_entry at kind) ≡ false) where
       abbrev in_folder : Location → Items → Forest Given
       in_folder at l = items_forest scope (one_deeper at) l
 
@@ -287,7 +287,7 @@ module _ (p : Given → Bool)
       module _ (done names : List (List ℕ)) (x : List ℕ) (aim : done ++ x ∷ names ≡ target) where
         -- an item of another name, and what lies below it
         sibling : (at : Location) (kind : FileType) (y : List ℕ) → At rooted at (done ++ y ∷ []) → ¬ (y ≡ x)
-            → p (plain_entry scope at kind) ≡ false
+            → p (plain_entry at kind) ≡ false
         sibling at kind y a n =
             beyond at kind (done ++ y ∷ []) a (λ rest e. n (apart done names rest [] x y aim e))
 
@@ -309,21 +309,21 @@ module _ (p : Given → Bool)
         unwanted_leaf : (at : Location) (y : List ℕ) (kind : FileType) (rest : Forest Given) → At rooted at done
             → IsPlain y → ¬ (y ≡ x)
             → of (cond (low (child_location at y)) (followed_by nothing rest)
-            (item (plain_entry scope (child_location at y) kind) nothing rest)) ≡ of rest
+            (item (plain_entry (child_location at y) kind) nothing rest)) ≡ of rest
         unwanted_leaf at y kind rest a t n =
-            of_unless (low (child_location at y)) (plain_entry scope (child_location at y) kind) nothing rest
+            of_unless (low (child_location at y)) (plain_entry (child_location at y) kind) nothing rest
             (sibling (child_location at y) kind y (at_join rooted at done y a t) n)
 
         abbrev folder_forest : Location → Forest Given → Forest Given → Forest Given
         folder_forest at inner rest = cond (low at) (followed_by
             (cond (high at) (lists at.path inner) nothing) rest)
-            (item (plain_entry scope at Folder) (cond (high at) (lists at.path inner) nothing) rest)
+            (item (plain_entry at Folder) (cond (high at) (lists at.path inner) nothing) rest)
 
         unwanted_folder : (at : Location) (y : List ℕ) (inner rest : Forest Given) → At rooted at done → IsPlain y
             → ¬ (y ≡ x) → of inner ≡ [] → of (folder_forest (child_location at y) inner rest) ≡ of rest
         unwanted_folder at y inner rest a t n e =
             let c = child_location at y in
-            of_unless (low c) (plain_entry scope c Folder) (cond (high c) (lists c.path inner) nothing) rest
+            of_unless (low c) (plain_entry c Folder) (cond (high c) (lists c.path inner) nothing) rest
             (sibling c Folder y (at_join rooted at done y a t) n)
             ∙ ap (λ v. v ++ of rest) (of_listed (high c) c.path inner e)
 
@@ -357,7 +357,7 @@ module _ (p : Given → Bool)
             → (y ≡ x → IsNew x rest)
             → of (in_folder at (leaf y link rest)) ≡ of (only at (cond b (a_leaf link) (child_in x rest)))
         only_leaf at y link rest a t u ih true e f new =
-            same_unless (low (child_location at y)) (plain_entry scope (child_location at y) (leaf_kind link)) nothing
+            same_unless (low (child_location at y)) (plain_entry (child_location at y) (leaf_kind link)) nothing
             nothing
             (in_folder at rest) nothing refl (none_in at rest a u (new (e refl)))
             ∙ ap (λ v. of (plain_at scope (child_location at v) (a_leaf link) nothing)) (e refl)
@@ -372,7 +372,7 @@ module _ (p : Given → Bool)
         only_folder at y inner rest a t v u ih true e f new =
             let c = child_location at y in
             let below = below_forest scope c (a_folder inner) in
-            same_unless (low c) (plain_entry scope c Folder) below below (in_folder at rest) nothing refl
+            same_unless (low c) (plain_entry c Folder) below below (in_folder at rest) nothing refl
             (none_in at rest a u (new (e refl)))
             ∙ ap (λ v. of (plain_at scope (child_location at v) (a_folder inner) nothing)) (e refl)
         only_folder at y inner rest a t v u ih false e f new =
@@ -387,7 +387,7 @@ module _ (p : Given → Bool)
         only_sealed at y rest a t u ih true e f new =
             let c = child_location at y in
             let below = below_forest scope c a_sealed in
-            same_unless (low c) (plain_entry scope c Folder) below below (in_folder at rest) nothing refl
+            same_unless (low c) (plain_entry c Folder) below below (in_folder at rest) nothing refl
             (none_in at rest a u (new (e refl)))
             ∙ ap (λ v. of (plain_at scope (child_location at v) a_sealed nothing)) (e refl)
         only_sealed at y rest a t u ih false e f new =
@@ -416,7 +416,7 @@ module _ (p : Given → Bool)
         only_child at (unread rest) a t u = of_fault _ _ _ (in_folder at rest) ∙ only_child at rest a t u
         only_child at (not_text rest) a t u = of_fault _ _ _ (in_folder at rest) ∙ only_child at rest a t u
 
-        short : (at : Location) (kind : FileType) → At rooted at done → p (plain_entry scope at kind) ≡ false
+        short : (at : Location) (kind : FileType) → At rooted at done → p (plain_entry at kind) ≡ false
         short at kind a = beyond at kind done a (λ rest e. too_few done names rest x aim e)
 
         -- of what is shown here only what has the name is wanted
@@ -427,7 +427,7 @@ module _ (p : Given → Bool)
             let n : length (done ++ x ∷ names) ≡ length target = ap length aim in
             let lt : high at ≡ true = lt-ltb at.depth scope.max
             (omega (arith, n, m, a.depth_is, length-append done (x ∷ names))) in
-            of_unless (low at) (plain_entry scope at Folder) (below_forest scope at (a_folder l)) nothing
+            of_unless (low at) (plain_entry at Folder) (below_forest scope at (a_folder l)) nothing
             (short at Folder a)
             ∙ append-nil (of (below_forest scope at (a_folder l)))
             ∙ ap (λ b. of (cond b (lists at.path (in_folder at l)) nothing)) lt
@@ -436,12 +436,12 @@ module _ (p : Given → Bool)
         stuck_leaf : (at : Location) (link : Bool) → At rooted at done
             → of (plain_at scope at (a_leaf link) nothing) ≡ []
         stuck_leaf at link a =
-            of_unless (low at) (plain_entry scope at (leaf_kind link)) nothing nothing
+            of_unless (low at) (plain_entry at (leaf_kind link)) nothing nothing
             (short at (leaf_kind link) a)
 
         stuck_sealed : (at : Location) → At rooted at done → of (plain_at scope at a_sealed nothing) ≡ []
         stuck_sealed at a =
-            of_unless (low at) (plain_entry scope at Folder) (below_forest scope at a_sealed) nothing
+            of_unless (low at) (plain_entry at Folder) (below_forest scope at a_sealed) nothing
             (short at Folder a)
             ∙ append-nil (of (below_forest scope at a_sealed))
             ∙ of_listed (high at) at.path (item (fault Listing at.path at.depth) nothing nothing)

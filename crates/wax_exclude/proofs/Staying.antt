@@ -10,6 +10,7 @@ use Rattle.wax_directory.specs.declared.directory.FileType.TheVariants.{Folder}
 use Rattle.wax_directory.specs.Shown.{Items, end, leaf, folder, sealed, misnamed, unread, not_text, Shown}
 use Rattle.wax_directory.specs.Shown.{a_leaf, a_folder, a_sealed, missing, failing, leaf_kind, join, IsPlain}
 use Rattle.wax_tree.specs.Plain.{WalkScope, Location, one_deeper, plain_entry, items_forest, plain_at}
+use Rattle.wax_tree.specs.Walking.{entry_location}
 use Rattle.wax_tree.specs.Prefix.{ArePlain, path_from}
 use Rattle.wax_walk.specs.declared.error.FaultKind.TheVariants.{Listing}
 use Rattle.wax_walk.specs.Forest.{Forest, nothing, item, lists, listings, followed_by, filtered}
@@ -213,12 +214,9 @@ module _ (scope : WalkScope) (start : List ℕ) (rooted : Bool) (prefix : List (
   abbrev pub Under : List (List ℕ) → List ℕ → Type 0
   Under names path = (more : List (List ℕ)) × ArePlain more × (path ≡ path_from start (names ++ more))
 
-  abbrev pub location_of : Facts → Location
-  location_of f = record { path = f.path; candidate = f.candidate; depth = f.depth }
-
   -- the entry has these names after the first ones, and the path is that of them and more
   abbrev pub OfNames : Facts → List ℕ → Type 0
-  OfNames f path = (names : List (List ℕ)) × At rooted (location_of f) (prefix ++ names) × Under names path
+  OfNames f path = (names : List (List ℕ)) × At rooted (entry_location f) (prefix ++ names) × Under names path
 
   abbrev in_folder : Location → Items → Forest Given
   in_folder at l = items_forest scope (one_deeper at) l
@@ -252,12 +250,12 @@ module _ (scope : WalkScope) (start : List ℕ) (rooted : Bool) (prefix : List (
       → IsAt at names → IsPlain x → Each (Under (names ++ x ∷ [])) inner → Each (Under names) rest
       → Each (Under names) (cond b
       (followed_by (cond c (lists (child_location at x).path inner) nothing) rest)
-      (item (plain_entry scope (child_location at x) Folder)
+      (item (plain_entry (child_location at x) Folder)
       (cond c (lists (child_location at x).path inner) nothing) rest))
   under_child at names x b c inner rest a p h k =
       let child = child_location at x in
       let below = cond c (lists child.path inner) nothing in
-      each_unless (Under names) b (plain_entry scope child Folder) below rest
+      each_unless (Under names) b (plain_entry child Folder) below rest
       (each_more (Under (names ++ x ∷ [])) (Under names) (under_more names x p) below
       (under_folder child (names ++ x ∷ []) c inner (at_child at names x a p) h)) k
 
@@ -266,7 +264,7 @@ module _ (scope : WalkScope) (start : List ℕ) (rooted : Bool) (prefix : List (
   under_items at names end a t = tt
   under_items at names (leaf x link rest) a t =
       let c = child_location at x in
-      each_unless (Under names) (nat_lt c.depth scope.min) (plain_entry scope c (leaf_kind link)) nothing
+      each_unless (Under names) (nat_lt c.depth scope.min) (plain_entry c (leaf_kind link)) nothing
       (in_folder at rest) tt (under_items at names rest a t.1)
   under_items at names (folder x inner rest) a t =
       let c = child_location at x in
@@ -288,16 +286,16 @@ module _ (scope : WalkScope) (start : List ℕ) (rooted : Bool) (prefix : List (
   lie_folder : (at : Location) (names : List (List ℕ)) (b c : Bool) (inner rest : Forest Given) → IsAt at names
       → Each (Under names) inner → Lies inner → Lies rest
       → Lies (cond b (followed_by (cond c (lists at.path inner) nothing) rest)
-      (item (plain_entry scope at Folder) (cond c (lists at.path inner) nothing) rest))
+      (item (plain_entry at Folder) (cond c (lists at.path inner) nothing) rest))
   lie_folder at names b c inner rest a e h k =
       let below = cond c (lists at.path inner) nothing in
-      lie_unless OfNames b (plain_entry scope at Folder) below rest
-      (each_more (Under names) (OfItem OfNames (plain_entry scope at Folder)) (λ path u. (names, a.place, u)) below
+      lie_unless OfNames b (plain_entry at Folder) below rest
+      (each_more (Under names) (OfItem OfNames (plain_entry at Folder)) (λ path u. (names, a.place, u)) below
       (under_folder at names c inner a e)) (lie_if OfNames c at.path inner h) k
 
   lie_leaf : (at : Location) (kind : FileType) (b : Bool) (rest : Forest Given) → Lies rest
-      → Lies (cond b (followed_by nothing rest) (item (plain_entry scope at kind) nothing rest))
-  lie_leaf at kind b rest k = lie_unless OfNames b (plain_entry scope at kind) nothing rest tt tt k
+      → Lies (cond b (followed_by nothing rest) (item (plain_entry at kind) nothing rest))
+  lie_leaf at kind b rest k = lie_unless OfNames b (plain_entry at kind) nothing rest tt tt k
 
   lie_inside : (at : Location) (names : List (List ℕ)) (l : Items) → IsAt at names → ArePlainItems l
       → Lies (in_folder at l)

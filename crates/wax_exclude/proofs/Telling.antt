@@ -9,7 +9,7 @@ use Rattle.wax_directory.specs.Shown.{missing, not_text, sealed, unread}
 use Rattle.wax_tree.specs.Programs.{any_mark}
 use Rattle.wax_tree.proofs.Answered.{along_yields, cutting_kept, lacks_alone, nothing_yields}
 use Rattle.wax_tree.proofs.AlongShown.{along_shown, distinct_missing}
-use Rattle.wax_tree.specs.Begins.{OriginTakes, along, beyond, scope_in}
+use Rattle.wax_tree.specs.Begins.{OriginTakes, along, beyond, origin_location, scope_in}
 use Rattle.wax_tree.specs.Begins as begin
 use Rattle.wax_tree.specs.Prefix.{ArePlain}
 use Rattle.wax_tree.specs.Courses.{AreNamed, IsNamed}
@@ -38,7 +38,7 @@ use Rattle.wax_exclude.specs.RuledWalks.{RuledWalk, WalkTakes, exceeds_range, la
 use Rattle.wax_exclude.specs.RuledWalks.{walk_course, walks}
 use Rattle.wax_exclude.specs.Told.{Answering, FeedsAnswered, KeepsAnswered, LeavesAnswered, ToldInPart}
 use Rattle.wax_exclude.specs.Told.{as_told, in_part, keeps_all, keeps_in_part, ruled_kept, walk_calls}
-use Rattle.wax_exclude.specs.Walked.{origin_location, origin_walk}
+use Rattle.wax_exclude.specs.Walked.{origin_walk}
 use Rattle.wax_exclude.specs.Wanted.{is_kept_entry, stacked}
 
 plain_items : (l : Items) → AreNamed l → ArePlainItems l
@@ -71,7 +71,7 @@ module _ (walk : RuledWalk) (filters : Course → Course → Type 0) where
       → left stop ≡ stop → (c e : Course) → ArePlain walk.origin.names → OriginTakes walk.origin walk.walked c
       → filters c e → WalkTakes walk e
   origin_takes starts lacks stops c e plain (along fits short d h b) f =
-      let s = along_shown (scope_in walk.walked walk.origin.root) walk.origin.names (origin_location walk.origin) d plain
+      let s = along_shown (scope_in walk.walked) walk.origin.names (origin_location walk.origin) d plain
       (omega (arith, short)) h in
       let course : left d ≡ walk_course walk s.shown =
       (λ i. left (s.course i))
@@ -129,7 +129,7 @@ module _ (walk : RuledWalk) where
         subst (Yields (ruled_course rule (opened_course walk.opening c)))
         (sym (stacked_any walk.rules (opened_forest walk.opening f)))
         (ruled_yields rule (opened_course walk.opening c) (opened_forest walk.opening f) (opened_yields walk.opening c f
-        (along_yields (scope_in walk.walked walk.origin.root) walk.origin.names (origin_location walk.origin) s)))
+        (along_yields (scope_in walk.walked) walk.origin.names (origin_location walk.origin) s)))
 
   items_fed : (s : Shown) → items_of (walk_course walk s) ≡ ruled_feed walk s
   items_fed s = yields_items _ _ (course_yields s) ∙ feeds_by_walk walk s

@@ -62,7 +62,7 @@ plain_comes law d range start view begins = record {
       (pending nothing (if b then nothing else walk) listed (if b then 0 else count_shown s)))
       (sym (not_beyond range start))
       (subst (λ f. view.to_come (pending nothing f listed (count_shown s)))
-      (sym (unchanged (plain (scope_in range start) s))) (begins.shown s listed shows told));
+      (sym (unchanged (plain (scope_in range) start s))) (begins.shown s listed shows told));
   takes = λ c t. elim (begins.takes c t) [
     | begin.walks s n b ↦ walks s n tt (subst (IsStartOf c) (plain_course_so s (not_beyond range start)) b)
     | begin.lacking_start b ↦ lacking b
@@ -70,10 +70,10 @@ plain_comes law d range start view begins = record {
   listings = begins.listings;
 } where
   plain_course_so : (s : Shown) → is_beyond (tree_request range start) ≡ false
-      → plain_course (scope_in range start) s ≡ walk_course (walk_for (tree_request range start)) s
+      → plain_course (scope_in range) start s ≡ walk_course (walk_for (tree_request range start)) s
   plain_course_so s e =
       let request = tree_request range start in
-      sym (unchanged_course (plain_course (scope_in range start) s))
+      sym (unchanged_course (plain_course (scope_in range) start s))
       ∙ ap (λ b. if b then stop else ruled_course (any_mark (rules_of request.wanted))
       (origin_course range request.origin s)) (sym e)
 

@@ -67,7 +67,7 @@ module _ (p q : Given → Bool) where
   module _ (rooted : Bool) (scope : WalkScope) (Good : List (List ℕ) → Type 0)
       (good_more : (names : List (List ℕ)) (x : List ℕ) → Good names → Good (names ++ x ∷ []))
       (of_entries : (at : Location) (kind : FileType) (names : List (List ℕ)) → At rooted at names → Good names
-      → p (plain_entry scope at kind) ≡ q (plain_entry scope at kind))
+      → p (plain_entry at kind) ≡ q (plain_entry at kind))
       (of_faults : (kind : FaultKind) (path : List ℕ) (depth : ℕ)
       → p (fault kind path depth) ≡ q (fault kind path depth)) where
     abbrev in_folder : Location → Items → Forest Given
@@ -89,20 +89,20 @@ module _ (p q : Given → Bool) where
     agree_inside at names end h t g = tt
     agree_inside at names (leaf x link rest) h t g =
         let c = child_location at x in
-        agree_unless (low c) (plain_entry scope c (leaf_kind link)) nothing (in_folder at rest)
+        agree_unless (low c) (plain_entry c (leaf_kind link)) nothing (in_folder at rest)
         (of_entries c (leaf_kind link) (names ++ x ∷ []) (at_join rooted at names x h t.0) (g x)) tt
         (agree_inside at names rest h t.1 g)
     agree_inside at names (folder x inner rest) h t g =
         let a = at_join rooted at names x h t.0 in
         let c = child_location at x in
-        agree_unless (low c) (plain_entry scope c Folder) (below_forest scope c (a_folder inner))
+        agree_unless (low c) (plain_entry c Folder) (below_forest scope c (a_folder inner))
         (in_folder at rest) (of_entries c Folder (names ++ x ∷ []) a (g x))
         (agree_if (high c) (lists c.path (in_folder c inner))
         (agree_inside c (names ++ x ∷ []) inner a t.1 (λ y. good_more (names ++ x ∷ []) y (g x))))
         (agree_inside at names rest h t.2 g)
     agree_inside at names (sealed x rest) h t g =
         let c = child_location at x in
-        agree_unless (low c) (plain_entry scope c Folder) (below_forest scope c a_sealed) (in_folder at rest)
+        agree_unless (low c) (plain_entry c Folder) (below_forest scope c a_sealed) (in_folder at rest)
         (of_entries c Folder (names ++ x ∷ []) (at_join rooted at names x h t.0) (g x))
         (agree_sealed (high c) c.path c.depth) (agree_inside at names rest h t.1 g)
     agree_inside at names (misnamed x kind rest) h t g =
@@ -113,15 +113,15 @@ module _ (p q : Given → Bool) where
     pub agree_at : (at : Location) (names : List (List ℕ)) (s : Shown) → At rooted at names → IsPlainShown s
         → Good names → Agree p q (plain_at scope at s nothing)
     agree_at at names (a_leaf link) h t g =
-        agree_unless (low at) (plain_entry scope at (leaf_kind link)) nothing nothing
+        agree_unless (low at) (plain_entry at (leaf_kind link)) nothing nothing
         (of_entries at (leaf_kind link) names h g) tt tt
     agree_at at names (a_folder l) h t g =
-        agree_unless (low at) (plain_entry scope at Folder) (below_forest scope at (a_folder l)) nothing
+        agree_unless (low at) (plain_entry at Folder) (below_forest scope at (a_folder l)) nothing
         (of_entries at Folder names h g)
         (agree_if (high at) (lists at.path (in_folder at l))
         (agree_inside at names l h t (λ x. good_more names x g))) tt
     agree_at at names a_sealed h t g =
-        agree_unless (low at) (plain_entry scope at Folder) (below_forest scope at a_sealed) nothing
+        agree_unless (low at) (plain_entry at Folder) (below_forest scope at a_sealed) nothing
         (of_entries at Folder names h g) (agree_sealed (high at) at.path at.depth) tt
     agree_at at names missing h t g = (of_faults _ _ _, tt, tt)
     agree_at at names failing h t g = (of_faults _ _ _, tt, tt)
@@ -162,7 +162,7 @@ module _ {A : Type 0} (w : Wanted A) (scope : WalkScope) where
       (λ c k ns a g.
       let f : Facts = record {
         path = c.path;
-        root = scope.root;
+        root = c.root;
         candidate = c.candidate;
         depth = c.depth;
         kind = k;

@@ -11,9 +11,9 @@ use Rattle.wax_directory.specs.Shown.{Items, end, leaf, folder, sealed, misnamed
 use Rattle.wax_directory.specs.Shown.{a_leaf, a_folder, a_sealed, missing, failing, leaf_kind}
 use Rattle.wax_tree.specs.Begins.{scope_in}
 use Rattle.wax_tree.specs.declared.steps.DepthRange.{DepthRange}
-use Rattle.wax_tree.specs.Plain.{WalkScope, Location, item_location, one_deeper, items_forest, below_forest, unlisted}
+use Rattle.wax_tree.specs.Plain.{WalkScope, Location, item_location, one_deeper, items_forest, below_forest, unlisted, plain_entry}
 use Rattle.wax_tree.specs.Plain.{plain_at}
-use Rattle.wax_tree.specs.Whole.{whole_entry, whole_items, whole_at, is_in}
+use Rattle.wax_tree.specs.Whole.{whole_items, whole_at, is_in}
 use Rattle.wax_walk.specs.declared.error.FaultKind.{FaultKind}
 use Rattle.wax_walk.specs.declared.error.FaultKind.TheVariants.{Listing}
 use Rattle.wax_walk.specs.Forest.{Forest, nothing, item, lists, followed_by, preorder}
@@ -34,9 +34,9 @@ not_past false n = refl
 
 module _ (p : Given → Bool)
     (no_faults : (kind : FaultKind) (path : List ℕ) (depth : ℕ) → p (fault kind path depth) ≡ false)
-    (range : DepthRange) (root : List ℕ) where
+    (range : DepthRange) where
   abbrev scope : WalkScope
-  scope = scope_in range root
+  scope = scope_in range
 
   abbrev in_range : Given → Bool
   in_range x = is_in range x && p x
@@ -61,24 +61,24 @@ module _ (p : Given → Bool)
   of_low false x below after = of_item p no_faults x below after
 
   test_within : (at : Location) (kind : FileType) → at.depth ≤ range.max
-      → in_range (whole_entry root at kind) ≡ (not (low at) && p (whole_entry root at kind))
+      → in_range (plain_entry at kind) ≡ (not (low at) && p (plain_entry at kind))
   test_within at kind h =
-      within (not (low at)) (high at) (p (whole_entry root at kind))
+      within (not (low at)) (high at) (p (plain_entry at kind))
       (not_past (high at) (λ e. (let l = ltb-true range.max at.depth e in omega (arith, l, h))))
 
   test_past : (at : Location) (kind : FileType) → range.max < at.depth
-      → in_range (whole_entry root at kind) ≡ false
+      → in_range (plain_entry at kind) ≡ false
   test_past at kind h =
-      ap (λ b. not (low at) && not b && p (whole_entry root at kind)) (lt-ltb range.max at.depth h)
-      ∙ past (not (low at)) (p (whole_entry root at kind))
+      ap (λ b. not (low at) && not b && p (plain_entry at kind)) (lt-ltb range.max at.depth h)
+      ∙ past (not (low at)) (p (plain_entry at kind))
 
   -- an entry and what follows it
   kept_within : (at : Location) (kind : FileType) (below after : Forest Given) (xs ys : List Given)
       → at.depth ≤ range.max → of below ≡ of_whole xs → of after ≡ of_whole ys
-      → of (cond (low at) (followed_by below after) (item (whole_entry root at kind) below after))
-      ≡ of_whole (whole_entry root at kind ∷ (xs ++ ys))
+      → of (cond (low at) (followed_by below after) (item (plain_entry at kind) below after))
+      ≡ of_whole (plain_entry at kind ∷ (xs ++ ys))
   kept_within at kind below after xs ys h e f =
-      let x = whole_entry root at kind in
+      let x = plain_entry at kind in
       of_low (low at) x below after
       ∙ ap (λ b. cond b (x ∷ (of below ++ of after)) (of below ++ of after)) (sym (test_within at kind h))
       ∙ ap (λ zs. cond (in_range x) (x ∷ (zs ++ of after)) (zs ++ of after)) e
@@ -86,24 +86,24 @@ module _ (p : Given → Bool)
       ∙ ap (λ zs. cond (in_range x) (x ∷ zs) zs) (sym (filter-append in_range xs ys))
 
   left_past : (at : Location) (kind : FileType) (xs : List Given) → range.max < at.depth → of_whole xs ≡ []
-      → of_whole (whole_entry root at kind ∷ xs) ≡ []
+      → of_whole (plain_entry at kind ∷ xs) ≡ []
   left_past at kind xs h e =
-      ap (λ b. cond b (whole_entry root at kind ∷ of_whole xs) (of_whole xs)) (test_past at kind h) ∙ e
+      ap (λ b. cond b (plain_entry at kind ∷ of_whole xs) (of_whole xs)) (test_past at kind h) ∙ e
 
   -- nothing below the greatest depth is in range
-  none_deeper : (at : Location) (l : Items) → range.max < at.depth → of_whole (whole_items root at l) ≡ []
+  none_deeper : (at : Location) (l : Items) → range.max < at.depth → of_whole (whole_items at l) ≡ []
   none_deeper at end h = refl
   none_deeper at (leaf x link rest) h =
-      left_past (item_location at x) (leaf_kind link) (whole_items root at rest) h (none_deeper at rest h)
+      left_past (item_location at x) (leaf_kind link) (whole_items at rest) h (none_deeper at rest h)
   none_deeper at (folder x inner rest) h =
       let deep = one_deeper (item_location at x) in
-      let below = whole_items root deep inner in
-      left_past (item_location at x) Folder (below ++ whole_items root at rest) h
-      (filter-append in_range below (whole_items root at rest)
-      ∙ ap (λ zs. zs ++ of_whole (whole_items root at rest)) (none_deeper deep inner (omega (arith, h)))
+      let below = whole_items deep inner in
+      left_past (item_location at x) Folder (below ++ whole_items at rest) h
+      (filter-append in_range below (whole_items at rest)
+      ∙ ap (λ zs. zs ++ of_whole (whole_items at rest)) (none_deeper deep inner (omega (arith, h)))
       ∙ none_deeper at rest h)
   none_deeper at (sealed x rest) h =
-      left_past (item_location at x) Folder (fault Listing (item_location at x).path at.depth ∷ whole_items root at
+      left_past (item_location at x) Folder (fault Listing (item_location at x).path at.depth ∷ whole_items at
       rest) h
       (none_deeper at rest h)
   none_deeper at (misnamed x kind rest) h = none_deeper at rest h
@@ -112,10 +112,10 @@ module _ (p : Given → Bool)
 
   below_whole : (at : Location) (l : Items)
       → (at.depth + 1 ≤ range.max
-      → of (items_forest scope (one_deeper at) l) ≡ of_whole (whole_items root (one_deeper at) l))
+      → of (items_forest scope (one_deeper at) l) ≡ of_whole (whole_items (one_deeper at) l))
       → (b : Bool) → nat_lt at.depth range.max ≡ b
       → of (cond b (lists at.path (items_forest scope (one_deeper at) l)) nothing)
-      ≡ of_whole (whole_items root (one_deeper at) l)
+      ≡ of_whole (whole_items (one_deeper at) l)
   below_whole at l f true e = f (let h = ltb-true at.depth range.max e in omega (arith, h))
   below_whole at l f false e = elim (cases_lt at.depth range.max) [
     | inl h ↦ absurd (let w : true ≡ false = sym (lt-ltb at.depth range.max h) ∙ e in cc)
@@ -128,21 +128,21 @@ module _ (p : Given → Bool)
   below_sealed false path depth = refl
 
   items_whole : (at : Location) (l : Items) → at.depth ≤ range.max
-      → of (items_forest scope at l) ≡ of_whole (whole_items root at l)
+      → of (items_forest scope at l) ≡ of_whole (whole_items at l)
   items_whole at end h = refl
   items_whole at (leaf x link rest) h =
       kept_within (item_location at x) (leaf_kind link) nothing (items_forest scope at rest) []
-      (whole_items root at rest) h refl (items_whole at rest h)
+      (whole_items at rest) h refl (items_whole at rest h)
   items_whole at (folder x inner rest) h =
       let c = item_location at x in
       kept_within c Folder (below_forest scope c (a_folder inner)) (items_forest scope at rest)
-      (whole_items root (one_deeper c) inner) (whole_items root at rest) h
+      (whole_items (one_deeper c) inner) (whole_items at rest) h
       (below_whole c inner (λ d. items_whole (one_deeper c) inner d) (nat_lt c.depth range.max) refl)
       (items_whole at rest h)
   items_whole at (sealed x rest) h =
       let c = item_location at x in
       kept_within c Folder (below_forest scope c a_sealed) (items_forest scope at rest)
-      (fault Listing c.path c.depth ∷ []) (whole_items root at rest) h
+      (fault Listing c.path c.depth ∷ []) (whole_items at rest) h
       (below_sealed (nat_lt c.depth range.max) c.path c.depth) (items_whole at rest h)
   items_whole at (misnamed x kind rest) h =
       of_fault p no_faults _ _ _ (items_forest scope at rest) ∙ items_whole at rest h
@@ -152,13 +152,13 @@ module _ (p : Given → Bool)
       of_fault p no_faults _ _ _ (items_forest scope at rest) ∙ items_whole at rest h
 
   pub at_whole : (at : Location) (s : Shown) → at.depth ≤ range.max
-      → of (plain_at scope at s nothing) ≡ of_whole (whole_at root at s)
+      → of (plain_at scope at s nothing) ≡ of_whole (whole_at at s)
   at_whole at (a_leaf link) h = kept_within at (leaf_kind link) nothing nothing [] [] h refl refl
   at_whole at (a_folder l) h =
-      let below = whole_items root (one_deeper at) l in
+      let below = whole_items (one_deeper at) l in
       kept_within at Folder (below_forest scope at (a_folder l)) nothing below [] h
       (below_whole at l (λ d. items_whole (one_deeper at) l d) (nat_lt at.depth range.max) refl) refl
-      ∙ ap (λ xs. of_whole (whole_entry root at Folder ∷ xs)) (append-nil below)
+      ∙ ap (λ xs. of_whole (plain_entry at Folder ∷ xs)) (append-nil below)
   at_whole at a_sealed h =
       kept_within at Folder (below_forest scope at a_sealed) nothing (fault Listing at.path at.depth ∷ []) []
       h

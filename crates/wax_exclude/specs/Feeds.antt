@@ -2,7 +2,7 @@
 use Rattle.std.specs.Prelude.{◌≡◌, ℕ, ◌<◌, ◌≤◌, if◌then◌else◌, List, [], length}
 use Rattle.wax_directory.specs.Shown.{Shown}
 use Rattle.wax_tree.specs.Programs.{any_mark}
-use Rattle.wax_tree.specs.Begins.{Origin}
+use Rattle.wax_tree.specs.Begins.{Origin, origin_location}
 use Rattle.wax_tree.specs.declared.steps.DepthRange.{DepthRange}
 use Rattle.wax_tree.specs.Plain.{count_shown}
 use Rattle.wax_tree.specs.Whole.{whole_along, yielded}
@@ -14,14 +14,14 @@ use Rattle.wax_walk.specs.Left.{left_of, opened_items}
 use Rattle.wax_walk.specs.Pruned.{Opening, opened_forest}
 use Rattle.wax_exclude.specs.GlobRequests.{GlobRequest, request_walk, walk_for}
 use Rattle.wax_exclude.specs.RuledWalks.{RuledWalk, exceeds_range, ruled_forest}
-use Rattle.wax_exclude.specs.Walked.{origin_location, origin_walk}
+use Rattle.wax_exclude.specs.Walked.{origin_walk}
 use Rattle.wax_exclude.specs.Wanted.{stacked}
 
 -- what rules, one after another, leave of the whole walk along the names of the origin, in the range, if only
 -- these folders are opened
 abbrev pub feed_of : List (Facts → Mark) → Opening → DepthRange → Origin → Shown → List Given
 feed_of rules opening range origin s = left_of (any_mark rules) (opened_items opening
-    (yielded range (whole_along origin.root (origin_location origin) s origin.names)))
+    (yielded range (whole_along (origin_location origin) s origin.names)))
 
 -- the feed of a walk filtered by rules; nothing if the origin has more names than the greatest depth
 abbrev pub ruled_feed : RuledWalk → Shown → List Given

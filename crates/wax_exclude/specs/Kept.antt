@@ -25,7 +25,7 @@ pub record PlainRequest : Type 0 where
 
 -- the plain walk of a request, and what is left of it without what the lines ignore
 abbrev pub requested_plain : PlainRequest → Shown → Forest Given
-requested_plain request s = plain (scope_in request.range request.start) s
+requested_plain request s = plain (scope_in request.range) request.start s
 
 abbrev pub unignored_walk : PlainRequest → Shown → Forest Given
 unignored_walk request s = stacked (ignore_rules request.lines) (requested_plain request s)

@@ -3,7 +3,7 @@ use Rattle.std.specs.Prelude.{◌≡◌, ℕ, ◌+◌, Bool, if◌then◌else◌
 use Rattle.wax_directory.specs.Law.{Law}
 use Rattle.wax_directory.specs.Shown.{Shown}
 use Rattle.wax_tree.specs.Programs.{any_mark}
-use Rattle.wax_tree.specs.Begins.{Origin, scope_in}
+use Rattle.wax_tree.specs.Begins.{Origin, origin_location, scope_in}
 use Rattle.wax_tree.specs.Courses.{IsNamed, along_course}
 use Rattle.wax_tree.specs.declared.steps.DepthRange.{DepthRange}
 use Rattle.wax_tree.specs.Follows.{AreDistinctAlong}
@@ -13,7 +13,7 @@ use Rattle.wax_walk.specs.Forest.{Forest, nothing, Pending, pending}
 use Rattle.wax_walk.specs.Given.{Facts, Mark, Given, changed_by, cut_by, no_memory}
 use Rattle.wax_walk.specs.View.{MayTake, WalkView}
 use Rattle.wax_walk.specs.Pruned.{Opening, opened_forest, opened_course}
-use Rattle.wax_exclude.specs.Walked.{origin_location, origin_walk}
+use Rattle.wax_exclude.specs.Walked.{origin_walk}
 use Rattle.wax_exclude.specs.Wanted.{stacked}
 
 -- the folders that a walk opens, and the rules that filter it, one after another; the range that is walked,
@@ -49,7 +49,7 @@ ruled_pending walk s listed = pending nothing (ruled_forest walk s) listed (rule
 -- the plain walk's calls and items along the names of the origin and from there on, if s is shown
 abbrev pub origin_course : DepthRange → Origin → Shown → Course
 origin_course range origin s =
-    along_course (scope_in range origin.root) origin.names (origin_location origin) s
+    along_course (scope_in range) origin.names (origin_location origin) s
 
 -- those of the filtered walk
 abbrev pub walk_course : RuledWalk → Shown → Course

@@ -29,7 +29,7 @@ ignore_rules lines = of_candidate (ignore_mark lines) ∷ []
 -- that the list doesn't ignore, in order
 abbrev pub GivesUnignored : Type 0
 GivesUnignored = (lines : List (Line Span)) (range : DepthRange) (start : List ℕ) (s : Shown) → IsPlainShown s
-    → filter is_kept_entry (preorder (stacked (ignore_rules lines) (plain (scope_in range start) s)))
+    → filter is_kept_entry (preorder (stacked (ignore_rules lines) (plain (scope_in range) start s)))
     ≡ filter (λ x. is_in range x && is_unignored lines x) (whole start s)
 
 -- the path is that of some names from the start; the first few of them, all plain, are those of a candidate
@@ -41,5 +41,5 @@ IsIgnoredBelow lines start path = (front back : List (List ℕ)) × ArePlain fro
 -- each folder that the plain walk lists is listed after the list's filter, or is at or below such a candidate
 abbrev pub LosesIgnored : Type 0
 LosesIgnored = (lines : List (Line Span)) (range : DepthRange) (start : List ℕ) (s : Shown) → IsPlainShown s
-    → All (λ path. Contains (listings (stacked (ignore_rules lines) (plain (scope_in range start) s))) path
-    ⊎ IsIgnoredBelow lines start path) (listings (plain (scope_in range start) s))
+    → All (λ path. Contains (listings (stacked (ignore_rules lines) (plain (scope_in range) start s))) path
+    ⊎ IsIgnoredBelow lines start path) (listings (plain (scope_in range) start s))

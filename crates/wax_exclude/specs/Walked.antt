@@ -3,7 +3,7 @@ use Rattle.std.specs.Prelude.{◌≡◌, ℕ, ◌<◌, ◌≤◌, ◌++◌, ◌&
 use Rattle.std.specs.Prelude.{chars}
 use Rattle.wax_facts.specs.Alternatives.{alternatives}
 use Rattle.wax_directory.specs.Shown.{Shown}
-use Rattle.wax_tree.specs.Begins.{Origin, scope_in}
+use Rattle.wax_tree.specs.Begins.{Origin, origin_location, scope_in}
 use Rattle.wax_tree.specs.declared.steps.DepthRange.{DepthRange}
 use Rattle.wax_tree.specs.Plain.{Location, plain_at}
 use Rattle.wax_tree.specs.Prefix.{ArePlain, path_from, walk_from}
@@ -17,23 +17,18 @@ use Rattle.wax_exclude.specs.Ignored.{IgnoresBelow}
 use Rattle.wax_exclude.specs.Leading.{leading_of, Lead}
 use Rattle.wax_exclude.specs.Wanted.{Filter, not_meant, not_ignored, Wanted, is_wanted, stacked, rules_of}
 
--- the location at the path of an origin
-abbrev pub origin_location : Origin → Location
-origin_location origin = record { path = origin.path; candidate = origin.candidate; depth = 0 }
-
 -- the entries of the whole walk from the path of the origin that are in range and wanted, in order
 abbrev pub wanted_entries : {A : Type 0} → Wanted A → DepthRange → Origin → Shown → List Given
 wanted_entries w asked origin s =
-    filter (λ x. is_in asked x && is_wanted w x) (whole_at origin.root (origin_location origin) s)
+    filter (λ x. is_in asked x && is_wanted w x) (whole_at (origin_location origin) s)
 
 -- the plain walk from the path of the origin
 abbrev pub plain_walk : DepthRange → Origin → Shown → Forest Given
-plain_walk range origin s = plain_at (scope_in range origin.root) (origin_location origin) s nothing
+plain_walk range origin s = plain_at (scope_in range) (origin_location origin) s nothing
 
 -- the walk along the names of the origin, and from there on
 abbrev pub origin_walk : DepthRange → Origin → Shown → Forest Given
-origin_walk range origin s = walk_from (scope_in range origin.root)
-    (origin_location origin) s origin.names nothing
+origin_walk range origin s = walk_from (scope_in range) (origin_location origin) s origin.names nothing
 
 -- the walk along the names of the origin and from there on, filtered by what is wanted
 abbrev pub glob_walk : {A : Type 0} → Wanted A → DepthRange → Origin → Shown → Forest Given

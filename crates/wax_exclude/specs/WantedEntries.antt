@@ -3,13 +3,13 @@ use Rattle.std.specs.Prelude.{◌≡◌, ◌≤◌, ◌⊎◌, ℕ, true, false,
 use Rattle.wax_directory.specs.Shown.{Shown}
 use Rattle.wax_token.specs.Meaning.{Means}
 use Rattle.wax_token.specs.Reads.{Span}
-use Rattle.wax_tree.specs.Begins.{Origin}
+use Rattle.wax_tree.specs.Begins.{Origin, origin_location}
 use Rattle.wax_tree.specs.declared.steps.DepthRange.{DepthRange}
 use Rattle.wax_tree.specs.Whole.{whole_at}
 use Rattle.wax_walk.specs.Given.{Given, entry, kept}
 use Rattle.wax_exclude.specs.Deciding.{IsLastMatch}
 use Rattle.wax_exclude.specs.Ignored.{Line}
-use Rattle.wax_exclude.specs.Walked.{origin_location, wanted_entries}
+use Rattle.wax_exclude.specs.Walked.{wanted_entries}
 use Rattle.wax_exclude.specs.Wanted.{Filter, not_ignored, not_meant, Wanted}
 
 -- the filter excludes the text: its pattern matches it, or the last line that matches it ignores
@@ -34,5 +34,5 @@ Selects {A} P (x ∷ xs) ys =
 -- and no filter excludes, in order
 abbrev pub SelectsWanted : Type 0
 SelectsWanted = (w : Wanted Span) (asked : DepthRange) (origin : Origin) (s : Shown)
-    → Selects (IsWantedEntry w asked) (whole_at origin.root (origin_location origin) s)
+    → Selects (IsWantedEntry w asked) (whole_at (origin_location origin) s)
     (wanted_entries w asked origin s)

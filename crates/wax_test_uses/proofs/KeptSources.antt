@@ -287,9 +287,9 @@ module _ (depth : Bounds) where
       only_feed (is_beyond request)
       (any_mark (of_candidate (glob_mark false in_src) ∷ of_candidate (filter_mark (not_meant with_b))
       ∷ of_candidate (filter_mark (not_ignored source_lines)) ∷ []))
-      (yielded request.walked (whole_along [] (record { path = []; candidate = []; depth = 0 })
+      (yielded request.walked (whole_along (record { path = []; root = []; candidate = []; depth = 0 })
       (a_folder source_items) (codes "src" ∷ [])))
-      (only_yielded request.walked (whole_along [] (record { path = []; candidate = []; depth = 0 })
+      (only_yielded request.walked (whole_along (record { path = []; root = []; candidate = []; depth = 0 })
       (a_folder source_items) (codes "src" ∷ [])) tt)
 
   pub only_entries : FeedsByRequest → OnlyEntries (preorder (request_walk request (a_folder source_items)))

@@ -11,11 +11,11 @@ use Rattle.wax_walk.specs.Course.{Course, asks, call, stop, yields}
 use Rattle.wax_walk.specs.declared.error.FaultKind.TheVariants as K
 use Rattle.wax_walk.specs.Given.{fault}
 use Rattle.wax_tree.specs.Courses.{AlongComes, FoundComes, IsNamed, along_course, is_failing, is_missing, is_there}
-use Rattle.wax_tree.specs.Courses.{onward_location}
 use Rattle.wax_tree.specs.Follows.{AreDistinctAlong}
 use Rattle.wax_tree.specs.Plain.{Location, WalkScope, item_location, one_deeper}
 use Rattle.wax_tree.specs.Prefix.{ArePlain}
 use Rattle.wax_tree.proofs.Making.{along_plain}
+use Rattle.wax_tree.proofs.Locations.{onward_is}
 
 -- a folder that holds only this name, or that can't be listed if what is at the name couldn't be seen
 abbrev around : List ℕ → Shown → Shown
@@ -71,12 +71,6 @@ module _ (scope : WalkScope) where
   course_around x names at missing = refl
   course_around x [] at failing = refl
   course_around x (y ∷ names) at failing = refl
-
-  onward_is : (at : Location) (x : List ℕ) → at.depth + 1 < 2 ^ 64
-      → onward_location at x ≡ one_deeper (item_location at x)
-  onward_is at x h =
-      ap (λ n. record { path = (item_location at x).path; candidate = (item_location at x).candidate; depth = n })
-      (omega (arith, h))
 
   pub along_shown : (names : List (List ℕ)) (at : Location) (c : Course) → ArePlain names
       → at.depth + length names < 2 ^ 64 → AlongComes scope names at stop c → IsShown names at c

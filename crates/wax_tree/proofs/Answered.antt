@@ -185,10 +185,10 @@ lacks_alone (yields y d a) x told xs ends b e f s =
       not_last (z ∷ zs) e = cc
 
 module _ (range : DepthRange) (start : List ℕ) where
-  plain_yields : (s : Shown) → Yields (plain_course (scope_in range start) s) (plain (scope_in range start) s)
-  plain_yields s = place_yields (scope_in range start) (start_location start) s
+  plain_yields : (s : Shown) → Yields (plain_course (scope_in range) start s) (plain (scope_in range) start s)
+  plain_yields s = place_yields (scope_in range) (start_location start) s
 
-  items_plain : (s : Shown) → items_of (plain_course (scope_in range start) s) ≡ yielded range (all.whole start s)
+  items_plain : (s : Shown) → items_of (plain_course (scope_in range) start s) ≡ yielded range (all.whole start s)
   items_plain s = yields_items _ _ (plain_yields s) ∙ plain_yielded range start s
 
   -- only an error came, and nothing was asked
@@ -198,13 +198,13 @@ module _ (range : DepthRange) (start : List ℕ) where
       told_in_part missing [] (calls_for range start missing) x tt refl e ([], _, f, refl) s
 
   pub entries_answered : {D : Type 0} (view : WalkView D) (told : List Answer) (xs ys : List Given)
-      → ((c : Course) → MayTake view c → StartTakes (scope_in range start) c) → EndsThere xs
+      → ((c : Course) → MayTake view c → StartTakes (scope_in range) start c) → EndsThere xs
       → TookCourse view told xs → ys ≡ filter is_kept xs → EntriesAnswered range start told ys
   entries_answered view told xs ys takes ends (whole c t w e f) k = elim (takes c t) [
     | walks s n b ↦
-        let same = begins_whole c (plain_course (scope_in range start) s) w b in
+        let same = begins_whole c (plain_course (scope_in range) start s) w b in
         let items = f ∙ ap items_of same in
-        let kept = first_kept (scope_in range start) s xs []
+        let kept = first_kept (scope_in range) start s xs []
         (append-nil xs ∙ (items ∙ yields_items _ _ (plain_yields s))) in
         as_told s n (e ∙ ap (λ z. answers (calls_of z)) same) (k ∙ (kept ∙ (items ∙ items_plain s)))
     | lacking_start b ↦
@@ -214,8 +214,8 @@ module _ (range : DepthRange) (start : List ℕ) where
   ]
   entries_answered view told xs ys takes ends (cut_short c x t first e f s) k = elim (takes c t) [
     | walks d n b ↦
-        let p = comes_first c (plain_course (scope_in range start) d) first b in
-        let kept = error_kept (scope_in range start) d (items_of c) p.items x (cutting_kept (calls_of c) x s)
+        let p = comes_first c (plain_course (scope_in range) start d) first b in
+        let kept = error_kept (scope_in range) start d (items_of c) p.items x (cutting_kept (calls_of c) x s)
         (p.items_are ∙ yields_items _ _ (plain_yields d)) in
         told_in_part d (calls_of c) p.calls x n p.calls_are e (
           items_of c,

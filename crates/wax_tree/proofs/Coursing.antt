@@ -266,7 +266,7 @@ module _ {D C : Type 0} where
     Comes = ComesLast w (EntryComes (scope_of w) f)
 
     entry_ahead : (a : Ahead) → ComesAhead new a
-        → Comes (course_at_depth (scope_of w) f.depth (plain_entry (scope_of w) (entry_location f) f.kind)
+        → Comes (course_at_depth (scope_of w) f.depth (plain_entry (entry_location f) f.kind)
         a.below a.after)
     entry_ahead a h =
         let v : Steps D C = record w { entered = new.entered } in
@@ -276,7 +276,7 @@ module _ {D C : Type 0} where
         let after : a.after ≡ g.back = subst (λ u. FirstComes (scope_of w) u g.back a.after) first g.first in
         let b = below_of (scope_of w) f w.entered new.entered a.below entered enters e in
         let at = entry_location f in
-        let x = plain_entry (scope_of w) at f.kind in (
+        let x = plain_entry at f.kind in (
           a.after,
           subst (LevelsCome (scope_of w) w.levels.items) (sym after) g.levels,
           (b.0, b.1, b.2, ap (λ u. course_at_depth (scope_of w) f.depth x u a.after) b.3),
@@ -285,16 +285,16 @@ module _ {D C : Type 0} where
     pub passes_uses : f.depth < w.min → UsesCourse [] Comes GoesOn new
     passes_uses less = record {
       some = some_entry w f;
-      follows = inl (λ a h. subst Comes (ap (λ b. cond b (all_ahead a) (yields (plain_entry (scope_of w) (entry_location f) f.kind) a.below a.after))
+      follows = inl (λ a h. subst Comes (ap (λ b. cond b (all_ahead a) (yields (plain_entry (entry_location f) f.kind) a.below a.after))
           (lt-ltb f.depth w.min less))
           (entry_ahead a h));
     }
 
-    pub gives_uses : (x : _) → tree_given x ≡ plain_entry (scope_of w) (entry_location f) f.kind
+    pub gives_uses : (x : _) → tree_given x ≡ plain_entry (entry_location f) f.kind
         → w.min ≤ f.depth → UsesCourse [] Comes (Gives x) new
     gives_uses x e more = record {
       some = some_entry w f;
-      follows = inl (λ a h. subst Comes (ap (λ b. cond b (all_ahead a) (yields (plain_entry (scope_of w) (entry_location f) f.kind) a.below a.after))
+      follows = inl (λ a h. subst Comes (ap (λ b. cond b (all_ahead a) (yields (plain_entry (entry_location f) f.kind) a.below a.after))
           (le-ltb f.depth w.min more)
           ∙ ap (λ y. yields y a.below a.after) (sym e)) (entry_ahead a h));
     }
@@ -316,17 +316,17 @@ module _ {D C : Type 0} where
   pub misplaced_place : (w : Steps D C) (place : StartPoint) (kind : FileType) (x : List ℕ) (names : List (List ℕ))
       → from_last place.names.items ≡ x ∷ names → ¬ (kind ≡ F.Folder)
       → ComesLast w (PlaceComes (scope_of w) place kind)
-      (yields (fault K.NotAFolder (string_bytes place.at.path) place.at.depth) stop stop)
+      (yields (fault K.NotAFolder place.at.path.path place.at.depth) stop stop)
   misplaced_place w place kind x names e n =
       let l = some_levels (scope_of w) w.levels.items in (
         l.0,
         l.1,
         subst (λ ns. FoundComes (scope_of w) ns (located place.at) l.0 kind
-            (yields (fault K.NotAFolder (string_bytes place.at.path) place.at.depth) stop stop)) (sym e) (stops kind n),
+            (yields (fault K.NotAFolder place.at.path.path place.at.depth) stop stop)) (sym e) (stops kind n),
       ) where
         stops : (k : FileType) → ¬ (k ≡ F.Folder)
             → FoundComes (scope_of w) (x ∷ names) (located place.at) (some_levels (scope_of w) w.levels.items).0 k
-            (yields (fault K.NotAFolder (string_bytes place.at.path) place.at.depth) stop stop)
+            (yields (fault K.NotAFolder place.at.path.path place.at.depth) stop stop)
         stops F.File n = refl
         stops F.Link n = refl
         stops F.Folder n = absurd (n refl)
@@ -477,28 +477,28 @@ module _ (scope : WalkScope) where
   some_item at I.NotText rest = (_, refl)
 
   -- an entry is made of an item
-  pub entry_item : (at : Location) (root : List ℕ) (x : ListItem) (e : TreeEntry) (rest c : Course)
-      → IsFound at root x (Found.Entry e) → EntryComes scope (facts_of e) rest c → ItemComes scope at x rest c
-  entry_item at root (I.Name x kind) e rest c f h = elim f [
+  pub entry_item : (at : Location) (x : ListItem) (e : TreeEntry) (rest c : Course)
+      → IsFound at x (Found.Entry e) → EntryComes scope (facts_of e) rest c → ItemComes scope at x rest c
+  entry_item at (I.Name x kind) e rest c f h = elim f [
     | inl i ↦ inl (
       plain_of (string_bytes x) (IsUtf8-string_bytes x) i.0,
       subst (λ g. EntryComes scope g rest c) i.1 h,
     )
     | inr i ↦ absurd i.1
   ]
-  entry_item at root I.Failed e rest c f h = absurd f
-  entry_item at root I.NotText e rest c f h = absurd f
+  entry_item at I.Failed e rest c f h = absurd f
+  entry_item at I.NotText e rest c f h = absurd f
 
   -- a fault is made of it
-  pub fault_item : (at : Location) (root : List ℕ) (x : ListItem) (kind : FaultKind) (path : String Global) (depth : ℕ)
-      (rest : Course) → depth ≡ at.depth - 1 → IsFound at root x (Found.Fault kind path)
+  pub fault_item : (at : Location) (x : ListItem) (kind : FaultKind) (path : String Global) (depth : ℕ)
+      (rest : Course) → depth ≡ at.depth - 1 → IsFound at x (Found.Fault kind path)
       → ItemComes scope at x rest (yields (fault kind (string_bytes path) depth) stop rest)
-  fault_item at root (I.Name x k) kind path depth rest d f = elim f [
+  fault_item at (I.Name x k) kind path depth rest d f = elim f [
     | inl i ↦ absurd i.1
     | inr i ↦ inr (not_plain (string_bytes x) i.0, fault_is at kind K.BadName path depth rest d i.1)
   ]
-  fault_item at root I.Failed kind path depth rest d f = fault_is at kind K.Listing path depth rest d f
-  fault_item at root I.NotText kind path depth rest d f = fault_is at kind K.NotText path depth rest d f
+  fault_item at I.Failed kind path depth rest d f = fault_is at kind K.Listing path depth rest d f
+  fault_item at I.NotText kind path depth rest d f = fault_is at kind K.NotText path depth rest d f
 
 pub some_taken : {D C : Type 0} (w : Steps D C) (place : code.Location) (x : ListItem)
     → (c : Course) × ComesLast w (TakenComes (scope_of w) (located place) x) c
@@ -524,7 +524,7 @@ module _ (scope : WalkScope) where
         → c ≡ entry_course scope (item_location at (string_bytes x)) kind s h.0
         → RestComes scope at rest (asks (call at.path (listed (named (string_bytes x) kind))) c)
     entry_taken (a_leaf link) p n k e =
-        let y = plain_entry scope (item_location at (string_bytes x)) (leaf_kind link) in
+        let y = plain_entry (item_location at (string_bytes x)) (leaf_kind link) in
         let l = leaf (string_bytes x) link h.1.0 in (
           l,
           (p, h.1.1),
@@ -536,7 +536,7 @@ module _ (scope : WalkScope) where
               ∙ sym (at_depth_then scope at.depth y stop (items_course scope at h.1.0) rest))))),
         )
     entry_taken (a_folder inner) p n k e =
-        let y = plain_entry scope (item_location at (string_bytes x)) F.Folder in
+        let y = plain_entry (item_location at (string_bytes x)) F.Folder in
         let l = folder (string_bytes x) inner h.1.0 in
         let b = below_course scope (item_location at (string_bytes x)) (a_folder inner) in (
           l,
@@ -549,7 +549,7 @@ module _ (scope : WalkScope) where
               ∙ sym (at_depth_then scope at.depth y b (items_course scope at h.1.0) rest))))),
         )
     entry_taken a_sealed p n k e =
-        let y = plain_entry scope (item_location at (string_bytes x)) F.Folder in
+        let y = plain_entry (item_location at (string_bytes x)) F.Folder in
         let l = sealed (string_bytes x) h.1.0 in
         let b = course_above_max scope at.depth (refused_course scope (join at.path (string_bytes x)) at.depth) in (
           l,

@@ -1,5 +1,5 @@
 -- What is found in a folder.
-use Rattle.std.proofs.Common.{◌≡◌, ℕ, ◌+◌, ◌-◌, List, false, inl, inr, sym, subst, ◌∙◌, ap, arith, string_bytes}
+use Rattle.std.proofs.Common.{◌≡◌, ℕ, ◌+◌, ◌-◌, List, false, inl, inr, sym, subst, ◌∙◌, arith, string_bytes}
 use Rattle.std.proofs.Common.{◌<◌, ◌≤◌, Bool, true, cond, refl}
 use Rattle.std.proofs.lemmas.Str.{IsUtf8-string_bytes}
 use Rattle.std.specs.Prelude.{Option, Some, None, Err, String}
@@ -37,7 +37,7 @@ use Rattle.wax_tree.proofs.Showing.{takes_name, takes_misnamed, takes_failed, ta
 module _ (scope : WalkScope) (at : Location) (shows : List ℕ → Shown → Type 0) where
   -- an entry of the folder
   pub found_entry : (x : ListItem) (e : TreeEntry) (l : Items) (g : Forest Given)
-      → IsFound at scope.root x (Entry e) → Some (listed_of x) ≡ first_item l → ShowsIn shows at.path l
+      → IsFound at x (Entry e) → Some (listed_of x) ≡ first_item l → ShowsIn shows at.path l
       → let f = facts_of e in
       ((s : Shown) × shows f.path s × HasKind s f.kind × (own_count l ≡ count_shown s)
       × (first_item_forest scope at l g ≡ entry_forest scope (entry_location f) f.kind s g))
@@ -57,12 +57,6 @@ module _ (scope : WalkScope) (at : Location) (shows : List ℕ → Shown → Typ
   found_entry I.Failed e l g f h i = absurd f
   found_entry I.NotText e l g f h i = absurd f
 
-  pub found_root : (x : ListItem) (e : TreeEntry) → IsFound at scope.root x (Entry e)
-      → (facts_of e).root ≡ scope.root
-  found_root (I.Name name k) e f = elim f [ inl a ↦ ap (λ v. v.root) a.1 | inr a ↦ absurd a.1 ]
-  found_root I.Failed e f = absurd f
-  found_root I.NotText e f = absurd f
-
   fault_told : (kind : FaultKind) (k : FaultKind) (path : String Global) (head g : Forest Given)
       → IsFault at kind (Fault k path) → head ≡ item (fault kind at.path (at.depth - 1)) nothing g
       → head ≡ item (fault k (string_bytes path) (at.depth - 1)) nothing g
@@ -71,7 +65,7 @@ module _ (scope : WalkScope) (at : Location) (shows : List ℕ → Shown → Typ
 
   -- a fault of the folder
   pub found_fault : (x : ListItem) (kind : FaultKind) (path : String Global) (l : Items) (g : Forest Given)
-      → IsFound at scope.root x (Fault kind path) → Some (listed_of x) ≡ first_item l → ShowsIn shows at.path l
+      → IsFound at x (Fault kind path) → Some (listed_of x) ≡ first_item l → ShowsIn shows at.path l
       → first_item_forest scope at l g ≡ item (fault kind (string_bytes path) (at.depth - 1)) nothing g
   found_fault (I.Name name k) kind path l g f h i = elim f [
     | inl a ↦ absurd a.1
@@ -87,9 +81,9 @@ module _ (scope : WalkScope) (at : Location) (shows : List ℕ → Shown → Typ
 -- ---- what a step makes of it
 
 -- an entry's name is plain, so nothing but an item is counted
-plain_counted : (at : Location) (root : List ℕ) (x : ListItem) (e : TreeEntry) (n : Tally) (lost : ℕ)
-    → IsFound at root x (Entry e) → IsCounted n lost no_counts → IsCounted n lost (item_counts x)
-plain_counted at root (I.Name name kind) e n lost f c = elim f [
+plain_counted : (at : Location) (x : ListItem) (e : TreeEntry) (n : Tally) (lost : ℕ)
+    → IsFound at x (Entry e) → IsCounted n lost no_counts → IsCounted n lost (item_counts x)
+plain_counted at (I.Name name kind) e n lost f c = elim f [
   | inl a ↦ record {
     misses = c.misses;
     leaves = omega (arith, c.leaves);
@@ -101,8 +95,8 @@ plain_counted at root (I.Name name kind) e n lost f c = elim f [
   }
   | inr a ↦ absurd a.1
 ]
-plain_counted at root I.Failed e n lost f c = absurd f
-plain_counted at root I.NotText e n lost f c = absurd f
+plain_counted at I.Failed e n lost f c = absurd f
+plain_counted at I.NotText e n lost f c = absurd f
 
 one_name : (b : Bool) → cond b 0 1 ≤ 1
 one_name true = omega arith
@@ -187,14 +181,14 @@ takes_more (Some (fault K.Budget path depth)) n m left e h = (omega (arith, e, h
 
 module _ {D C : Type 0} where
   -- an entry needs no further call of the directory
-  pub entry_uses_answer : (at : Location) (root : List ℕ) (x : ListItem) (e : TreeEntry) (names made : ℕ)
-      (w new : Steps D C) (r : Step) → IsFound at root x (Entry e)
+  pub entry_uses_answer : (at : Location) (x : ListItem) (e : TreeEntry) (names made : ℕ)
+      (w new : Steps D C) (r : Step) → IsFound at x (Entry e)
       → UsesAnswer (nothing_asked names made) w r new
       → UsesAnswer (record { counts = item_counts x; taken = 0; names = names; made = made }) w r new
-  entry_uses_answer at root x e names made w new r f s = record {
+  entry_uses_answer at x e names made w new r f s = record {
     goes_on = s.goes_on;
     directory = s.directory;
-    counts = plain_counted at root x e (fault_counts (step_given r)) (items_lost (step_given r)) f s.counts;
+    counts = plain_counted at x e (fault_counts (step_given r)) (items_lost (step_given r)) f s.counts;
     passed = s.passed;
     passes = s.passes;
     gives = s.gives;
@@ -218,7 +212,7 @@ module _ {D C : Type 0} where
 
   -- a fault was counted
   pub found_uses_answer : (at : Location) (x : ListItem) (kind : FaultKind) (path : String Global) (depth : ℕ)
-      (w : Steps D C) → IsFound at (string_bytes w.root) x (Fault kind path)
+      (w : Steps D C) → IsFound at x (Fault kind path)
       → UsesAnswer (record {
         counts = item_counts x;
         taken = 0;

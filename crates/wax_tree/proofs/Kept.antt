@@ -84,29 +84,29 @@ module _ (scope : WalkScope) where
   kept_below at missing = tt
   kept_below at failing = tt
 
-  kept_entry : (kind : FileType) (s : Shown)
-      → AllKeptIn (entry_forest scope (start_location scope.root) kind s nothing)
-  kept_entry kind s = kept_at 0 _ (below_forest scope (start_location scope.root) s) nothing refl
-      (kept_below (start_location scope.root) s) tt
+  kept_entry : (start : List ℕ) (kind : FileType) (s : Shown)
+      → AllKeptIn (entry_forest scope (start_location start) kind s nothing)
+  kept_entry start kind s = kept_at 0 _ (below_forest scope (start_location start) s) nothing refl
+      (kept_below (start_location start) s) tt
 
-  kept_plain : (s : Shown) → AllKeptIn (plain scope s)
-  kept_plain (a_leaf link) = kept_entry (leaf_kind link) (a_leaf link)
-  kept_plain (a_folder l) = kept_entry Folder (a_folder l)
-  kept_plain a_sealed = kept_entry Folder a_sealed
-  kept_plain missing = (refl, tt, tt)
-  kept_plain failing = (refl, tt, tt)
+  kept_plain : (start : List ℕ) (s : Shown) → AllKeptIn (plain scope start s)
+  kept_plain start (a_leaf link) = kept_entry start (leaf_kind link) (a_leaf link)
+  kept_plain start (a_folder l) = kept_entry start Folder (a_folder l)
+  kept_plain start a_sealed = kept_entry start Folder a_sealed
+  kept_plain start missing = (refl, tt, tt)
+  kept_plain start failing = (refl, tt, tt)
 
   -- what is yielded first of a plain walk is kept
-  pub first_kept : (s : Shown) (xs rest : List Given) → xs ++ rest ≡ preorder (plain scope s)
+  pub first_kept : (start : List ℕ) (s : Shown) (xs rest : List Given) → xs ++ rest ≡ preorder (plain scope start s)
       → filter is_kept xs ≡ xs
-  first_kept s xs rest e =
-      filter_kept xs (kept_before xs rest (subst AllKept (sym e) (kept_preorder (plain scope s) (kept_plain s))))
+  first_kept start s xs rest e =
+      filter_kept xs (kept_before xs rest (subst AllKept (sym e) (kept_preorder (plain scope start s) (kept_plain start s))))
 
   -- and so is an error after it
-  pub error_kept : (s : Shown) (xs rest : List Given) (x : Given) → is_kept x ≡ true
-      → xs ++ rest ≡ preorder (plain scope s) → filter is_kept (xs ++ x ∷ []) ≡ xs ++ x ∷ []
-  error_kept s xs rest x k e = filter_kept (xs ++ x ∷ []) (kept_append xs (x ∷ [])
-      (kept_before xs rest (subst AllKept (sym e) (kept_preorder (plain scope s) (kept_plain s)))) (k, tt))
+  pub error_kept : (start : List ℕ) (s : Shown) (xs rest : List Given) (x : Given) → is_kept x ≡ true
+      → xs ++ rest ≡ preorder (plain scope start s) → filter is_kept (xs ++ x ∷ []) ≡ xs ++ x ∷ []
+  error_kept start s xs rest x k e = filter_kept (xs ++ x ∷ []) (kept_append xs (x ∷ [])
+      (kept_before xs rest (subst AllKept (sym e) (kept_preorder (plain scope start s) (kept_plain start s)))) (k, tt))
 
   kept_cut : (all : List Given) (x : Given) (xs : List Given) → is_kept x ≡ true → AllKept all
       → IsCutShort all x xs → AllKept xs
@@ -121,12 +121,12 @@ module _ (scope : WalkScope) where
   kept_given tells allowed p xs h (over_budget path depth few listed c) = kept_cut _ _ xs refl h c
 
   -- what is kept of a plain walk is all of it
-  pub plain_kept : (tells : List (List ℕ) → Type 0) (allowed : ℕ) (s : Shown) (listed : List (List ℕ))
-      (items : ℕ) (xs ys : List Given)
-      → Yielded tells allowed (pending nothing (plain scope s) listed items) xs → ys ≡ filter is_kept xs
-      → Yielded tells allowed (pending nothing (plain scope s) listed items) ys
-  plain_kept tells allowed s listed items xs ys g e =
-      let p : Pending Given = pending nothing (plain scope s) listed items in
+  pub plain_kept : (tells : List (List ℕ) → Type 0) (allowed : ℕ) (start : List ℕ) (s : Shown)
+      (listed : List (List ℕ)) (items : ℕ) (xs ys : List Given)
+      → Yielded tells allowed (pending nothing (plain scope start s) listed items) xs → ys ≡ filter is_kept xs
+      → Yielded tells allowed (pending nothing (plain scope start s) listed items) ys
+  plain_kept tells allowed start s listed items xs ys g e =
+      let p : Pending Given = pending nothing (plain scope start s) listed items in
       subst (Yielded tells allowed p)
       (sym (e ∙ filter_kept xs
-      (kept_given tells allowed p xs (kept_preorder (all_pending p) (kept_plain s)) g))) g
+      (kept_given tells allowed p xs (kept_preorder (all_pending p) (kept_plain start s)) g))) g

@@ -65,11 +65,11 @@ module _ (scope : WalkScope) where
 
   levelled_entry : (low : ℕ) (at : Location) (kind : FileType) (below after : Forest Given) → low ≤ at.depth
       → IsLevelled at.depth (top (at.depth + 1)) below → IsLevelled low (top at.depth) after
-      → IsLevelled low (top at.depth) (at_depth scope at.depth (plain_entry scope at kind) below after)
+      → IsLevelled low (top at.depth) (at_depth scope at.depth (plain_entry at kind) below after)
   levelled_entry low at kind below after few h k = go (nat_lt at.depth scope.min) refl k where
     go : (b : Bool) → nat_lt at.depth scope.min ≡ b → IsLevelled low (cond b scope.min at.depth) after
         → IsLevelled low (cond b scope.min at.depth)
-        (cond b (followed_by below after) (item (plain_entry scope at kind) below after))
+        (cond b (followed_by below after) (item (plain_entry at kind) below after))
     go true e i =
         levelled_followed low scope.min below after
         (levelled_from at.depth low scope.min below few

@@ -1,6 +1,6 @@
 -- Which folders steps open, and which listings they read to the end.
 use Rattle.std.proofs.Common.{◌≡◌, ℕ, ◌+◌, ◌<◌, ◌≤◌, Bool, true, false, cond, length, refl, ap, subst, sym, ◌∙◌, arith, inl, inr}
-use Rattle.std.specs.Prelude.{Option, None, Some, ◌&&◌, nat_lt, List, string_bytes}
+use Rattle.std.specs.Prelude.{Option, None, Some, ◌&&◌, nat_lt, List}
 use Rattle.std.proofs.lemmas.Bool.{cases_lt, lt-ltb}
 use Rattle.wax_directory.specs.declared.directory.FileType.{FileType}
 use Rattle.wax_directory.specs.declared.directory.FileType.TheVariants as F
@@ -63,8 +63,8 @@ module _ {D C : Type 0} where
                   not_above f.kind
             ])
         go (Some l) e =
-            let O : Option code.Location → Type 0 = λ v. OfEntered v (string_bytes l.path) l.depth in
-            let t = from (string_bytes l.path) l.depth (subst O (sym e) (refl, refl)) in
+            let O : Option code.Location → Type 0 = λ v. OfEntered v l.path.path l.depth in
+            let t = from l.path.path l.depth (subst O (sym e) (refl, refl)) in
             let yes : is_folder_kind f.kind && nat_lt f.depth w.max ≡ true =
             ap (λ k. is_folder_kind k && nat_lt f.depth w.max) t.0 ∙ lt-ltb f.depth w.max t.1 in
             ap (λ v. if_some v 1) e ∙ sym (ap (λ b. cond b 1 0) yes)

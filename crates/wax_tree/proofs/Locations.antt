@@ -1,15 +1,18 @@
--- The texts and the depth of a location.
-use Rattle.std.proofs.Common.{◌≡◌, ap, string_bytes}
-use Rattle.wax_tree.specs.declared.location.Location as code
-use Rattle.wax_tree.specs.Plain.{Location}
-use Rattle.wax_tree.specs.Walking.{located}
+-- Locations in folders and below them.
+use Rattle.std.proofs.Common.{◌≡◌, ◌+◌, ◌<◌, ◌^◌, ℕ, List, ap, arith}
+use Rattle.wax_walk.specs.declared.walked_path.WalkedPath.{WalkedPath}
+use Rattle.wax_walk.specs.Entries.{texts_of}
+use Rattle.wax_walk.specs.Given.{Facts}
+use Rattle.wax_tree.specs.Courses.{onward_location}
+use Rattle.wax_tree.specs.Plain.{Location, item_location, one_deeper}
+use Rattle.wax_tree.specs.Walking.{entry_location, located}
 
-module _ (at : code.Location) (that : Location) (is : located at ≡ that) where
-  pub path_is : string_bytes at.path ≡ that.path
-  path_is = ap (λ (v : Location). v.path) is
+-- the location of a name in a folder, one level deeper
+pub onward_is : (at : Location) (x : List ℕ) → at.depth + 1 < 2 ^ 64
+    → onward_location at x ≡ one_deeper (item_location at x)
+onward_is at x h = ap (λ n. record (item_location at x) { depth = n }) (omega (arith, h))
 
-  pub candidate_is : string_bytes at.candidate ≡ that.candidate
-  candidate_is = ap (λ (v : Location). v.candidate) is
-
-  pub depth_is : at.depth ≡ that.depth
-  depth_is = ap (λ (v : Location). v.depth) is
+-- the folder of an entry, from a copy of its path
+pub folder_is : (f : Facts) (path : WalkedPath) (depth : ℕ) → path ≡ texts_of f → depth ≡ f.depth
+    → located (record { path = path; depth = depth + 1 }) ≡ one_deeper (entry_location f)
+folder_is f path depth e d = λ i. located (record { path = e i; depth = d i + 1 })

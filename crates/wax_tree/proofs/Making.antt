@@ -33,7 +33,7 @@ use Rattle.wax_tree.specs.Walking.{MayBeAhead, PlainToCome, scope_of, steps_view
 module _ {D C : Type 0} (law : Law D C) where
   made_comes : (w : Steps D C) (place : StartPoint) (s : Shown) (listed : List (List ℕ)) → w.first ≡ Some place
       → w.entered ≡ None → w.levels.items ≡ [] → w.has_ended ≡ false
-      → law.shows w.directory (string_bytes place.at.path) s → ArePlain (from_last place.names.items)
+      → law.shows w.directory place.at.path.path s → ArePlain (from_last place.names.items)
       → place.at.depth + length place.names.items ≤ 2 ^ 64 - 1 → law.tells w.directory listed
       → law.holds w.directory [] []
       → PlainToCome law w (pending nothing
@@ -56,21 +56,19 @@ module _ {D C : Type 0} (law : Law D C) where
     ended = λ t. absurd (let b : true ≡ false = sym t ∙ f in (cc));
   }
 
-  pub made_at : (w : Steps D C) (root : List ℕ) (place : StartPoint) (at : Location) (names : List (String Global))
+  pub made_at : (w : Steps D C) (place : StartPoint) (at : Location) (names : List (String Global))
       (s : Shown) (listed : List (List ℕ)) → w.first ≡ Some place → w.entered ≡ None → w.levels.items ≡ []
-      → w.has_ended ≡ false
-      → string_bytes w.root ≡ root → string_bytes place.at.path ≡ at.path
-      → string_bytes place.at.candidate ≡ at.candidate → place.at.depth ≡ at.depth → place.names.items ≡ names
+      → w.has_ended ≡ false → located place.at ≡ at → place.names.items ≡ names
       → law.shows w.directory at.path s → ArePlain (from_last names) → at.depth + length names ≤ 2 ^ 64 - 1
       → law.tells w.directory listed → law.holds w.directory [] []
       → PlainToCome law w (pending nothing
-      (walk_from (record { min = w.min; max = w.max; root = root }) at s (from_last names) nothing) listed
-      (count_shown s))
-  made_at w root place at names s listed e n l f o q k d i h plain fits told held =
+      (walk_from (scope_of w) at s (from_last names) nothing) listed (count_shown s))
+  made_at w place at names s listed e n l f here i h plain fits told held =
       let long : length place.names.items ≡ length names = ap length i in
+      let d : place.at.depth ≡ at.depth = ap (λ v. v.depth) here in
+      let q : place.at.path.path ≡ at.path = ap (λ v. v.path) here in
       subst (λ v. PlainToCome law w (pending nothing v listed (count_shown s)))
-      (λ j. walk_from (record { min = w.min; max = w.max; root = o j })
-      (record { path = q j; candidate = k j; depth = d j }) s (from_last (i j)) nothing)
+      (λ j. walk_from (scope_of w) (here j) s (from_last (i j)) nothing)
       (made_comes w place s listed e n l f (subst (λ v. law.shows w.directory v s) (sym q) h)
       (subst (λ v. ArePlain (from_last v)) (sym i) plain) (omega (arith, d, fits, long)) told held)
 
@@ -262,12 +260,12 @@ begins_taken a c b d e h i k = subst (λ z. course.IsStartOf z d) e
     (begins_after a.below a.after d (subst (course.IsStartOf a.below) i h) k)
 
 module _ {D C : Type 0} (law : Law D C) where
-  pub made_takes : (w : Steps D C) (place : StartPoint) (at : Location) (root : List ℕ) (c : Course)
+  pub made_takes : (w : Steps D C) (place : StartPoint) (at : Location) (c : Course)
       → w.first ≡ Some place → w.levels.items ≡ [] → w.has_ended ≡ false → located place.at ≡ at
-      → string_bytes w.root ≡ root → MayTake (steps_view law w) c
-      → (d : Course) × AlongComes (record { min = w.min; max = w.max; root = root }) (from_last place.names.items) at
-      stop d × course.IsStartOf c d
-  made_takes w place at root c first levels going here r t =
+      → MayTake (steps_view law w) c
+      → (d : Course) × AlongComes (scope_of w) (from_last place.names.items) at stop d
+      × course.IsStartOf c d
+  made_takes w place at c first levels going here t =
       let b = t.1 in
       let g = goes_ahead w b.0 going b.1 in
       let scope = scope_of w in
@@ -280,7 +278,7 @@ module _ {D C : Type 0} (law : Law D C) where
       subst (λ z. AlongComes scope names at z b.0.after) back
       (subst (λ z. AlongComes scope names z g.back b.0.after) here along) in (
         b.0.after,
-        subst (λ z. AlongComes (record { min = w.min; max = w.max; root = z }) names at stop b.0.after) r some,
+        some,
         begins_taken t.0 c b.0.below b.0.after t.2 b.2 below b.3,
       )
 
@@ -329,10 +327,10 @@ along_plain scope at after c (is_failing e) = (failing, tt, e)
 
 start_takes : (range : DepthRange) (start : List ℕ) (names : List (List ℕ)) (c : Course) → names ≡ []
     → OriginTakes (record { root = start; path = start; candidate = []; names = names }) range c
-    → StartTakes (scope_in range start) c
+    → StartTakes (scope_in range) start c
 start_takes range start names c e (along least fits d h b) =
-    let p = along_plain (scope_in range start) (start_location start) stop d
-    (subst (λ ns. AlongComes (scope_in range start) ns (start_location start) stop d) e h) in
+    let p = along_plain (scope_in range) (start_location start) stop d
+    (subst (λ ns. AlongComes (scope_in range) ns (start_location start) stop d) e h) in
     walks p.0 p.1 (subst (course.IsStartOf c) p.2 b)
 start_takes range start names c e (lacking b) = lacking_start b
 start_takes range start names c e (beyond l b) =
@@ -402,8 +400,8 @@ begins_plain law d start names range view e b =
     record {
       shown = λ s listed h told.
           subst (λ v. view.to_come
-          (pending nothing (walk_from (record { min = range.min; max = range.max; root = start })
-          (record { path = start; candidate = []; depth = 0 }) s v nothing) listed (count_shown s))) e
+          (pending nothing (walk_from (scope_in range) (start_location start) s v nothing) listed
+          (count_shown s))) e
           (b.shown s listed h told (subst ArePlain (sym e) tt) (omega (arith, long)));
       takes = λ c t. start_takes range start names c e (b.takes c t);
       listings = b.listings;

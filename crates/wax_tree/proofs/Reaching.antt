@@ -155,12 +155,12 @@ levels_popped (outer ∷ levels) level path n h = elim h [
 
 -- ---- the way
 
-pub way_here : (place : StartPoint) (path : List ℕ) (n : ℕ) → OneFolder (string_bytes place.at.path) (place.at.depth + 1) path n
+pub way_here : (place : StartPoint) (path : List ℕ) (n : ℕ) → OneFolder place.at.path.path (place.at.depth + 1) path n
     → OnWay place path n
 way_here place path n h = ([], from_last place.names.items, refl, h.0, λ fits. omega (arith, h.1))
 
 way_next : (place next : StartPoint) (x : String Global) → place.names.items ≡ next.names.items ++ x ∷ []
-    → string_bytes next.at.path ≡ join (string_bytes place.at.path) (string_bytes x)
+    → next.at.path.path ≡ join place.at.path.path (string_bytes x)
     → next.at.depth ≡ min (place.at.depth + 1) (2 ^ 64 - 1)
     → (path : List ℕ) (n : ℕ) → OnWay next path n → OnWay place path n
 way_next place next x e q d path n h =
@@ -174,7 +174,7 @@ way_next place next x e q d path n h =
     )
 
 way_passed : (least : ℕ) (place : StartPoint) (start : List ℕ) (names : List (List ℕ))
-    → string_bytes place.at.path ≡ start → place.at.depth ≡ 0 → from_last place.names.items ≡ names
+    → place.at.path.path ≡ start → place.at.depth ≡ 0 → from_last place.names.items ≡ names
     → length names < 2 ^ 64
     → (top : List ℕ) (above : ℕ) → OnWay place top above → (path : List ℕ) (n : ℕ) (more : List (List ℕ))
     → ArePlain more → path ≡ path_from top more → n ≡ above + length more → (more ≡ []) ⊎ (n ≤ least)
@@ -340,7 +340,7 @@ module _ {D C : Type 0} where
   -- the next name was followed
   pub next_reaches : (w : Steps D C) (place next : StartPoint) (x : String Global)
       → place.names.items ≡ next.names.items ++ x ∷ []
-      → string_bytes next.at.path ≡ join (string_bytes place.at.path) (string_bytes x)
+      → next.at.path.path ≡ join place.at.path.path (string_bytes x)
       → next.at.depth ≡ min (place.at.depth + 1) (2 ^ 64 - 1)
       → (path : List ℕ) (n : ℕ) → ReachesFrom (record w { first = Some next }) no_folders path n
       → ReachesFrom w (OnWay place) path n
@@ -397,9 +397,9 @@ module _ {D C : Type 0} where
 -- ---- the items of a folder
 
 -- an entry of a folder has a plain name
-found_name : (at : Location) (root : List ℕ) (x : ListItem) (e : TreeEntry) → IsFound at root x (Entry e)
+found_name : (at : Location) (x : ListItem) (e : TreeEntry) → IsFound at x (Entry e)
     → (name : List ℕ) × IsPlain name × ((facts_of e).path ≡ join at.path name) × ((facts_of e).depth ≡ at.depth)
-found_name at root (I.Name name k) e f = elim f [
+found_name at (I.Name name k) e f = elim f [
   | inl a ↦ (
     string_bytes name,
     plain_of (string_bytes name) (IsUtf8-string_bytes name) a.0,
@@ -408,19 +408,19 @@ found_name at root (I.Name name k) e f = elim f [
   )
   | inr a ↦ absurd a.1
 ]
-found_name at root I.Failed e f = absurd f
-found_name at root I.NotText e f = absurd f
+found_name at I.Failed e f = absurd f
+found_name at I.NotText e f = absurd f
 
 -- an error of a folder has its path
-found_path : (at : Location) (root : List ℕ) (x : ListItem) (kind : FaultKind) (path : String Global)
-    → IsFound at root x (FoundFault kind path) → string_bytes path ≡ at.path
-found_path at root (I.Name name k) kind path f = elim f [ inl a ↦ absurd a.1 | inr a ↦ a.1.1 ]
-found_path at root I.Failed kind path f = f.1
-found_path at root I.NotText kind path f = f.1
+found_path : (at : Location) (x : ListItem) (kind : FaultKind) (path : String Global)
+    → IsFound at x (FoundFault kind path) → string_bytes path ≡ at.path
+found_path at (I.Name name k) kind path f = elim f [ inl a ↦ absurd a.1 | inr a ↦ a.1.1 ]
+found_path at I.Failed kind path f = f.1
+found_path at I.NotText kind path f = f.1
 
 module _ {D C : Type 0} (w : Steps D C) (at : Location) (x : ListItem) where
   -- an entry that isn't yielded is below its folder
-  pub entry_places : (e : TreeEntry) (r : Step) (new : Steps D C) → IsFound at (string_bytes w.root) x (Entry e)
+  pub entry_places : (e : TreeEntry) (r : Step) (new : Steps D C) → IsFound at x (Entry e)
       → let f = facts_of e in
       (StepPlaces (ReachesFrom w no_folders)
       (λ p n. (f.depth < w.min) × LeadsUnseen w.min (OneFolder f.path (f.depth + 1)) p n) w.max r new
@@ -429,7 +429,7 @@ module _ {D C : Type 0} (w : Steps D C) (at : Location) (x : ListItem) where
   entry_places e r new found s =
       let f = facts_of e in
       let one = OneFolder at.path at.depth in
-      let named = found_name at (string_bytes w.root) x e found in
+      let named = found_name at x e found in
       places_more _ (ReachesFrom w one) _ (ReachesFrom w one) w.max r new
       (λ p n h. reaches_more w no_folders one (λ q k i. absurd i) p n h)
       (λ p n h. leads_on w.min (OfAny w one) p n
@@ -441,13 +441,13 @@ module _ {D C : Type 0} (w : Steps D C) (at : Location) (x : ListItem) where
       p n h.1)) s
 
   pub found_places : (kind : FaultKind) (path : String Global) (depth inside : ℕ)
-      → IsFound at (string_bytes w.root) x (FoundFault kind path) → depth ≡ inside - 1 → w.entered ≡ None
+      → IsFound at x (FoundFault kind path) → depth ≡ inside - 1 → w.entered ≡ None
       → StepPlaces (ReachesFrom w (OneFolder at.path inside)) (ReachesFrom w (OneFolder at.path inside)) w.max
       (Gives (Err (Fault kind path depth))) w
   found_places kind path depth inside f d none =
       let one = OneFolder at.path inside in
       fault_places (ReachesFrom w one) (ReachesFrom w one) w.max w kind path depth inside d
-      (leads_here w.min (OfAny w one) (string_bytes path) inside (inl (found_path at (string_bytes w.root) x kind path f, refl))) none
+      (leads_here w.min (OfAny w one) (string_bytes path) inside (inl (found_path at x kind path f, refl))) none
       (λ p k h. reaches_more w no_folders one (λ q m i. absurd i) p k h)
 
 -- ---- a walk when it is made
@@ -470,7 +470,7 @@ module _ {D C : Type 0} where
 
   -- of a walk that begins, errors can come only of what it passes
   pub begins_passed : (w : Steps D C) (place : StartPoint) (start : List ℕ) (names : List (List ℕ))
-      → w.first ≡ Some place → w.levels.items ≡ [] → string_bytes place.at.path ≡ start → place.at.depth ≡ 0
+      → w.first ≡ Some place → w.levels.items ≡ [] → place.at.path.path ≡ start → place.at.depth ≡ 0
       → from_last place.names.items ≡ names → length names < 2 ^ 64
       → (path : List ℕ) (depth : ℕ) → MayFailAt w path depth → IsPassed w.min start names path depth
   begins_passed w place start names first levels q d e fits path depth h =

@@ -1,6 +1,6 @@
 -- States of a walk: levels that are pushed and popped, and directories that answered.
 use Rattle.std.proofs.Common.{◌≡◌, ℕ, ◌+◌, ◌-◌, ◌<◌, ◌≤◌, true, false, cond, List, []}
-use Rattle.std.proofs.Common.{◌∷◌, ◌++◌, refl, sym, ap, subst, ◌∙◌, arith, string_bytes}
+use Rattle.std.proofs.Common.{◌∷◌, ◌++◌, refl, sym, ap, subst, ◌∙◌, arith}
 use Rattle.std.specs.Prelude.{Option, Some}
 use Rattle.std.proofs.lemmas.Bool.{lt-ltb}
 use Rattle.std.specs.List.{Contains}
@@ -16,7 +16,7 @@ use Rattle.wax_tree.specs.declared.steps.OpenFolder.{OpenFolder}
 use Rattle.wax_tree.specs.declared.steps.Steps.{Steps}
 use Rattle.wax_tree.specs.Plain.{WalkScope, Location, count, count_shown, below_forest, items_forest, unlisted}
 use Rattle.wax_tree.specs.Walking.{IsAlone, located, scope_of}
-use Rattle.wax_tree.specs.Plain.{HasKind}
+use Rattle.wax_tree.specs.Plain.{HasKind, one_deeper}
 use Rattle.wax_tree.specs.Walking.{cursors_of, Rest, FirstShows, EnteredShows, LevelsShow, AtRest}
 use Rattle.wax_tree.specs.Walking.{PlainToCome, WereListed}
 use Rattle.wax_tree.proofs.Showing.{followed_nothing, followed_assoc, shows_in_moved}
@@ -31,7 +31,7 @@ levels_moved old new scope same (lv ∷ inner) [] f n h = h
 levels_moved old new scope same (lv ∷ inner) (l ∷ has) f n h = (
   h.0,
   h.1,
-  shows_in_moved old new same (string_bytes lv.folder.path) l h.2,
+  shows_in_moved old new same lv.folder.path.path l h.2,
   levels_moved old new scope same inner has h.0 h.1 h.3,
   h.4,
   h.5,
@@ -40,7 +40,7 @@ levels_moved old new scope same (lv ∷ inner) (l ∷ has) f n h = (
 module _ {C : Type 0} (shows : List ℕ → Shown → Type 0) (scope : WalkScope) where
   -- one more level
   pub levels_pushed : (ls : List (OpenFolder C)) (has : List Items) (lv : OpenFolder C) (l : Items) (f : Forest Given)
-      (n : ℕ) → LevelsShow shows scope ls has f n → ShowsIn shows (string_bytes lv.folder.path) l
+      (n : ℕ) → LevelsShow shows scope ls has f n → ShowsIn shows lv.folder.path.path l
       → LevelsShow shows scope (ls ++ lv ∷ []) (has ++ l ∷ [])
       (followed_by (items_forest scope (located lv.folder) l) f) (n + count l)
   levels_pushed [] [] lv l f n h i = (
@@ -68,7 +68,7 @@ module _ {C : Type 0} (shows : List ℕ → Shown → Type 0) (scope : WalkScope
   -- what the innermost level has to give, and what comes of the others
   abbrev pub Popped : List (OpenFolder C) → OpenFolder C → List Items → Forest Given → ℕ → Type 0
   Popped ls lv has f n = (outer : List Items) × (l : Items) × (g : Forest Given) × (m : ℕ) ×
-      (has ≡ outer ++ l ∷ []) × ShowsIn shows (string_bytes lv.folder.path) l × LevelsShow shows scope ls
+      (has ≡ outer ++ l ∷ []) × ShowsIn shows lv.folder.path.path l × LevelsShow shows scope ls
       outer g m
       × (f ≡ followed_by (items_forest scope (located lv.folder) l) g) × (n ≡ m + count l)
 
@@ -111,26 +111,26 @@ module _ {C : Type 0} (shows : List ℕ → Shown → Type 0) (scope : WalkScope
   levels_none (lv ∷ inner) has f n h e = cc
 
 -- a folder that will be entered
-pub enters_later : (shows : List ℕ → Shown → Type 0) (scope : WalkScope) (e : code.Location) (at : Location) (s : Shown)
-    → shows at.path s → HasKind s F.Folder → at.depth < scope.max → string_bytes e.path ≡ at.path
-    → string_bytes e.candidate ≡ at.candidate → e.depth ≡ at.depth + 1
+pub enters_later : (shows : List ℕ → Shown → Type 0) (scope : WalkScope) (e : code.Location) (at : Location)
+    (s : Shown) → shows at.path s → HasKind s F.Folder → at.depth < scope.max → located e ≡ one_deeper at
     → (n : ℕ) × (n ≤ count_shown s) × EnteredShows shows scope (Some e) (below_forest scope at s) n
-enters_later shows scope e at (a_folder l) h k d p q i = (
+enters_later shows scope e at (a_folder l) h k d i = (
   count l,
   omega arith,
   (
     a_folder l,
-    subst (λ v. shows v (a_folder l)) (sym p) h,
+    subst (λ v. shows v (a_folder l)) (sym (ap (λ v. v.path) i)) h,
     tt,
-    rw (p, q, i) (ap (λ b. cond b
-        (lists at.path (items_forest scope
-        (record { path = at.path; candidate = at.candidate; depth = at.depth + 1 }) l)) nothing)
-        (lt-ltb at.depth scope.max d)),
+    ap (λ b. cond b (lists at.path (items_forest scope (one_deeper at) l)) nothing)
+        (lt-ltb at.depth scope.max d)
+        ∙ (λ j. lists (sym i j).path (items_forest scope (sym i j) l)),
     refl,
   ),
 )
-enters_later shows scope e at a_sealed h k d p q i =
-    let back : at.depth ≡ e.depth - 1 = omega (arith, i) in (
+enters_later shows scope e at a_sealed h k d i =
+    let p : e.path.path ≡ at.path = ap (λ v. v.path) i in
+    let deep : e.depth ≡ at.depth + 1 = ap (λ v. v.depth) i in
+    let back : at.depth ≡ e.depth - 1 = omega (arith, deep) in (
       0,
       omega arith,
       (
@@ -142,10 +142,10 @@ enters_later shows scope e at a_sealed h k d p q i =
         refl,
       ),
     )
-enters_later shows scope e at (a_leaf true) h k d p q i = cc
-enters_later shows scope e at (a_leaf false) h k d p q i = cc
-enters_later shows scope e at missing h k d p q i = absurd k
-enters_later shows scope e at failing h k d p q i = absurd k
+enters_later shows scope e at (a_leaf true) h k d i = cc
+enters_later shows scope e at (a_leaf false) h k d i = cc
+enters_later shows scope e at missing h k d i = absurd k
+enters_later shows scope e at failing h k d i = absurd k
 
 pub cursors_pushed : {C : Type 0} (ls : List (OpenFolder C)) (lv : OpenFolder C)
     → cursors_of (ls ++ lv ∷ []) ≡ cursors_of ls ++ lv.cursor ∷ []
@@ -153,14 +153,14 @@ cursors_pushed ls lv = map-append (λ level. level.cursor) ls (lv ∷ [])
 
 module _ {C : Type 0} where
   listed_pushed : (levels : List (OpenFolder C)) (last : OpenFolder C) (listed : List (List ℕ))
-      → WereListed levels listed → Contains listed (string_bytes last.folder.path)
+      → WereListed levels listed → Contains listed last.folder.path.path
       → WereListed (levels ++ last ∷ []) listed
   listed_pushed [] last listed h k = (k, tt)
   listed_pushed (level ∷ levels) last listed h k = (h.0, listed_pushed levels last listed h.1 k)
 
   pub listed_popped : (levels : List (OpenFolder C)) (last : OpenFolder C) (listed : List (List ℕ))
       → WereListed (levels ++ last ∷ []) listed
-      → WereListed levels listed × Contains listed (string_bytes last.folder.path)
+      → WereListed levels listed × Contains listed last.folder.path.path
   listed_popped [] last listed h = (tt, h.0)
   listed_popped (level ∷ levels) last listed h =
       let rest = listed_popped levels last listed h.1 in ((h.0, rest.0), rest.1)
@@ -261,8 +261,8 @@ module _ {D C : Type 0} (law : Law D C) where
   -- a folder was opened, or an item taken from it
   pub rest_pushed : (w v : Steps D C) (lv : OpenFolder C) (l : Items) (rest : Rest) → AtRest law w rest
       → HoldsLast law w.directory (cursors_of w.levels.items) rest.has lv.cursor l
-      → ShowsIn (law.shows w.directory) (string_bytes lv.folder.path) l
-      → Contains rest.listed (string_bytes lv.folder.path)
+      → ShowsIn (law.shows w.directory) lv.folder.path.path l
+      → Contains rest.listed lv.folder.path.path
       → v.levels.items ≡ w.levels.items ++ lv ∷ []
       → AtRest law (record w { levels = v.levels })
       (record {

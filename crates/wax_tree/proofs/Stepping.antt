@@ -32,7 +32,7 @@ use Rattle.wax_tree.specs.Plain.{Location, count, count_shown, below_forest, ent
 use Rattle.wax_tree.specs.Plain.{items_forest}
 use Rattle.wax_tree.specs.Prefix.{ArePlain, from_last, walk_from}
 use Rattle.wax_tree.specs.Walking.{IsAlone, tree_given, entered_forest}
-use Rattle.wax_tree.specs.Plain.{HasKind, IsFolder}
+use Rattle.wax_tree.specs.Plain.{HasKind, IsFolder, item_location, one_deeper}
 use Rattle.wax_tree.specs.Walking.{located, scope_of, cursors_of, allowance}
 use Rattle.wax_tree.specs.Walking.{Rest, FirstShows, EnteredShows, LevelsShow, AtRest}
 use Rattle.wax_tree.specs.Walking.{PlainToCome, WereListed, steps_view, MovesOn}
@@ -58,7 +58,7 @@ module _ {D C : Type 0} (law : Law D C) where
         subst (λ v. PlainToCome law v (pending below rest.forest rest.listed items)) (sym is)
             (comes_after law w e below k items rest r i (omega (arith, few, enough))),
         inl (
-          silent (scope_of w) at.depth (plain_entry (scope_of w) at kind) below rest.forest (omega arith),
+          silent (scope_of w) at.depth (plain_entry at kind) below rest.forest (omega arith),
           refl,
         ),
         omega (arith, a),
@@ -66,7 +66,7 @@ module _ {D C : Type 0} (law : Law D C) where
 
   pub gives_entry : (w new : Steps D C) (e : Option code.Location) (at : Location) (kind : FileType) (s : Shown)
       (k items : ℕ) (rest : Rest) (x : Result TreeEntry WalkError) → new ≡ record w { entered = e }
-      → new.min ≤ at.depth → tree_given x ≡ plain_entry (scope_of w) at kind
+      → new.min ≤ at.depth → tree_given x ≡ plain_entry at kind
       → AtRest law w rest → EnteredShows (law.shows w.directory) (scope_of w) e
       (below_forest (scope_of w) at s) k → k ≤ count_shown s → count_shown s + rest.count ≤ items
       → StepIs law w (pending nothing (entry_forest (scope_of w) at kind s rest.forest) rest.listed items)
@@ -78,7 +78,7 @@ module _ {D C : Type 0} (law : Law D C) where
       let then = PlainToCome law new in
       gives items (λ n. omega (arith, a))
       (subst (λ f. FirstIs then f rest.listed items (Some (tree_given x)))
-      (sym (in_range (scope_of w) at.depth (plain_entry (scope_of w) at kind) below rest.forest
+      (sym (in_range (scope_of w) at.depth (plain_entry at kind) below rest.forest
       (omega arith))) (
         ap Some g,
         subst (λ v. PlainToCome law v (pending below rest.forest rest.listed items)) (sym is)
@@ -99,18 +99,18 @@ module _ {D C : Type 0} (law : Law D C) where
   -- a folder was opened
   pub enters : (w v : Steps D C) (d : D) (lv : OpenFolder C) (s : Shown) (rest : Rest) (items : ℕ)
       → IsFolder s → Opens (HoldsLast law d (cursors_of w.levels.items) rest.has) s (Ok lv.cursor)
-      → law.shows d (string_bytes lv.folder.path) s
-      → ((l : Items) → law.shows d (string_bytes lv.folder.path) (a_folder l)
-      → ShowsIn (law.shows d) (string_bytes lv.folder.path) l)
+      → law.shows d lv.folder.path.path s
+      → ((l : Items) → law.shows d lv.folder.path.path (a_folder l)
+      → ShowsIn (law.shows d) lv.folder.path.path l)
       → ((l : Items) → HoldsLast law d (cursors_of w.levels.items) rest.has lv.cursor l
       → AtRest law (record w { directory = d })
-      (record rest { listed = rest.listed ++ string_bytes lv.folder.path ∷ [] }))
+      (record rest { listed = rest.listed ++ lv.folder.path.path ∷ [] }))
       → v.levels.items ≡ w.levels.items ++ lv ∷ [] → count_shown s + rest.count ≤ items
       → StepIs law w (pending nothing
       (followed_by (entered_forest (scope_of w) (located lv.folder) s) rest.forest) rest.listed items)
       GoesOn (record w { directory = d; levels = v.levels })
   enters w v d lv (a_folder l) rest items i o h inner r e few =
-      let path = string_bytes lv.folder.path in
+      let path = lv.folder.path.path in
       let pushed = rest_pushed law (record w { directory = d }) v lv l
       (record rest { listed = rest.listed ++ path ∷ [] }) (r l o) o (inner l h)
       (Contains-append_right rest.listed (path ∷ []) path (Contains-push [] path)) e in (
@@ -161,28 +161,28 @@ module _ {D C : Type 0} (law : Law D C) where
 
   -- a name follows a folder
   pub follows : (w : Steps D C) (place next : StartPoint) (x : String Global) (s : Shown) (rest : Rest) (items : ℕ)
-      → AtRest law w rest → law.shows w.directory (string_bytes place.at.path) s → HasKind s F.Folder
+      → AtRest law w rest → law.shows w.directory place.at.path.path s → HasKind s F.Folder
       → ArePlain (from_last place.names.items) → place.at.depth + length place.names.items ≤ 2 ^ 64 - 1
       → w.levels.items ≡ [] → count_shown s + rest.count ≤ items
       → ((path : List ℕ) (y : List ℕ) (s : Shown) → law.shows w.directory path s → IsPlain y
       → law.shows w.directory (join path y) (child_shown y s))
       → place.names.items ≡ next.names.items ++ x ∷ []
-      → string_bytes next.at.path ≡ join (string_bytes place.at.path) (string_bytes x)
-      → string_bytes next.at.candidate ≡ join (string_bytes place.at.candidate) (string_bytes x)
-      → next.at.depth ≡ place.at.depth + 1
+      → located next.at ≡ one_deeper (item_location (located place.at) (string_bytes x))
       → StepIs law w (pending nothing
       (walk_from (scope_of w) (located place.at) s (from_last place.names.items) rest.forest) rest.listed
       items) GoesOn (record w { first = Some next })
-  follows w place next x s rest items r h k p d none few child e path candidate depth =
+  follows w place next x s rest items r h k p d none few child e onward =
+      let path : next.at.path.path ≡ join place.at.path.path (string_bytes x) = ap (λ v. v.path) onward in
+      let depth : next.at.depth ≡ place.at.depth + 1 = ap (λ v. v.depth) onward in
       let names : from_last place.names.items ≡ string_bytes x ∷ from_last next.names.items =
       ap from_last e ∙ from_last_end next.names.items x in
       let plain : ArePlain (string_bytes x ∷ from_last next.names.items) = subst ArePlain names p in
       let below = child_shown (string_bytes x) s in
       let long : length place.names.items ≡ length next.names.items + 1 =
       ap length e ∙ length-append next.names.items (x ∷ []) in
-      let at : law.shows w.directory (string_bytes next.at.path) below =
+      let at : law.shows w.directory next.at.path.path below =
       subst (λ v. law.shows w.directory v below) (sym path)
-      (child (string_bytes place.at.path) (string_bytes x) s h plain.0) in
+      (child place.at.path.path (string_bytes x) s h plain.0) in
       let fewer : count_shown below ≤ count_shown s = child_counts (string_bytes x) s in (
         pending nothing (walk_from (scope_of w) (located next.at) below (from_last next.names.items)
             rest.forest) rest.listed items,
@@ -207,9 +207,7 @@ module _ {D C : Type 0} (law : Law D C) where
           (ap (λ v. walk_from (scope_of w) (located place.at) s v rest.forest) names
               ∙ follows_folder (scope_of w) (located place.at) s (string_bytes x) (from_last next.names.items)
               rest.forest k)
-              ∙ (λ i. walk_from (scope_of w)
-              (record { path = sym path i; candidate = sym candidate i; depth = sym depth i }) below
-              (from_last next.names.items) rest.forest),
+              ∙ (λ i. walk_from (scope_of w) (sym onward i) below (from_last next.names.items) rest.forest),
           refl,
         ),
         omega arith,
@@ -220,7 +218,7 @@ module _ {D C : Type 0} (law : Law D C) where
   pub steps_begin : (w : Steps D C) (place : StartPoint) (a : Option StartPoint) (b : Option code.Location) (p : Pending Given)
       → PlainToCome law w p → w.first ≡ Some place → a ≡ None → b ≡ None → w.has_ended ≡ false
       → (s : Shown) × (rest : Rest) × AtRest law (record w { first = a; entered = b }) rest × law.shows
-      w.directory (string_bytes place.at.path) s × ArePlain (from_last place.names.items) ×
+      w.directory place.at.path.path s × ArePlain (from_last place.names.items) ×
       (place.at.depth + length place.names.items ≤ 2 ^ 64 - 1) × (w.levels.items ≡ [])
       × (count_shown s + rest.count ≤ p.items) × (p ≡ pending p.below p.after rest.listed p.items) ×
       (all_pending p ≡ walk_from (scope_of w) (located place.at) s (from_last place.names.items)
@@ -254,7 +252,7 @@ module _ {D C : Type 0} (law : Law D C) where
   pub steps_enter : (w : Steps D C) (e : code.Location) (a : Option StartPoint) (b : Option code.Location) (p : Pending Given)
       → PlainToCome law w p → w.first ≡ None → w.entered ≡ Some e → a ≡ None → b ≡ None → w.has_ended ≡ false
       → (s : Shown) × (rest : Rest) × AtRest law (record w { first = a; entered = b }) rest × law.shows
-      w.directory (string_bytes e.path) s × IsFolder s
+      w.directory e.path.path s × IsFolder s
       × (count_shown s + rest.count ≤ p.items) × (p ≡ pending p.below p.after rest.listed p.items) ×
       (all_pending p ≡ followed_by (entered_forest (scope_of w) (located e) s) rest.forest)
   steps_enter w e a b p h first is i j running =

@@ -7,7 +7,7 @@ use Rattle.wax_tree.specs.Depths.{least, greatest}
 use Rattle.wax_directory.specs.Law.{Law}
 use Rattle.wax_directory.specs.Shown.{Shown}
 use Rattle.wax_tree.specs.declared.steps.DepthRange.{DepthRange}
-use Rattle.wax_tree.specs.Plain.{WalkScope, plain, count_shown}
+use Rattle.wax_tree.specs.Plain.{Location, WalkScope, plain, count_shown}
 use Rattle.wax_tree.specs.Prefix.{ArePlain, path_from, walk_from}
 use Rattle.wax_walk.specs.Forest.{Pending, pending, nothing}
 use Rattle.wax_walk.specs.Course.{Course, stop, yields}
@@ -24,8 +24,8 @@ or_greatest None = 2 ^ 64 - 1
 abbrev pub behavior_range : WalkBehavior → DepthRange
 behavior_range b = record { min = least b.depth; max = or_greatest (greatest b.depth); budget = b.budget }
 
-abbrev pub scope_in : DepthRange → List ℕ → WalkScope
-scope_in range root = record { min = range.min; max = range.max; root = root }
+abbrev pub scope_in : DepthRange → WalkScope
+scope_in range = record { min = range.min; max = range.max }
 
 -- the walk ends, and yields at most `most` items
 pub record EndsWithin (most : ℕ) (left : Count) : Type 0 where
@@ -66,18 +66,19 @@ abbrev pub IsBegun : {D : Type 0} → Type 0 → WalkView D → Type 0
 IsBegun nowhere view =
     (view.to_begin ≡ 1) ⊎ (view.is_idle × (view.to_begin ≡ 0) × (nowhere ⊎ OnlyLacks view))
 
--- what a walk may take: the course of a tree; or only the error that allocation failed
-pub data StartTakes (scope : WalkScope) (c : Course) : Type 0 where
-  walks : (s : Shown) → IsNamed s → course.IsStartOf c (plain_course scope s) → StartTakes scope c
-  lacking_start : course.IsStartOf c (yields no_memory stop stop) → StartTakes scope c
+-- what a walk from a start may take: the course of a tree; or only the error that allocation failed
+pub data StartTakes (scope : WalkScope) (start : List ℕ) (c : Course) : Type 0 where
+  walks : (s : Shown) → IsNamed s → course.IsStartOf c (plain_course scope start s)
+      → StartTakes scope start c
+  lacking_start : course.IsStartOf c (yields no_memory stop stop) → StartTakes scope start c
 
 -- the view of a walk over the directory d: what is shown at the start is to come, of the depths in range, and
 -- there are no names to follow
 pub record Begins {D C : Type 0} (law : Law D C) (d : D) (start : List ℕ) (range : DepthRange)
     (view : WalkView D) : Type 0 where
   pub shown : (s : Shown) (listed : List (List ℕ)) → law.shows d start s → law.tells d listed
-      → view.to_come (pending nothing (plain (scope_in range start) s) listed (count_shown s))
-  pub takes : (c : Course) → MayTake view c → StartTakes (scope_in range start) c
+      → view.to_come (pending nothing (plain (scope_in range) start s) listed (count_shown s))
+  pub takes : (c : Course) → MayTake view c → StartTakes (scope_in range) start c
   pub listings : view.listings_left ≡ range.budget + 1
   pub names : view.names_left ≡ 0
   pub none_listed : view.listings_open ≡ 0
@@ -96,12 +97,20 @@ pub record Origin : Type 0 where
   pub candidate : List ℕ
   pub names : List (List ℕ)
 
+-- the location at the path of an origin
+abbrev pub origin_location : Origin → Location
+origin_location origin = record {
+  path = origin.path;
+  root = origin.root;
+  candidate = origin.candidate;
+  depth = 0;
+}
+
 -- what a walk from this origin may take: what comes along its names; only the error that allocation failed;
 -- or nothing, if there are more names than the greatest depth
 pub data OriginTakes (origin : Origin) (range : DepthRange) (c : Course) : Type 0 where
   along : length origin.names ≤ range.max → length origin.names < 2 ^ 64 → (d : Course)
-      → AlongComes (scope_in range origin.root) origin.names
-      (record { path = origin.path; candidate = origin.candidate; depth = 0 }) stop d → course.IsStartOf c d
+      → AlongComes (scope_in range) origin.names (origin_location origin) stop d → course.IsStartOf c d
       → OriginTakes origin range c
   lacking : course.IsStartOf c (yields no_memory stop stop) → OriginTakes origin range c
   beyond : range.max < length origin.names → course.IsStartOf c stop → OriginTakes origin range c
@@ -114,9 +123,7 @@ pub record BeginsAt {D C : Type 0} (law : Law D C) (d : D) (origin : Origin) (ra
   pub shown : (s : Shown) (listed : List (List ℕ)) → law.shows d origin.path s → law.tells d listed
       → ArePlain origin.names → length origin.names ≤ range.max
       → view.to_come (pending nothing
-      (walk_from (scope_in range origin.root)
-      (record { path = origin.path; candidate = origin.candidate; depth = 0 }) s origin.names nothing) listed
-      (count_shown s))
+      (walk_from (scope_in range) (origin_location origin) s origin.names nothing) listed (count_shown s))
   pub beyond : (s : Shown) (listed : List (List ℕ)) → law.shows d origin.path s → law.tells d listed
       → range.max < length origin.names
       → view.to_come (pending nothing nothing listed 0)

@@ -42,6 +42,7 @@ pub data IsAsked (at : Location) (there : FileType → Course → Type 0) (after
 abbrev pub onward_location : Location → List ℕ → Location
 onward_location at x = record {
   path = join at.path x;
+  root = at.root;
   candidate = join at.candidate x;
   depth = min (at.depth + 1) (2 ^ 64 - 1);
 }
@@ -66,17 +67,17 @@ module _ (scope : WalkScope) where
   abbrev pub items_course : Location → Items → Course
   items_course at end = asks (call at.path at_end) stop
   items_course at (leaf x link rest) = asks (call at.path (listed (named x (leaf_kind link))))
-      (course_at_depth at.depth (plain_entry scope (item_location at x) (leaf_kind link)) stop
+      (course_at_depth at.depth (plain_entry (item_location at x) (leaf_kind link)) stop
       (items_course at rest))
   items_course at (folder x inner rest) =
       let path = join at.path x in
       asks (call at.path (listed (named x F.Folder)))
-      (course_at_depth at.depth (plain_entry scope (item_location at x) F.Folder)
+      (course_at_depth at.depth (plain_entry (item_location at x) F.Folder)
       (course_above_max at.depth (asks (call path (opened path))
       (items_course (one_deeper (item_location at x)) inner)))
       (items_course at rest))
   items_course at (sealed x rest) = asks (call at.path (listed (named x F.Folder)))
-      (course_at_depth at.depth (plain_entry scope (item_location at x) F.Folder)
+      (course_at_depth at.depth (plain_entry (item_location at x) F.Folder)
       (course_above_max at.depth (refused_course (join at.path x) at.depth)) (items_course at rest))
   items_course at (misnamed x kind rest) = asks (call at.path (listed (named x kind)))
       (yields (fault BadName at.path (at.depth - 1)) stop (items_course at rest))
@@ -99,7 +100,7 @@ module _ (scope : WalkScope) where
   -- an entry, what is below it, and what comes after it
   abbrev pub entry_course : Location → FileType → Shown → Course → Course
   entry_course at kind s after =
-      course_at_depth at.depth (plain_entry scope at kind) (below_course at s) after
+      course_at_depth at.depth (plain_entry at kind) (below_course at s) after
 
   -- what comes of a location where this kind was found, along these names, and `after` that
   abbrev pub FoundComes : List (List ℕ) → Location → Course → FileType → Course → Type 0
@@ -138,6 +139,6 @@ module _ (scope : WalkScope) where
       (yields (fault NotAFolder at.path at.depth) stop stop)
   along_course (x ∷ names) at s = place_course at s stop
 
-  -- the walk from the start
-  abbrev pub plain_course : Shown → Course
-  plain_course s = place_course (start_location scope.root) s stop
+  -- the walk from a start
+  abbrev pub plain_course : List ℕ → Shown → Course
+  plain_course start s = place_course (start_location start) s stop

@@ -32,6 +32,7 @@ AreDistinctAlong names s = ⊤
 abbrev pub location_at : Location → List (List ℕ) → Location
 location_at at names = record {
   path = path_from at.path names;
+  root = at.root;
   candidate = path_from at.candidate names;
   depth = at.depth + length names;
 }

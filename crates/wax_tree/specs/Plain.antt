@@ -22,27 +22,38 @@ abbrev pub count_shown : Shown → ℕ
 count_shown (a_folder l) = count l
 count_shown x = 0
 
--- the depths of the entries that a walk yields, and the start that they report
+-- the depths of the entries that a walk yields
 pub record WalkScope : Type 0 where
   pub min : ℕ
   pub max : ℕ
-  pub root : List ℕ
 
--- a path, its candidate (the names that lead there from the start), and its depth (how many they are)
+-- a path, the path where its walk starts, its candidate (the names that lead there from the start), and its
+-- depth (how many they are)
 pub record Location : Type 0 where
   pub path : List ℕ
+  pub root : List ℕ
   pub candidate : List ℕ
   pub depth : ℕ
 
 abbrev pub start_location : List ℕ → Location
-start_location root = record { path = root; candidate = []; depth = 0 }
+start_location start = record { path = start; root = start; candidate = []; depth = 0 }
 
 -- the location of a name in a folder; `at` is the folder's, with the depth of its items
 abbrev pub item_location : Location → List ℕ → Location
-item_location at x = record { path = join at.path x; candidate = join at.candidate x; depth = at.depth }
+item_location at x = record {
+  path = join at.path x;
+  root = at.root;
+  candidate = join at.candidate x;
+  depth = at.depth;
+}
 
 abbrev pub one_deeper : Location → Location
-one_deeper at = record { path = at.path; candidate = at.candidate; depth = at.depth + 1 }
+one_deeper at = record {
+  path = at.path;
+  root = at.root;
+  candidate = at.candidate;
+  depth = at.depth + 1;
+}
 
 -- what is shown is a folder, which may be one that can't be listed
 abbrev pub IsFolder : Shown → Type 0
@@ -57,6 +68,16 @@ HasKind (a_folder l) k = k ≡ Folder
 HasKind a_sealed k = k ≡ Folder
 HasKind s k = ⊥
 
+-- the kept entry at a location
+abbrev pub plain_entry : Location → FileType → Given
+plain_entry at kind = entry kept (record {
+  path = at.path;
+  root = at.root;
+  candidate = at.candidate;
+  depth = at.depth;
+  kind = kind;
+})
+
 module _ (scope : WalkScope) where
   -- an entry at a depth, unless that is less than the least; then what is below it, and what comes after it
   abbrev pub at_depth : ℕ → Given → Forest Given → Forest Given → Forest Given
@@ -69,16 +90,6 @@ module _ (scope : WalkScope) where
   -- what is below a folder that can't be listed: an error
   abbrev pub unlisted : List ℕ → ℕ → Forest Given
   unlisted path depth = lists path (item (fault Listing path depth) nothing nothing)
-
-  abbrev pub plain_entry : Location → FileType → Given
-  plain_entry at kind =
-      entry kept (record {
-        path = at.path;
-        root = scope.root;
-        candidate = at.candidate;
-        depth = at.depth;
-        kind = kind;
-      })
 
   -- what is in a folder
   abbrev pub items_forest : Location → Items → Forest Given
@@ -115,6 +126,6 @@ module _ (scope : WalkScope) where
   plain_at at missing after = item (fault NotFound at.path at.depth) nothing after
   plain_at at failing after = item (fault Listing at.path at.depth) nothing after
 
-  -- the walk from the start
-  abbrev pub plain : Shown → Forest Given
-  plain s = plain_at (start_location scope.root) s nothing
+  -- the walk from a start
+  abbrev pub plain : List ℕ → Shown → Forest Given
+  plain start s = plain_at (start_location start) s nothing

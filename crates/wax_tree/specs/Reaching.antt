@@ -1,6 +1,6 @@
 -- The folders of which a walk may yield an error, by its state.
 use Rattle.std.specs.Prelude.{◌≡◌, ◌<◌, ◌≤◌, ◌⊎◌, ℕ, ◌+◌, ◌-◌, ◌^◌, false, length, List, [], ◌∷◌, ◌++◌}
-use Rattle.std.specs.Prelude.{Option, Some, None, string_bytes}
+use Rattle.std.specs.Prelude.{Option, Some, None}
 use Rattle.wax_tree.specs.declared.location.Location as code
 use Rattle.wax_tree.specs.declared.steps.OpenFolder.{OpenFolder}
 use Rattle.wax_tree.specs.declared.steps.StartPoint.{StartPoint}
@@ -32,11 +32,11 @@ pub record LeadsUnseen (least : ℕ) (from : FolderSet) (path : List ℕ) (insid
 -- a place on the way from a start point along its names; nothing is said of a depth that is no `usize`
 abbrev pub OnWay : StartPoint → FolderSet
 OnWay place path inside = (front rest : List (List ℕ)) × (from_last place.names.items ≡ front ++ rest)
-    × (path ≡ path_from (string_bytes place.at.path) front)
+    × (path ≡ path_from place.at.path.path front)
     × (place.at.depth + length front < 2 ^ 64 → inside ≡ place.at.depth + length front + 1)
 
 abbrev pub IsOf : code.Location → FolderSet
-IsOf folder path inside = (path ≡ string_bytes folder.path) × (inside ≡ folder.depth)
+IsOf folder path inside = (path ≡ folder.path.path) × (inside ≡ folder.depth)
 
 abbrev pub OfFirst : Option StartPoint → FolderSet
 OfFirst None path inside = ⊥

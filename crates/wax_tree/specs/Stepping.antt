@@ -229,8 +229,8 @@ module _ {D C : Type 0} (law : Law D C) where
   pub record IsPopped (w : Steps D C) (level : OpenFolder C) (l : Items) (rest : Rest) : Type 0 where
     pub rests : AtRest law w rest
     pub held : HoldsLast law w.directory (cursors_of w.levels.items) rest.has level.cursor l
-    pub shown : ShowsIn (law.shows w.directory) (string_bytes level.folder.path) l
-    pub opened : Contains rest.listed (string_bytes level.folder.path)
+    pub shown : ShowsIn (law.shows w.directory) level.folder.path.path l
+    pub opened : Contains rest.listed level.folder.path.path
 
   -- what a step takes and counts
   pub record StepAnswers (old : WalkView D) (r : Step) (new : Steps D C) : Type 0 where

@@ -1,6 +1,6 @@
 -- What is to come of a walk, by its state.
 use Rattle.std.specs.Prelude.{◌≡◌, ℕ, ◌+◌, ◌-◌, ◌^◌, ◌≤◌, Bool, true, false, cond, length, map, List, []}
-use Rattle.std.specs.Prelude.{◌∷◌, ◌++◌, Option, Some, None, Result, string_bytes, ◌⊎◌, ⊤}
+use Rattle.std.specs.Prelude.{◌∷◌, ◌++◌, Option, Some, None, Result, ◌⊎◌, ⊤}
 use Rattle.std.specs.List.{Contains}
 use Rattle.wax_directory.specs.Law.{Law}
 use Rattle.wax_directory.specs.Shown.{Items, Shown, a_folder, ShowsIn}
@@ -40,17 +40,18 @@ abbrev pub tree_answer : Option (Result TreeEntry WalkError) → Option Given
 tree_answer None = None
 tree_answer (Some x) = Some (tree_given x)
 
--- a location as contracts see it, in bytes
+-- a location as contracts see it
 abbrev pub located : code.Location → Location
 located at = record {
-  path = string_bytes at.path;
-  candidate = string_bytes at.candidate;
+  path = at.path.path;
+  root = at.path.root;
+  candidate = at.path.candidate;
   depth = at.depth;
 }
 
 -- where an entry is
 abbrev pub entry_location : Facts → Location
-entry_location f = record { path = f.path; candidate = f.candidate; depth = f.depth }
+entry_location f = record { path = f.path; root = f.root; candidate = f.candidate; depth = f.depth }
 
 -- what is below a folder that was entered
 abbrev pub entered_forest : WalkScope → Location → Shown → Forest Given
@@ -69,7 +70,7 @@ cursors_of levels = map (λ level. level.cursor) levels
 abbrev pub WereListed : {C : Type 0} → List (OpenFolder C) → List (List ℕ) → Type 0
 WereListed [] listed = ⊤
 WereListed (level ∷ inner) listed =
-    Contains listed (string_bytes level.folder.path) × WereListed inner listed
+    Contains listed level.folder.path.path × WereListed inner listed
 
 -- what a walk at rest has yet to yield: the items that its cursors have, what comes of them, how many items
 -- are listed for that, and the folders that were listed
@@ -83,7 +84,7 @@ module _ (shows : List ℕ → Shown → Type 0) (scope : WalkScope) where
   -- f is what comes of the start point, if there is one, and then `after`; at most n items are listed for it
   abbrev pub FirstShows : Option StartPoint → Forest Given → Forest Given → ℕ → Type 0
   FirstShows None f after n = (f ≡ after) × (n ≡ 0)
-  FirstShows (Some place) f after n = (s : Shown) × shows (string_bytes place.at.path) s × ArePlain
+  FirstShows (Some place) f after n = (s : Shown) × shows place.at.path.path s × ArePlain
       (from_last place.names.items) × (place.at.depth + length place.names.items ≤ 2 ^ 64 - 1)
       × (count_shown s ≤ n) × (f ≡ walk_from scope (located place.at) s
       (from_last place.names.items) after)
@@ -91,7 +92,7 @@ module _ (shows : List ℕ → Shown → Type 0) (scope : WalkScope) where
   -- f is what comes of the last yielded folder, if it is to be entered; n items are listed for it
   abbrev pub EnteredShows : Option code.Location → Forest Given → ℕ → Type 0
   EnteredShows None f n = (f ≡ nothing) × (n ≡ 0)
-  EnteredShows (Some e) f n = (s : Shown) × shows (string_bytes e.path) s × IsFolder s ×
+  EnteredShows (Some e) f n = (s : Shown) × shows e.path.path s × IsFolder s ×
       (f ≡ entered_forest scope (located e) s) × (n ≡ count_shown s)
 
   -- f is what comes of the open folders, outermost first, if their cursors have these items; n items are
@@ -101,11 +102,11 @@ module _ (shows : List ℕ → Shown → Type 0) (scope : WalkScope) where
   LevelsShow [] (l ∷ has) f n = ⊥
   LevelsShow (level ∷ inner) [] f n = ⊥
   LevelsShow (level ∷ inner) (l ∷ has) f n = (g : Forest Given) × (m : ℕ) × ShowsIn shows
-      (string_bytes level.folder.path) l × LevelsShow inner has g m
+      level.folder.path.path l × LevelsShow inner has g m
       × (f ≡ followed_by g (items_forest scope (located level.folder) l)) × (n ≡ m + count l)
 
 abbrev pub scope_of : {D C : Type 0} → Steps D C → WalkScope
-scope_of w = record { min = w.min; max = w.max; root = string_bytes w.root }
+scope_of w = record { min = w.min; max = w.max }
 
 -- the walk yields nothing more
 abbrev pub HasStopped : {D C : Type 0} → Steps D C → Type 0

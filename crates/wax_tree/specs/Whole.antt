@@ -1,13 +1,13 @@
 -- The whole plain walk, of all depths, and what a walk of some depths yields of it.
 use Rattle.std.specs.Prelude.{◌≡◌, ℕ, ◌+◌, ◌-◌, ◌<◌, Bool, false, ◌&&◌, not, nat_lt, filter, List}
 use Rattle.std.specs.Prelude.{[], ◌∷◌, ◌++◌}
-use Rattle.wax_directory.specs.declared.directory.FileType.{FileType}
 use Rattle.wax_directory.specs.declared.directory.FileType.TheVariants.{Folder}
 use Rattle.wax_directory.specs.Shown.{Items, end, leaf, folder, sealed, misnamed, unread, not_text, Shown}
 use Rattle.wax_directory.specs.Shown.{a_leaf, a_folder, a_sealed, missing, failing, leaf_kind, join, child_in}
 use Rattle.wax_tree.specs.declared.steps.DepthRange.{DepthRange}
 use Rattle.wax_tree.specs.Begins.{scope_in}
 use Rattle.wax_tree.specs.Plain.{Location, start_location, item_location, one_deeper, count_shown, plain}
+use Rattle.wax_tree.specs.Plain.{plain_entry}
 use Rattle.wax_directory.specs.History.{Answer}
 use Rattle.wax_tree.specs.Courses.{IsNamed, plain_course}
 use Rattle.wax_walk.specs.Collected.{IsCutShort}
@@ -15,57 +15,44 @@ use Rattle.wax_walk.specs.Course.{DirectoryCall, CutsShort, answers, calls_of}
 use Rattle.wax_walk.specs.declared.error.FaultKind.TheVariants.{NotFound, NotAFolder, Listing, BadName}
 use Rattle.wax_walk.specs.declared.error.FaultKind.TheVariants.{NotText, Budget}
 use Rattle.wax_walk.specs.Forest.{Pending, pending, nothing}
-use Rattle.wax_walk.specs.Given.{Given, entry, fault, no_memory, kept}
+use Rattle.wax_walk.specs.Given.{Given, entry, fault, no_memory}
 
 -- what is to come of a plain walk from a start where s is shown
 abbrev pub plain_pending : DepthRange → List ℕ → Shown → List (List ℕ) → Pending Given
-plain_pending range start s listed = pending nothing (plain (scope_in range start) s) listed (count_shown s)
+plain_pending range start s listed = pending nothing (plain (scope_in range) start s) listed (count_shown s)
 
-module _ (root : List ℕ) where
-  abbrev pub whole_entry : Location → FileType → Given
-  whole_entry at kind =
-      entry kept (record {
-        path = at.path;
-        root = root;
-        candidate = at.candidate;
-        depth = at.depth;
-        kind =
-            kind;
-      })
+-- what is in a folder, each folder before what is in it, with errors in their places
+abbrev pub whole_items : Location → Items → List Given
+whole_items at end = []
+whole_items at (leaf x link rest) = plain_entry (item_location at x) (leaf_kind link) ∷ whole_items at rest
+whole_items at (folder x inner rest) = plain_entry (item_location at x) Folder ∷
+    (whole_items (one_deeper (item_location at x)) inner ++ whole_items at rest)
+whole_items at (sealed x rest) = plain_entry (item_location at x) Folder ∷ fault Listing (join at.path x)
+    at.depth ∷ whole_items at rest
+whole_items at (misnamed x kind rest) = fault BadName at.path (at.depth - 1) ∷ whole_items at rest
+whole_items at (unread rest) = fault Listing at.path (at.depth - 1) ∷ whole_items at rest
+whole_items at (not_text rest) = fault NotText at.path (at.depth - 1) ∷ whole_items at rest
 
-  -- what is in a folder, each folder before what is in it, with errors in their places
-  abbrev pub whole_items : Location → Items → List Given
-  whole_items at end = []
-  whole_items at (leaf x link rest) = whole_entry (item_location at x) (leaf_kind link) ∷ whole_items at rest
-  whole_items at (folder x inner rest) = whole_entry (item_location at x) Folder ∷
-      (whole_items (one_deeper (item_location at x)) inner ++ whole_items at rest)
-  whole_items at (sealed x rest) = whole_entry (item_location at x) Folder ∷ fault Listing (join at.path x)
-      at.depth ∷ whole_items at rest
-  whole_items at (misnamed x kind rest) = fault BadName at.path (at.depth - 1) ∷ whole_items at rest
-  whole_items at (unread rest) = fault Listing at.path (at.depth - 1) ∷ whole_items at rest
-  whole_items at (not_text rest) = fault NotText at.path (at.depth - 1) ∷ whole_items at rest
-
-  -- the walk from a location on
-  abbrev pub whole_at : Location → Shown → List Given
-  whole_at at (a_leaf link) = whole_entry at (leaf_kind link) ∷ []
-  whole_at at (a_folder l) = whole_entry at Folder ∷ whole_items (one_deeper at) l
-  whole_at at a_sealed = whole_entry at Folder ∷ fault Listing at.path at.depth ∷ []
-  whole_at at missing = fault NotFound at.path at.depth ∷ []
-  whole_at at failing = fault Listing at.path at.depth ∷ []
+-- the walk from a location on
+abbrev pub whole_at : Location → Shown → List Given
+whole_at at (a_leaf link) = plain_entry at (leaf_kind link) ∷ []
+whole_at at (a_folder l) = plain_entry at Folder ∷ whole_items (one_deeper at) l
+whole_at at a_sealed = plain_entry at Folder ∷ fault Listing at.path at.depth ∷ []
+whole_at at missing = fault NotFound at.path at.depth ∷ []
+whole_at at failing = fault Listing at.path at.depth ∷ []
 
 -- the whole walk from a start
 abbrev pub whole : List ℕ → Shown → List Given
-whole start s = whole_at start (start_location start) s
+whole start s = whole_at (start_location start) s
 
 -- the whole walk along names, from the last of them on; or one error, if they don't lead there
-abbrev pub whole_along : List ℕ → Location → Shown → List (List ℕ) → List Given
-whole_along root at s [] = whole_at root at s
-whole_along root at (a_folder l) (x ∷ names) =
-    whole_along root (one_deeper (item_location at x)) (child_in x l) names
-whole_along root at a_sealed (x ∷ names) = fault Listing (join at.path x) (at.depth + 1) ∷ []
-whole_along root at (a_leaf link) (x ∷ names) = fault NotAFolder at.path at.depth ∷ []
-whole_along root at missing (x ∷ names) = fault NotFound at.path at.depth ∷ []
-whole_along root at failing (x ∷ names) = fault Listing at.path at.depth ∷ []
+abbrev pub whole_along : Location → Shown → List (List ℕ) → List Given
+whole_along at s [] = whole_at at s
+whole_along at (a_folder l) (x ∷ names) = whole_along (one_deeper (item_location at x)) (child_in x l) names
+whole_along at a_sealed (x ∷ names) = fault Listing (join at.path x) (at.depth + 1) ∷ []
+whole_along at (a_leaf link) (x ∷ names) = fault NotAFolder at.path at.depth ∷ []
+whole_along at missing (x ∷ names) = fault NotFound at.path at.depth ∷ []
+whole_along at failing (x ∷ names) = fault Listing at.path at.depth ∷ []
 
 -- an entry whose depth is in range
 abbrev pub is_in : DepthRange → Given → Bool
@@ -94,7 +81,7 @@ pub data EntriesAre (range : DepthRange) (start : List ℕ) (s : Shown) (xs : Li
 
 -- the calls of a walk of these depths from a start where s is shown, with their answers
 abbrev pub calls_for : DepthRange → List ℕ → Shown → List DirectoryCall
-calls_for range start s = calls_of (plain_course (scope_in range start) s)
+calls_for range start s = calls_of (plain_course (scope_in range) start s)
 
 -- whatever was answered: it is what some tree answers, and the items are what these depths leave of its whole
 -- walk; or it begins that, and the items are a prefix and then one error, because allocation failed or the

@@ -36,7 +36,7 @@ use crate::location::Location;
 use std::alloc::{AllocError, Global};
 use wax_directory::directory::{Directory, DirectoryFault, FileType, ListItem};
 use wax_directory::path::is_plain;
-use wax_walk::{Entry, FaultKind, ListedFolder, TreeEntry, WalkError};
+use wax_walk::{Entry, FaultKind, TreeEntry, WalkError, WalkedPath};
 
 /// The location where a walk begins, or that it has reached on its way through the given names.
 /// `names` are those that follow, the first of them last, so that they can be popped.
@@ -76,7 +76,6 @@ pub(crate) struct Steps<D: Directory> {
     pub(crate) directory: D,
     min: usize,
     max: usize,
-    root: String,
     first: Option<StartPoint>,
     pub(crate) entered: Option<Location>,
     levels: Vec<OpenFolder<D::Cursor>>,
@@ -94,59 +93,47 @@ pub struct DepthRange {
 
 fn entry_in(
     alloc: Global,
-    root: &str,
     folder: &Location,
     name: String,
     kind: FileType,
 ) -> Result<FoundItem, AllocError>
-    ensures { IfOk result (IsEntry (located folder.now) root.now (string_bytes name) kind) }
+    ensures { IfOk result (IsEntry (located folder.now) (string_bytes name) kind) }
 {
-    let listed = ListedFolder {
-        root,
-        path: folder.path.as_str(),
-        candidate: folder.candidate.as_str(),
-    };
-    let entry = TreeEntry::in_folder(alloc, listed, name, folder.depth, kind)?;
+    let path = WalkedPath::in_folder(alloc, &folder.path, name)?;
+    let entry = TreeEntry::from_path(path, folder.depth, kind);
     Ok(FoundItem::Entry(entry))
 }
 
-fn fault_in(folder: &Location, kind: FaultKind) -> Result<FoundItem, AllocError>
+fn fault_in(alloc: Global, folder: &Location, kind: FaultKind) -> Result<FoundItem, AllocError>
     ensures { IfOk result (IsFault (located folder.now) kind) }
 {
-    let path = folder.path.clone()?;
+    let path = String::from_str(alloc, folder.path.as_str())?;
     Ok(FoundItem::Fault(kind, path))
 }
 
 // Checks the name of an item before it becomes a part of a path.
-fn found_in(
-    alloc: Global,
-    root: &str,
-    folder: &Location,
-    item: ListItem,
-) -> Result<FoundItem, AllocError>
-    ensures { IfOk result (IsFound (located folder.now) root.now item) }
+fn found_in(alloc: Global, folder: &Location, item: ListItem) -> Result<FoundItem, AllocError>
+    ensures { IfOk result (IsFound (located folder.now) item) }
 {
     match item {
         ListItem::Name(name, kind) => {
             if is_plain(name.as_str()) {
-                entry_in(alloc, root, folder, name, kind)
+                entry_in(alloc, folder, name, kind)
             } else {
-                fault_in(folder, FaultKind::BadName)
+                fault_in(alloc, folder, FaultKind::BadName)
             }
         }
-        ListItem::Failed => fault_in(folder, FaultKind::Listing),
-        ListItem::NotText => fault_in(folder, FaultKind::NotText),
+        ListItem::Failed => fault_in(alloc, folder, FaultKind::Listing),
+        ListItem::NotText => fault_in(alloc, folder, FaultKind::NotText),
     }
 }
 
 impl<D: Directory> Steps<D> {
-    /// Begins at `first`. `root` is the path that each entry returns as its start. Without a
-    /// `first` nothing comes.
+    /// Begins at `first`. Without a `first` nothing comes.
     pub(crate) fn new(
         alloc: Global,
         directory: D,
         first: Option<StartPoint>,
-        root: String,
         range: DepthRange,
     ) -> Steps<D>
         ensures fields { result ≡ record {
@@ -154,7 +141,6 @@ impl<D: Directory> Steps<D> {
           directory = directory;
           min = range.min;
           max = range.max;
-          root = root;
           first = first;
           entered = None;
           levels = result.levels;
@@ -168,7 +154,6 @@ impl<D: Directory> Steps<D> {
             directory,
             min: range.min,
             max: range.max,
-            root,
             first,
             entered: None,
             levels: Vec::new(alloc),
@@ -193,12 +178,12 @@ impl<D: Directory> Steps<D> {
     }
 
     // Ends the walk with a fault.
-    fn stop(&mut self, kind: FaultKind, path: String, depth: usize) -> Step
-        ensures gives { step_given result ≡ Some (fault kind (string_bytes path) depth) }
+    fn stop(&mut self, kind: FaultKind, path: WalkedPath, depth: usize) -> Step
+        ensures gives { step_given result ≡ Some (fault kind path.path depth) }
         ensures ended { self.new ≡ record self.old { has_ended = true } }
     {
         self.has_ended = true;
-        Step::Gives(Err(WalkError::Fault(kind, path, depth)))
+        Step::Gives(Err(WalkError::Fault(kind, path.into_string(), depth)))
     }
 
     // Remembers an entry if it is a folder above the greatest depth. The folder is opened by a
@@ -220,9 +205,11 @@ impl<D: Directory> Steps<D> {
     {
         let depth = entry.depth();
         if entry.file_type() == FileType::Folder && depth < self.max {
-            let (_, candidate) = entry.root_relative_paths();
-            let folder = Location::new(self.alloc, entry.path(), candidate, depth + 1)?;
-            self.entered = Some(folder);
+            let path = entry.walked_path().clone()?;
+            self.entered = Some(Location {
+                path,
+                depth: depth + 1,
+            });
         }
         Ok(())
     }
@@ -238,12 +225,11 @@ impl<D: Directory> Steps<D> {
             (λ p n. (f.depth < self.old.min) × LeadsUnseen self.old.min (OneFolder f.path (f.depth + 1)) p n)
             self.old.max result self.new }
         ensures continues { let f = facts_of entry in
-            (s : Shown) → (f.root ≡ string_bytes self.old.root) → D.law.shows self.old.directory f.path s
-            → HasKind s f.kind
+            (s : Shown) → D.law.shows self.old.directory f.path s → HasKind s f.kind
             → Continues D.law self.old (entry_forest (scope_of self.old) (entry_location f) f.kind s)
             (count_shown s) result self.new }
         ensures course { let f = facts_of entry in (self.old.has_ended ≡ false) → (self.old.first ≡ None)
-            → (self.old.entered ≡ None) → (f.root ≡ string_bytes self.old.root)
+            → (self.old.entered ≡ None)
             → UsesCourse [] (ComesLast self.old (EntryComes (scope_of self.old) f)) result self.new }
         ensures measure { (self.old.entered ≡ None) → IncreasesBy 1 2 self.old result self.new }
     {
@@ -282,15 +268,12 @@ impl<D: Directory> Steps<D> {
     {
         let StartPoint { at, mut names } = place;
         let Some(name) = names.pop() else {
-            let Ok(root) = self.root.clone() else {
-                return self.fail();
-            };
-            return self.give(TreeEntry::new(at.path, root, at.candidate, at.depth, kind));
+            return self.give(TreeEntry::from_path(at.path, at.depth, kind));
         };
         if kind != FileType::Folder {
             return self.stop(FaultKind::NotAFolder, at.path, at.depth);
         }
-        let Ok(at) = at.below(self.alloc, name.as_str()) else {
+        let Ok(at) = at.below(self.alloc, name) else {
             return self.fail();
         };
         self.first = Some(StartPoint { at, names });
@@ -328,7 +311,8 @@ impl<D: Directory> Steps<D> {
             }
             Err(DirectoryFault::Failed) => {
                 let depth = place.at.depth;
-                Step::Gives(Err(WalkError::Fault(FaultKind::Listing, place.at.path, depth)))
+                let path = place.at.path.into_string();
+                Step::Gives(Err(WalkError::Fault(FaultKind::Listing, path, depth)))
             }
             Err(DirectoryFault::Memory) => self.fail(),
         }
@@ -343,7 +327,7 @@ impl<D: Directory> Steps<D> {
         ensures remembers { Remembers self.old result self.new }
         ensures places { (self.old.entered ≡ None) → StepPlaces (ReachesFrom self.old (IsOf folder))
             (ReachesFrom self.old (IsOf folder)) self.old.max result self.new }
-        ensures continues { (s : Shown) → D.law.shows self.old.directory (string_bytes folder.path) s
+        ensures continues { (s : Shown) → D.law.shows self.old.directory folder.path.path s
             → IsFolder s
             → let entered = entered_forest (scope_of self.old) (located folder) s in
             Continues D.law self.old (followed_by entered) (count_shown s) result self.new }
@@ -360,7 +344,8 @@ impl<D: Directory> Steps<D> {
             },
             Err(DirectoryFault::Failed) => {
                 let depth = folder.depth.saturating_sub(1);
-                Step::Gives(Err(WalkError::Fault(FaultKind::Listing, folder.path, depth)))
+                let path = folder.path.into_string();
+                Step::Gives(Err(WalkError::Fault(FaultKind::Listing, path, depth)))
             }
             Err(DirectoryFault::Memory) => self.fail(),
         }
@@ -368,7 +353,7 @@ impl<D: Directory> Steps<D> {
 
     // Yields what was found in a folder. `depth` is that of the folder's items.
     fn give_found(&mut self, found: FoundItem, depth: usize) -> Step
-        ensures uses_answer { (at : Place) (x : ListItem) → IsFound at (string_bytes self.old.root) x found
+        ensures uses_answer { (at : Place) (x : ListItem) → IsFound at x found
             → UsesAnswer (record {
               counts = item_counts x;
               taken = 0;
@@ -378,17 +363,17 @@ impl<D: Directory> Steps<D> {
         ensures lists { KeepsLists (open_lists self.old) result self.new }
         ensures remembers { Remembers self.old result self.new }
         ensures places { (self.old.entered ≡ None) → (at : Place) (x : ListItem)
-            → IsFound at (string_bytes self.old.root) x found → at.depth ≡ depth
+            → IsFound at x found → at.depth ≡ depth
             → let from = ReachesFrom self.old (OneFolder at.path depth) in
             StepPlaces from from self.old.max result self.new }
         ensures continues { (at : Place) (x : ListItem) (l : Items)
-            → IsFound at (string_bytes self.old.root) x found → at.depth ≡ depth
+            → IsFound at x found → at.depth ≡ depth
             → Some (listed_of x) ≡ first_item l → ShowsIn (D.law.shows self.old.directory) at.path l
             → Continues D.law self.old (first_item_forest (scope_of self.old) at l) (own_count l) result
             self.new }
         ensures course { (self.old.has_ended ≡ false) → (self.old.first ≡ None)
             → (self.old.entered ≡ None) → (at : Place) (x : ListItem)
-            → IsFound at (string_bytes self.old.root) x found → at.depth ≡ depth
+            → IsFound at x found → at.depth ≡ depth
             → let comes = ItemComes (scope_of self.old) at x in
             UsesCourse [] (ComesLast self.old comes) result self.new }
         ensures measure { (self.old.entered ≡ None) → IncreasesBy 1 2 self.old result self.new }
@@ -418,7 +403,7 @@ impl<D: Directory> Steps<D> {
             (ReachesFrom self.old (IsOf folder)) self.old.max result self.new }
         ensures lists { (l : Items) (rest : Rest) (items : ℕ) → Some (listed_of item) ≡ first_item l
             → IsPopped D.law self.old (record { folder = folder; cursor = cursor }) (rest_of l) rest
-            → ShowsIn (D.law.shows self.old.directory) (string_bytes folder.path) l
+            → ShowsIn (D.law.shows self.old.directory) folder.path.path l
             → rest.count + count l ≤ items
             → let p = listing_pending (scope_of self.old) (located folder) l rest items in
             StepIs D.law self.old p result self.new }
@@ -434,7 +419,7 @@ impl<D: Directory> Steps<D> {
             return self.stop(FaultKind::Budget, folder.path, depth);
         }
         self.budget -= 1;
-        let Ok(found) = found_in(self.alloc, self.root.as_str(), &folder, item) else {
+        let Ok(found) = found_in(self.alloc, &folder, item) else {
             return self.fail();
         };
         let depth = folder.depth;

@@ -1,6 +1,6 @@
 //! The plain walk.
 
-ghost use Rattle.std.specs.Prelude.{◌≡◌, ◌+◌, ◌*◌, ⊤};
+ghost use Rattle.std.specs.Prelude.{◌≡◌, ◌+◌, ◌*◌, IfOk, ⊤};
 ghost use Rattle.std.specs.Iterator.{at_most};
 ghost use Rattle.wax_filter.specs.Feeding.{NextFiltrate};
 ghost use Rattle.wax_tree.specs.Begins.{EndsWithin, Begins, BeginsAt, HasEnded, LacksMemory};
@@ -11,12 +11,12 @@ ghost use Rattle.wax_walk.specs.View.{FeedStep};
 
 use crate::location::Location;
 use crate::steps::{DepthRange, StartPoint, Steps};
-use std::alloc::Global;
+use std::alloc::{AllocError, Global};
 use wax_directory::directory::Directory;
 use wax_filter::filter::{
     CancelWalk, Feed, Isomeric, Product, SeparatingFilter, Separation, TreeResidue, filtrate,
 };
-use wax_walk::{FileIterator, TreeEntry, WalkError};
+use wax_walk::{FileIterator, TreeEntry, WalkError, WalkedPath};
 
 /// The items of a plain walk and of the filters of it.
 pub struct TreeFeed;
@@ -49,6 +49,20 @@ impl Isomeric for TreeFeed {
 pub struct WalkTree<D: Directory> {
     steps: Steps<D>,
     lacks_memory: bool,
+}
+
+// Copies the texts of a path.
+fn copied(alloc: Global, root: &str, path: &str, candidate: &str) -> Result<WalkedPath, AllocError>
+    ensures { IfOk result (λ p. p ≡ record {
+      path = path.now;
+      root = root.now;
+      candidate = candidate.now;
+    }) }
+{
+    let path = String::from_str(alloc, path)?;
+    let root = String::from_str(alloc, root)?;
+    let candidate = String::from_str(alloc, candidate)?;
+    Ok(WalkedPath::new(path, root, candidate))
 }
 
 impl<D: Directory> WalkTree<D> {
@@ -95,20 +109,15 @@ impl<D: Directory> WalkTree<D> {
         if range.max < names.len() {
             return WalkTree::ended(alloc, directory, range);
         }
-        let Ok(root) = String::from_str(alloc, root) else {
-            return WalkTree::refused(alloc, directory, range);
-        };
-        match Location::new(alloc, start, candidate, 0) {
-            Ok(at) => WalkTree {
-                steps: Steps::new(
-                    alloc,
-                    directory,
-                    Some(StartPoint { at, names }),
-                    root,
-                    range,
-                ),
-                lacks_memory: false,
-            },
+        match copied(alloc, root, start, candidate) {
+            Ok(path) => {
+                let at = Location { path, depth: 0 };
+                let first = Some(StartPoint { at, names });
+                WalkTree {
+                    steps: Steps::new(alloc, directory, first, range),
+                    lacks_memory: false,
+                }
+            }
             Err(_) => WalkTree::refused(alloc, directory, range),
         }
     }
@@ -119,7 +128,7 @@ impl<D: Directory> WalkTree<D> {
         ensures gives { EndsWithin (2 * range.budget + 3) (⟦<WalkTree<D> as SeparatingFilter>⟧.left result) }
     {
         WalkTree {
-            steps: Steps::new(alloc, directory, None, String::new(alloc), range),
+            steps: Steps::new(alloc, directory, None, range),
             lacks_memory: false,
         }
     }
@@ -130,7 +139,7 @@ impl<D: Directory> WalkTree<D> {
         ensures gives { EndsWithin (2 * range.budget + 3) (⟦<WalkTree<D> as SeparatingFilter>⟧.left result) }
     {
         WalkTree {
-            steps: Steps::new(alloc, directory, None, String::new(alloc), range),
+            steps: Steps::new(alloc, directory, None, range),
             lacks_memory: true,
         }
     }

@@ -5,7 +5,7 @@ use Rattle.std.specs.Prelude.{take, drop, slice_index}
 use Rattle.std.proofs.lemmas.Bool.{cases_lt}
 use Rattle.std.proofs.Math.Dec.{eqb-suc-zero}
 use Rattle.std.proofs.Math.Seq.{drop-append_seam}
-use Rattle.std.proofs.lemmas.List.{append_assoc, drop-append-le, length-append, take-append-drop, take-append-le}
+use Rattle.std.proofs.lemmas.List.{append_assoc, drop-append-le, length-append, length-take-le, take-append-drop, take-append-le}
 use Rattle.std.proofs.lemmas.List.{get_or_append_left}
 use Rattle.std.proofs.lemmas.Str.{IsCharBoundary-at_seam, IsCharBoundary-from_drop, IsUtf8-append, IsUtf8-encode}
 use lib.Utf8.{encode}
@@ -62,6 +62,17 @@ pub item_name_begins : (path name : List ℕ) → IsUtf8 name
     → IsCharBoundary (join path name) (length (join path name) - length name)
 item_name_begins path name u = IsCharBoundary-from_drop (join path name) _ (omega arith)
     (rw (item_name path name) u)
+
+-- parts of a path begin and end it
+pub parts_shared : (path : List ℕ) (end start : ℕ) → IsCharBoundary path end → IsCharBoundary path start
+    → IsShared path (take end path) (drop start path) start
+parts_shared path end start e s =
+    let long : length (take end path) ≡ end = length-take-le end path e.0 in record {
+      begins = ap (λ n. take n path) long;
+      root_ends = subst (IsCharBoundary path) (sym long) e;
+      ends = refl;
+      candidate_begins = s;
+    }
 
 -- the path of an item still begins with the start
 item_begins : (path root candidate name : List ℕ) (start : ℕ) → IsShared path root candidate start → IsUtf8 name

@@ -14,6 +14,7 @@ use Rattle.wax_walk.specs.declared.error.FaultKind.{FaultKind}
 use Rattle.wax_walk.specs.declared.error.FaultKind.TheVariants as F
 use Rattle.wax_walk.specs.declared.error.WalkErrorKind.{WalkErrorKind}
 use Rattle.wax_walk.specs.declared.error.WalkErrorKind.TheVariants as K
+use Rattle.wax_walk.specs.Paths.{PathTexts}
 use Rattle.wax_walk.specs.Given.{Facts, Given, entry, fault, no_memory, kept, alone, with_tree}
 
 -- the facts of an entry of a plain walk
@@ -25,6 +26,9 @@ facts_of e = record {
   depth = e.depth;
   kind = e.kind;
 }
+
+abbrev pub texts_of : Facts → PathTexts
+texts_of f = record { path = f.path; root = f.root; candidate = f.candidate }
 
 -- ---- errors
 

@@ -2,6 +2,7 @@ pub mod Forest
 pub mod Given
 pub mod Course
 pub mod Candidates
+pub mod Paths
 pub mod Left
 pub mod Entries
 pub mod Said
@@ -13,5 +14,4 @@ pub mod Collected
 pub mod Known
 pub mod Laws
 pub mod NamedPaths
-pub mod Paths
 pub mod inner

@@ -1,13 +1,12 @@
 //! Entries of walks.
 
-ghost use Rattle.std.specs.Prelude.{◌≡◌, string_bytes, IfOk};
-ghost use Rattle.wax_directory.specs.Shown.{join};
+ghost use Rattle.std.specs.Prelude.{◌≡◌, string_bytes};
 ghost use Rattle.wax_walk.specs.Given.{Facts};
-ghost use Rattle.wax_walk.specs.Entries.{facts_of};
+ghost use Rattle.wax_walk.specs.Entries.{facts_of, texts_of};
 
 use crate::candidate::Candidate;
-use crate::walked_path::{ListedFolder, WalkedPath};
-use std::alloc::{AllocError, Global};
+use crate::walked_path::WalkedPath;
+use std::alloc::AllocError;
 use std::fmt;
 use std::fmt::{Debug, Formatter};
 use wax_directory::directory::FileType;
@@ -39,26 +38,24 @@ impl TreeEntry {
         }
     }
 
-    /// Builds the entry of an item of a folder. `depth` is that of the item. It doesn't allocate if
-    /// the name has room for the path, and the folder's path begins with that of the start and ends
-    /// with the candidate.
-    pub fn in_folder(
-        alloc: Global,
-        folder: ListedFolder<'_>,
-        name: String,
-        depth: usize,
-        kind: FileType,
-    ) -> Result<Self, AllocError>
-        ensures { IfOk result (λ e. ⟦<Self as Entry>⟧.facts e ≡ record {
-          path = join folder.entry.path.now (string_bytes name);
-          root = folder.entry.root.now;
-          candidate = join folder.entry.candidate.now (string_bytes name);
+    /// Builds the entry at a path. `depth` is the number of the names of the candidate.
+    pub fn from_path(at: WalkedPath, depth: usize, kind: FileType) -> Self
+        ensures { ⟦<Self as Entry>⟧.facts result ≡ record {
+          path = at.path;
+          root = at.root;
+          candidate = at.candidate;
           depth = depth;
           kind = kind;
-        }) }
+        } }
     {
-        let at = WalkedPath::in_folder(alloc, folder, name)?;
-        Ok(TreeEntry { at, depth, kind })
+        TreeEntry { at, depth, kind }
+    }
+
+    /// Returns the path with its start and its candidate.
+    pub fn walked_path(&self) -> &WalkedPath
+        ensures { result.now ≡ texts_of (⟦<Self as Entry>⟧.facts self.now) }
+    {
+        &self.at
     }
 }
 
@@ -66,7 +63,7 @@ impl TreeEntry {
 impl Debug for TreeEntry {
     fn fmt<W: fmt::Write>(&self, f: &mut Formatter<W>) -> fmt::Result {
         f.debug_struct("TreeEntry")
-            .field("path", &self.at.path())
+            .field("path", &self.at.as_str())
             .field("root", &self.at.root())
             .field("candidate", &self.at.candidate())
             .field("depth", &self.depth)
@@ -84,7 +81,7 @@ impl Clone for TreeEntry {
 
     fn clone(&self) -> Result<Self, AllocError> {
         Ok(TreeEntry {
-            at: self.at.try_clone()?,
+            at: self.at.clone()?,
             depth: self.depth,
             kind: self.kind,
         })
@@ -146,11 +143,11 @@ impl Entry for TreeEntry {
     }
 
     fn path(&self) -> &str {
-        self.at.path()
+        self.at.as_str()
     }
 
     fn into_path(self) -> String {
-        self.at.into_path()
+        self.at.into_string()
     }
 
     fn root_relative_paths(&self) -> (&str, &str) {

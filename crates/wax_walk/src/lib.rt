@@ -21,4 +21,4 @@ pub use gather::{collect, collect_feed};
 pub use iterator::{EntryResidue, FileIterator};
 pub use named_paths::law_of_paths;
 pub use selecting::{Select, Selecting, Selection};
-pub use walked_path::ListedFolder;
+pub use walked_path::WalkedPath;

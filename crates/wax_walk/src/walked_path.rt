@@ -8,17 +8,6 @@ use std::alloc::{AllocError, Global};
 use std::marker::Model;
 use wax_directory::path::{into_path, join};
 
-/// A folder whose items a walk takes.
-#[derive(Clone, Copy)]
-pub struct ListedFolder<'a> {
-    /// The path of the walk's start.
-    pub root: &'a str,
-    /// The path of the folder.
-    pub path: &'a str,
-    /// The candidate of the folder.
-    pub candidate: &'a str,
-}
-
 /// The start and the candidate of a path.
 #[derive(Drop)]
 enum Texts {
@@ -31,7 +20,7 @@ enum Texts {
 /// A path with the path of the walk's start and the candidate. It is one text, unless these aren't
 /// parts of the path.
 #[derive(Drop)]
-pub(crate) struct WalkedPath {
+pub struct WalkedPath {
     path: String,
     texts: Texts,
 }
@@ -52,15 +41,15 @@ impl Model for WalkedPath {
     ghost invariant = { λ p. FitsPath p.texts (string_bytes p.path) };
 }
 
-// Returns where the candidate begins in the folder's path, if the path begins with that of the
-// start and ends with the candidate.
-fn shared_start(folder: ListedFolder<'_>) -> Option<usize>
-    ensures { let f = folder.entry in IfSome result (IsShared f.path.now f.root.now f.candidate.now) }
+// Returns where the candidate begins in the path, if the path begins with that of the start and ends
+// with the candidate.
+fn shared_start(path: &str, root: &str, candidate: &str) -> Option<usize>
+    ensures { IfSome result (IsShared path.now root.now candidate.now) }
 {
-    let (root, _) = folder.path.split_at_checked(folder.root.len())?;
-    let start = folder.path.len().checked_sub(folder.candidate.len())?;
-    let (_, candidate) = folder.path.split_at_checked(start)?;
-    if root == folder.root && candidate == folder.candidate {
+    let (begin, _) = path.split_at_checked(root.len())?;
+    let start = path.len().checked_sub(candidate.len())?;
+    let (_, end) = path.split_at_checked(start)?;
+    if begin == root && end == candidate {
         Some(start)
     } else {
         None
@@ -68,65 +57,73 @@ fn shared_start(folder: ListedFolder<'_>) -> Option<usize>
 }
 
 impl WalkedPath {
-    /// Puts three texts together.
-    pub(crate) fn new(path: String, root: String, candidate: String) -> WalkedPath
+    /// Puts three texts together. If the start and the candidate are parts of the path, only the
+    /// path is kept.
+    pub fn new(path: String, root: String, candidate: String) -> WalkedPath
         ensures { result ≡ record {
           path = string_bytes path;
           root = string_bytes root;
           candidate = string_bytes candidate;
         } }
     {
-        WalkedPath {
-            path,
-            texts: Texts::Own(root, candidate),
-        }
+        let texts = match shared_start(path.as_str(), root.as_str(), candidate.as_str()) {
+            Some(start) => Texts::Within(root.len(), start),
+            None => Texts::Own(root, candidate),
+        };
+        WalkedPath { path, texts }
     }
 
     /// Builds the path of an item of a folder. It doesn't allocate if the name has room for the
     /// path, and the start and the candidate of the folder are parts of the folder's path.
-    pub(crate) fn in_folder(
+    pub fn in_folder(
         alloc: Global,
-        folder: ListedFolder<'_>,
+        folder: &WalkedPath,
         name: String,
     ) -> Result<WalkedPath, AllocError>
-        ensures { IfOk result (λ p. p ≡ item_texts (record {
-          path = folder.entry.path.now;
-          root = folder.entry.root.now;
-          candidate = folder.entry.candidate.now;
-        }) (string_bytes name)) }
+        ensures { IfOk result (λ p. p ≡ item_texts folder.now (string_bytes name)) }
     {
-        let Some(start) = shared_start(folder) else {
-            let root = String::from_str(alloc, folder.root)?;
-            let candidate = join(alloc, folder.candidate, name.as_str())?;
-            return Ok(WalkedPath::new(into_path(name, folder.path)?, root, candidate));
-        };
-        let name_len = name.len();
-        let path = into_path(name, folder.path)?;
-        let candidate_start = if folder.candidate.is_empty() {
-            path.len() - name_len
-        } else {
-            start
-        };
-        Ok(WalkedPath {
-            path,
-            texts: Texts::Within(folder.root.len(), candidate_start),
-        })
+        match &folder.texts {
+            Texts::Within(root_end, start) => {
+                let name_len = name.len();
+                let path = into_path(name, folder.as_str())?;
+                let candidate_start = if folder.candidate().is_empty() {
+                    path.len() - name_len
+                } else {
+                    *start
+                };
+                Ok(WalkedPath {
+                    path,
+                    texts: Texts::Within(*root_end, candidate_start),
+                })
+            }
+            Texts::Own(root, candidate) => {
+                let root = root.clone()?;
+                let candidate = join(alloc, candidate.as_str(), name.as_str())?;
+                let path = into_path(name, folder.as_str())?;
+                Ok(WalkedPath {
+                    path,
+                    texts: Texts::Own(root, candidate),
+                })
+            }
+        }
     }
 
-    pub(crate) fn path(&self) -> &str
+    /// Returns the path.
+    pub fn as_str(&self) -> &str
         ensures { result.now ≡ self.now.path }
     {
         self.path.as_str()
     }
 
-    pub(crate) fn into_path(self) -> String
+    /// Converts it into the path alone.
+    pub fn into_string(self) -> String
         ensures { string_bytes result ≡ self.path }
     {
         self.path
     }
 
     /// Returns the path of the walk's start.
-    pub(crate) fn root(&self) -> &str
+    pub fn root(&self) -> &str
         ensures { result.now ≡ self.now.root }
     {
         match &self.texts {
@@ -135,7 +132,8 @@ impl WalkedPath {
         }
     }
 
-    pub(crate) fn candidate(&self) -> &str
+    /// Returns the candidate: the names that lead from the start to the path, with `/` between.
+    pub fn candidate(&self) -> &str
         ensures { result.now ≡ self.now.candidate }
     {
         match &self.texts {
@@ -143,11 +141,15 @@ impl WalkedPath {
             Texts::Own(_, candidate) => candidate.as_str(),
         }
     }
+}
 
-    /// Copies the texts.
-    pub(crate) fn try_clone(&self) -> Result<WalkedPath, AllocError>
-        ensures { IfOk result (λ p. p ≡ self.now) }
-    {
+/// Copies the texts.
+impl Clone for WalkedPath {
+    ghost use Rattle.std.specs.Prelude.{◌≡◌};
+
+    ghost is_clone = { λ path copy. copy ≡ path };
+
+    fn clone(&self) -> Result<Self, AllocError> {
         let texts = match &self.texts {
             Texts::Within(end, start) => Texts::Within(*end, *start),
             Texts::Own(root, candidate) => Texts::Own(root.clone()?, candidate.clone()?),

@@ -12,16 +12,16 @@ use Rattle.wax_tree.specs.declared.steps.FoundItem.{FoundItem}
 use Rattle.wax_tree.specs.declared.steps.FoundItem.TheVariants.{Entry, Fault}
 use Rattle.wax_tree.specs.Plain.{Location}
 
--- the entry of this name and kind in the folder at this location, in a walk from this start
-abbrev pub IsEntry : Location → List ℕ → List ℕ → FileType → FoundItem → Type 0
-IsEntry at root name kind (Entry e) = facts_of e ≡ record {
+-- the entry of this name and kind in the folder at this location
+abbrev pub IsEntry : Location → List ℕ → FileType → FoundItem → Type 0
+IsEntry at name kind (Entry e) = facts_of e ≡ record {
   path = join at.path name;
-  root = root;
+  root = at.root;
   candidate = join at.candidate name;
   depth = at.depth;
   kind = kind;
 }
-IsEntry at root name kind (Fault k path) = ⊥
+IsEntry at name kind (Fault k path) = ⊥
 
 -- an error of this kind in the folder at this location
 abbrev pub IsFault : Location → FaultKind → FoundItem → Type 0
@@ -29,9 +29,9 @@ IsFault at kind (Entry e) = ⊥
 IsFault at kind (Fault k path) = (k ≡ kind) × (string_bytes path ≡ at.path)
 
 -- what an item of the folder at this location becomes: an entry if its name is plain, else an error
-abbrev pub IsFound : Location → List ℕ → ListItem → FoundItem → Type 0
-IsFound at root (Name name kind) found =
-    ((is_plain (string_bytes name) ≡ true) × IsEntry at root (string_bytes name) kind found)
+abbrev pub IsFound : Location → ListItem → FoundItem → Type 0
+IsFound at (Name name kind) found =
+    ((is_plain (string_bytes name) ≡ true) × IsEntry at (string_bytes name) kind found)
     ⊎ ((is_plain (string_bytes name) ≡ false) × IsFault at K.BadName found)
-IsFound at root Failed found = IsFault at K.Listing found
-IsFound at root NotText found = IsFault at K.NotText found
+IsFound at Failed found = IsFault at K.Listing found
+IsFound at NotText found = IsFault at K.NotText found

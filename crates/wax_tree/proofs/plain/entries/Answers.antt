@@ -21,7 +21,7 @@ returns-clause-items g c =
     (h.1.all (plain_pending range start s told.0) (b.shown s told.0 shows told.1)) in (
       told.0,
       untold (law.tells r.1) (range.budget + 1) _ _
-          (plain_kept (scope_in range start) (law.tells r.1) (range.budget + 1) s told.0 _ h.0 _ all h.3),
+          (plain_kept (scope_in range) (law.tells r.1) (range.budget + 1) start s told.0 _ h.0 _ all h.3),
     ))
     c.collect.result c.collect.ensures.took
 
@@ -36,7 +36,7 @@ returns-clause-entries g c =
     let all = subst (λ n. Yielded (law.tells r.1) n (plain_pending range start s told.0) h.0) b.listings
     (h.1.all (plain_pending range start s told.0) (b.shown s told.0 shows told.1)) in
     entries_are range start s (law.tells r.1) told.0 _
-    (plain_kept (scope_in range start) (law.tells r.1) (range.budget + 1) s told.0 _ h.0 _ all h.3))
+    (plain_kept (scope_in range) (law.tells r.1) (range.budget + 1) start s told.0 _ h.0 _ all h.3))
     c.collect.result c.collect.ensures.took
 
 pub returns-clause-folders : goal.returns-clause-folders
@@ -48,7 +48,7 @@ returns-clause-folders g c =
     map_ok (λ r h s listed shows told.
     let all = subst (λ n. Yielded (law.tells r.1) n (plain_pending range start s listed) h.0) b.listings
     (h.1.all (plain_pending range start s listed) (b.shown s listed shows told)) in
-    plain_kept (scope_in range start) (law.tells r.1) (range.budget + 1) s listed _ h.0 _ all h.3)
+    plain_kept (scope_in range) (law.tells r.1) (range.budget + 1) start s listed _ h.0 _ all h.3)
     c.collect.result c.collect.ensures.took
 
 pub returns-clause-errors : goal.returns-clause-errors

@@ -1,4 +1,5 @@
-use Rattle.std.proofs.Common.{refl, sym, ap, inl, Err, string_bytes, ◌++◌, ◌∷◌, []}
+use Rattle.std.specs.Prelude.{Some}
+use Rattle.std.proofs.Common.{subst, refl, sym, ap, inl, Err, ◌++◌, ◌∷◌, []}
 use Rattle.wax_walk.specs.declared.error.FaultKind.TheVariants.{Listing}
 use Rattle.wax_walk.specs.declared.error.WalkError.TheVariants.{Fault, Memory}
 use Rattle.wax_walk.specs.Given.{fault}
@@ -30,8 +31,8 @@ pub returns-after-push-clause-continues : goal.returns-after-push-clause-continu
 returns-after-push-clause-continues g c s h i rest items r e =
     let law = g.D.Directory.law in
     let w = c.args.self.now in
-    let path = string_bytes c.args.folder.path in
-    let o = rw c.as_str.ensures.value at c.in-Ok.ensures in
+    let path = c.args.folder.path.path in
+    let o = rw c.as_str.ensures at c.in-Ok.ensures in
     elim c.match-push.branch [
       | in-Ok-push v ↦ rw (v.self-is, v.result-is)
           (enters law w (record w { levels = c.push.new.self }) c.open.new.self
@@ -49,14 +50,15 @@ pub returns-in-Err-Failed-clause-continues : goal.returns-in-Err-Failed-clause-c
 returns-in-Err-Failed-clause-continues g c s h i rest items r e =
     let law = g.D.Directory.law in
     let w = c.args.self.now in
-    let path = string_bytes c.args.folder.path in
-    let o = rw (c.as_str.ensures.value, c.in-Err-Failed.field-0-is) at c.in-Err-Failed.ensures in
-    let told : law.tells c.open.new.self (rest.listed ++ path ∷ []) = rw (sym c.as_str.ensures.value)
+    let path = c.args.folder.path.path in
+    let o = rw (c.as_str.ensures, c.in-Err-Failed.field-0-is) at c.in-Err-Failed.ensures in
+    let told : law.tells c.open.new.self (rest.listed ++ path ∷ []) = rw (sym c.as_str.ensures)
     (o.told rest.listed r.told) in
     enters_sealed law w c.open.new.self (located c.args.folder) s rest items
-    (Err (Fault Listing c.args.folder.path c.saturating_sub-depth.result)) i
+    (Err (Fault Listing c.into_string-path.result c.saturating_sub-depth.result)) i
     (o.opens (cursors_of w.levels.items) rest.has s r.held h)
-    (ap (fault Listing path) c.saturating_sub-depth.ensures)
+    (ap (λ p. fault Listing p c.saturating_sub-depth.result) c.into_string-path.ensures
+    ∙ ap (fault Listing path) c.saturating_sub-depth.ensures)
     (rest_moved law w c.open.new.self (rest.listed ++ path ∷ []) rest r o.shown
     (o.held (cursors_of w.levels.items) rest.has r.held) told
     (listed_more w.levels.items rest.listed (path ∷ []) r.opened)) e
@@ -79,9 +81,10 @@ pub returns-in-Err-Failed-clause-places : goal.returns-in-Err-Failed-clause-plac
 returns-in-Err-Failed-clause-places g c none =
     let w = record c.args.self.now { directory = c.open.new.self } in
     let of = ReachesFrom w (IsOf c.args.folder) in
-    fault_places of of w.max w Listing c.args.folder.path c.saturating_sub-depth.result c.args.folder.depth
+    fault_places of of w.max w Listing c.into_string-path.result c.saturating_sub-depth.result c.args.folder.depth
     c.saturating_sub-depth.ensures
-    (leads_here w.min (OfAny w (IsOf c.args.folder)) _ _ (inl (refl, refl))) none
+    (subst (λ p. of p c.args.folder.depth) (sym c.into_string-path.ensures)
+    (leads_here w.min (OfAny w (IsOf c.args.folder)) _ _ (inl (refl, refl)))) none
     (reaches_more w no_folders (IsOf c.args.folder) (λ p n i. absurd i))
 
 pub returns-after-push-clause-answers : goal.returns-after-push-clause-answers
@@ -133,7 +136,7 @@ returns-in-Err-Failed-clause-answers g c running first entered =
     }) w (open_lists w) 1 (begins w) 1 d _ _ o.counted refl (omega arith) (λ n. omega arith) running first
     entered (λ n. refl) (λ n. omega arith)
     (gives_uses_answer _ (record w { directory = d })
-    (Err (Fault Listing c.args.folder.path c.saturating_sub-depth.result)) (failure_counted _ refl refl refl) refl refl
+    (Err (Fault Listing c.into_string-path.result c.saturating_sub-depth.result)) (failure_counted _ refl refl refl) refl refl
     (omega arith) (λ i. i) (λ i. i) (omega arith))
 
 pub returns-in-Err-Memory-clause-answers : goal.returns-in-Err-Memory-clause-answers
@@ -157,9 +160,9 @@ returns-after-push-clause-course g c going first entered =
     let w = c.args.self.now in
     let d = c.open.new.self in
     let law = g.D.Directory.law in
-    let path = string_bytes c.args.folder.path in
+    let path = c.args.folder.path.path in
     let calls = call path (opened path) ∷ [] in
-    let answered = c.in-Ok.ensures.answered ∙ ap (λ p. law.answered w.directory ++ opened p ∷ []) c.as_str.ensures.value in
+    let answered = c.in-Ok.ensures.answered ∙ ap (λ p. law.answered w.directory ++ opened p ∷ []) c.as_str.ensures in
     elim c.match-push.branch [
       | in-Ok-push v ↦ rw (v.self-is, v.result-is) (record {
         calls = calls;
@@ -179,15 +182,17 @@ pub returns-in-Err-Failed-clause-course : goal.returns-in-Err-Failed-clause-cour
 returns-in-Err-Failed-clause-course g c going first entered =
     let w = c.args.self.now in
     let law = g.D.Directory.law in
-    let path = string_bytes c.args.folder.path in
+    let path = c.args.folder.path.path in
     let o = rw c.in-Err-Failed.field-0-is at c.in-Err-Failed.ensures in
     let v = record w { directory = c.open.new.self } in
     let calls = call path (refused path) ∷ [] in record {
       calls = calls;
-      answered = o.answered ∙ ap (λ p. law.answered w.directory ++ refused p ∷ []) c.as_str.ensures.value;
+      answered = o.answered ∙ ap (λ p. law.answered w.directory ++ refused p ∷ []) c.as_str.ensures;
       uses = fault_uses calls
           (λ rest d. FolderComes (scope_of w) (located c.args.folder) rest (asking calls d)) v v _
-          (fault Listing path c.saturating_sub-depth.result) refl going first entered refl
+          (fault Listing path c.saturating_sub-depth.result)
+          (ap (λ p. Some (fault Listing p c.saturating_sub-depth.result)) c.into_string-path.ensures) going first
+          entered refl
           (λ rest. (
             a_sealed,
             tt,

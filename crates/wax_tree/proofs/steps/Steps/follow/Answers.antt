@@ -11,7 +11,7 @@ use Rattle.wax_tree.specs.Plain.{count_shown, entry_forest}
 use Rattle.wax_tree.specs.Walking.{entry_location, scope_of, located}
 use Rattle.wax_tree.specs.Plain.{HasKind}
 use Rattle.wax_tree.proofs.Showing.{none_left, plain_is, from_last_end, follows_leaf}
-use Rattle.wax_tree.proofs.Locations.{candidate_is, depth_is, path_is}
+use Rattle.wax_tree.proofs.Locations.{onward_is}
 use Rattle.wax_tree.proofs.UsingAnswers.{leaf_counted, stopped_uses_answer, stops_with}
 use Rattle.wax_tree.proofs.Stepping.{follows}
 use Rattle.wax_tree.specs.declared.steps.StartPoint.{StartPoint}
@@ -36,12 +36,11 @@ returns-in_default-clause-continues g c s h k p d empty rest items r e =
     (omega (arith, i, c.args.place.names.ok.0)) in (cc)) in
     let is = ap (λ v. walk_from (scope_of w) (located c.args.place.at) s (from_last v) rest.forest) none ∙
     plain_is (scope_of w) (located c.args.place.at) s c.args.kind rest.forest k in
-    let root : string_bytes c.in-Ok.root ≡ string_bytes w.root = c.in-Ok.ensures.cases in
-    let given = subst (λ (f : Facts). (f.root ≡ string_bytes w.root) → g.D.Directory.law.shows w.directory f.path s
+    let given = subst (λ (f : Facts). g.D.Directory.law.shows w.directory f.path s
     → HasKind s f.kind → Continues g.D.Directory.law w (entry_forest (scope_of w) (entry_location f) f.kind s)
-    (count_shown s) c.give.result c.give.new.self) c.new.ensures (c.give.ensures.continues s) in
+    (count_shown s) c.give.result c.give.new.self) c.from_path.ensures (c.give.ensures.continues s) in
     subst (λ v. StepIs g.D.Directory.law w (pending nothing v rest.listed items) c.give.result
-    c.give.new.self) (sym is) (given root h k rest items r e)
+    c.give.new.self) (sym is) (given h k rest items r e)
 
 pub returns-then-ne-clause-uses_answer : goal.returns-then-ne-clause-uses_answer
 returns-then-ne-clause-uses_answer g c running first =
@@ -49,7 +48,7 @@ returns-then-ne-clause-uses_answer g c running first =
     let long : length c.args.place.names.items ≡ length c.pop.new.self.items + 1 =
     ap length c.in-Some.ensures.items ∙ length-append c.pop.new.self.items (c.in-Some.name ∷ []) in
     stopped_uses_answer _ c.args.self.now c.stop.new.self c.stop.result
-    (fault NotAFolder (string_bytes c.args.place.at.path) c.args.place.at.depth) c.stop.ensures.gives
+    (fault NotAFolder c.args.place.at.path.path c.args.place.at.depth) c.stop.ensures.gives
     c.stop.ensures.ended (leaf_counted c.args.kind no_folder) tt refl (omega arith) (λ i. omega (arith, long))
     (omega arith)
 
@@ -64,22 +63,21 @@ returns-then-ne-clause-continues g c s h k p d empty rest items r e =
     (scope_of w) (located c.args.place.at) s c.args.kind (string_bytes c.in-Some.name)
     (from_last c.pop.new.self.items) rest.forest k no_folder in
     stops_with g.D.Directory.law w c.stop.new.self _ rest items
-    (fault NotAFolder (string_bytes c.args.place.at.path) c.args.place.at.depth) c.stop.result
+    (fault NotAFolder c.args.place.at.path.path c.args.place.at.depth) c.stop.result
     c.stop.ensures.gives tt c.stop.ensures.ended is r empty (omega (arith, e))
 
 pub returns-clause-continues : goal.returns-clause-continues
 returns-clause-continues g c s h k p d empty rest items r e =
     let w = c.args.self.now in
     let folder : c.args.kind ≡ Folder = search rules in
-    let below = rw c.as_str.ensures.value at c.in-Ok-below.ensures in
+    let below = c.in-Ok.ensures in
     let long : length c.args.place.names.items ≡ length c.pop.new.self.items + 1 =
     ap length c.in-Some.ensures.items ∙ length-append c.pop.new.self.items (c.in-Some.name ∷ []) in
-    let deep = depth_is c.in-Ok-below.at _ below in
-    let depth : c.in-Ok-below.at.depth ≡ c.args.place.at.depth + 1 = omega (arith, d, long, deep) in
     follows g.D.Directory.law w c.args.place
-    (record { at = c.in-Ok-below.at; names = c.pop.new.self }) c.in-Some.name s rest items r h
+    (record { at = c.in-Ok.at; names = c.pop.new.self }) c.in-Some.name s rest items r h
     (subst (λ v. HasKind s v) folder k) p d empty e (λ at y t. g.met.D.Directory.child w.directory at y t)
-    c.in-Some.ensures.items (path_is c.in-Ok-below.at _ below) (candidate_is c.in-Ok-below.at _ below) depth
+    c.in-Some.ensures.items
+    (below ∙ onward_is (located c.args.place.at) (string_bytes c.in-Some.name) (omega (arith, d, long)))
 
 pub returns-in_default-clause-places : goal.returns-in_default-clause-places
 returns-in_default-clause-places g c none =
@@ -88,18 +86,18 @@ returns-in_default-clause-places g c none =
     let of = ReachesFrom w (OnWay place) in
     places_more _ of _ of w.max c.give.result c.give.new.self
     (reaches_more w no_folders (OnWay place) (λ p n i. absurd i))
-    (λ p n i. leads_more w.min (OneFolder (string_bytes place.at.path) (place.at.depth + 1)) (OfAny w (OnWay place))
+    (λ p n i. leads_more w.min (OneFolder place.at.path.path (place.at.depth + 1)) (OfAny w (OnWay place))
     (λ q k j. inl (way_here place q k j)) p n i.1)
     (subst (λ (f : Facts). StepPlaces (ReachesFrom w no_folders)
     (λ p n. (f.depth < w.min) × LeadsUnseen w.min (OneFolder f.path (f.depth + 1)) p n) w.max c.give.result
-    c.give.new.self) c.new.ensures (c.give.ensures.places none))
+    c.give.new.self) c.from_path.ensures (c.give.ensures.places none))
 
 pub returns-then-ne-clause-places : goal.returns-then-ne-clause-places
 returns-then-ne-clause-places g c none =
     let w = c.args.self.now in
     let place = c.args.place in
     let of = ReachesFrom w (OnWay place) in
-    stopped_places of of w.max w c.stop.new.self c.stop.result NotAFolder (string_bytes place.at.path) place.at.depth
+    stopped_places of of w.max w c.stop.new.self c.stop.result NotAFolder place.at.path.path place.at.depth
     (place.at.depth + 1) c.stop.ensures.gives c.stop.ensures.ended (omega arith)
     (leads_here w.min (OfAny w (OnWay place)) _ _ (inl (way_here place _ _ (refl, refl))))
 
@@ -108,18 +106,10 @@ returns-clause-places g c none =
     let w = c.args.self.now in
     let place = c.args.place in
     let of = ReachesFrom w (OnWay place) in
-    let next : StartPoint = record { at = c.in-Ok-below.at; names = c.pop.new.self } in
-    let below = rw c.as_str.ensures.value at c.in-Ok-below.ensures in
+    let next : StartPoint = record { at = c.in-Ok.at; names = c.pop.new.self } in
+    let below = c.in-Ok.ensures in
     silent_places of of w.max (record w { first = Some next }) _ refl none
-    (next_reaches w place next c.in-Some.name c.in-Some.ensures.items (path_is next.at _ below) (depth_is next.at _ below))
-
-pub returns-in_default-clone-clause-uses_answer : goal.returns-in_default-clone-clause-uses_answer
-returns-in_default-clone-clause-uses_answer g c running first =
-    let w = c.args.self.now in
-    let e = c.fail.ensures.ended in
-    let few : names_left c.fail.new.self ≡ names_left w = ap names_left e in
-    memory_uses_answer _ w c.fail.new.self c.fail.result c.fail.ensures.memory (ap (λ v. v.directory) e)
-    (ap (λ v. v.has_ended) e) (omega (arith, few)) (kind_counted c.args.kind 1) (omega arith)
+    (next_reaches w place next c.in-Some.name c.in-Some.ensures.items (ap (λ v. v.path) below) (ap (λ v. v.depth) below))
 
 pub returns-in_default-clause-uses_answer : goal.returns-in_default-clause-uses_answer
 returns-in_default-clause-uses_answer g c running first =
@@ -130,15 +120,15 @@ returns-in_default-clause-uses_answer g c running first =
 pub returns-in_default-below-clause-uses_answer : goal.returns-in_default-below-clause-uses_answer
 returns-in_default-below-clause-uses_answer g c running first =
     let w = c.args.self.now in
-    let e = c.fail-in_default-below.ensures.ended in
-    let few : names_left c.fail-in_default-below.new.self ≡ names_left w = ap names_left e in
-    memory_uses_answer _ w c.fail-in_default-below.new.self c.fail-in_default-below.result c.fail-in_default-below.ensures.memory (ap (λ v. v.directory) e)
+    let e = c.fail.ensures.ended in
+    let few : names_left c.fail.new.self ≡ names_left w = ap names_left e in
+    memory_uses_answer _ w c.fail.new.self c.fail.result c.fail.ensures.memory (ap (λ v. v.directory) e)
     (ap (λ v. v.has_ended) e) (omega (arith, few)) (kind_counted c.args.kind 1) (omega arith)
 
 pub returns-clause-uses_answer : goal.returns-clause-uses_answer
 returns-clause-uses_answer g c running first =
     let w = c.args.self.now in
-    let next : StartPoint = record { at = c.in-Ok-below.at; names = c.pop.new.self } in
+    let next : StartPoint = record { at = c.in-Ok.at; names = c.pop.new.self } in
     let long : length c.args.place.names.items ≡ length c.pop.new.self.items + 1 =
     ap length c.in-Some.ensures.items ∙ length-append c.pop.new.self.items (c.in-Some.name ∷ []) in
     let begun : begins (record w { first = Some next }) ≡ 1 = ap (λ b. cond b 0 1) running in
@@ -146,16 +136,11 @@ returns-clause-uses_answer g c running first =
     (λ going none entered. none_either w.has_ended 0 refl) refl refl (omega arith) (omega (arith, long))
     (kind_counted c.args.kind 0) (λ e. refl) (omega (arith, begun))
 
-pub returns-in_default-clone-clause-course : goal.returns-in_default-clone-clause-course
-returns-in_default-clone-clause-course g c going first entered =
-    memory_uses [] _ c.fail.result c.fail.new.self (some_place c.args.self.now c.args.place c.args.kind)
-    c.fail.ensures.memory (ap (λ v. v.has_ended) c.fail.ensures.ended)
-
 pub returns-in_default-below-clause-course : goal.returns-in_default-below-clause-course
 returns-in_default-below-clause-course g c going first entered =
-    memory_uses [] _ c.fail-in_default-below.result c.fail-in_default-below.new.self
-    (some_place c.args.self.now c.args.place c.args.kind) c.fail-in_default-below.ensures.memory
-    (ap (λ v. v.has_ended) c.fail-in_default-below.ensures.ended)
+    memory_uses [] _ c.fail.result c.fail.new.self
+    (some_place c.args.self.now c.args.place c.args.kind) c.fail.ensures.memory
+    (ap (λ v. v.has_ended) c.fail.ensures.ended)
 
 pub returns-in_default-clause-course : goal.returns-in_default-clause-course
 returns-in_default-clause-course g c going first entered =
@@ -163,10 +148,8 @@ returns-in_default-clause-course g c going first entered =
     let none : c.args.place.names.items ≡ [] = none_left c.args.place.names.items
     (λ i. let bad : false ≡ true = c.in_default.ensures.variant.1
     (omega (arith, i, c.args.place.names.ok.0)) in (cc)) in
-    let root : string_bytes c.in-Ok.root ≡ string_bytes w.root = c.in-Ok.ensures.cases in
-    let given = subst (λ (f : Facts). (f.root ≡ string_bytes w.root)
-    → UsesCourse [] (ComesLast w (EntryComes (scope_of w) f)) c.give.result c.give.new.self) c.new.ensures
-    (c.give.ensures.course going first entered) root in
+    let given = subst (λ (f : Facts). UsesCourse [] (ComesLast w (EntryComes (scope_of w) f)) c.give.result
+    c.give.new.self) c.from_path.ensures (c.give.ensures.course going first entered) in
     uses_moved [] _ _ c.give.result c.give.new.self (λ d h. (
       h.0,
       h.1,
@@ -182,16 +165,16 @@ returns-then-ne-clause-course g c going first entered =
     c.pop.new.self.items = ap from_last c.in-Some.ensures.items ∙ from_last_end c.pop.new.self.items
     c.in-Some.name in
     course.stopped_uses [] _ c.stop.result c.stop.new.self
-    (fault NotAFolder (string_bytes c.args.place.at.path) c.args.place.at.depth) c.stop.ensures.gives
+    (fault NotAFolder c.args.place.at.path.path c.args.place.at.depth) c.stop.ensures.gives
     (ap (λ v. v.has_ended) c.stop.ensures.ended)
     (misplaced_place w c.args.place c.args.kind _ _ names no_folder)
 
 pub returns-clause-course : goal.returns-clause-course
 returns-clause-course g c going first entered =
     let w = c.args.self.now in
-    let next : StartPoint = record { at = c.in-Ok-below.at; names = c.pop.new.self } in
+    let next : StartPoint = record { at = c.in-Ok.at; names = c.pop.new.self } in
     let folder : c.args.kind ≡ Folder = search rules in
-    let below = rw c.as_str.ensures.value at c.in-Ok-below.ensures in
+    let below = c.in-Ok.ensures in
     let names : from_last c.args.place.names.items ≡ string_bytes c.in-Some.name ∷ from_last
     c.pop.new.self.items = ap from_last c.in-Some.ensures.items ∙ from_last_end c.pop.new.self.items
     c.in-Some.name in

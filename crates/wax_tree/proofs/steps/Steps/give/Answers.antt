@@ -1,9 +1,8 @@
 use Rattle.std.proofs.Common.{◌≡◌, ap, arith, []}
 use Rattle.std.specs.Prelude.{Ok}
 use Rattle.wax_walk.specs.Entries.{facts_of}
-use Rattle.wax_walk.specs.Given.{entry, kept}
 use Rattle.wax_tree.specs.Plain.{plain_entry}
-use Rattle.wax_tree.specs.Walking.{entry_location, scope_of, tree_given}
+use Rattle.wax_tree.specs.Walking.{entry_location, tree_given}
 use Rattle.wax_tree.proofs.Stepping.{goes_silently, gives_entry}
 use Rattle.wax_tree.proofs.steps.Steps.give.Goals as goal
 use Rattle.std.proofs.Common.{◌+◌, ◌∙◌, refl}
@@ -15,7 +14,7 @@ use Rattle.wax_tree.proofs.Listing.{remembers_one}
 use Rattle.wax_tree.proofs.UsingAnswers.{memory_uses_answer, silent_uses_answer}
 
 pub returns-then-depth-self-clause-continues : goal.returns-then-depth-self-clause-continues
-returns-then-depth-self-clause-continues g c s root h k rest items r e =
+returns-then-depth-self-clause-continues g c s h k rest items r e =
     let f = facts_of c.args.entry in
     let i = c.in-Ok.ensures.entered s r.entered h k in
     goes_silently g.D.Directory.law c.args.self.now c.enter_later.new.self c.enter_later.new.self.entered
@@ -23,12 +22,11 @@ returns-then-depth-self-clause-continues g c s root h k rest items r e =
     (omega (arith, c.depth.ensures, c.if-depth-self.true)) r i.2 i.1 e
 
 pub returns-clause-continues : goal.returns-clause-continues
-returns-clause-continues g c s root h k rest items r e =
+returns-clause-continues g c s h k rest items r e =
     let w = c.args.self.now in
     let f = facts_of c.args.entry in
     let i = c.in-Ok.ensures.entered s r.entered h k in
-    let given : tree_given (Ok c.args.entry) ≡ plain_entry (scope_of w) (entry_location f) f.kind =
-    ap (λ v. entry kept (record f { root = v })) root in
+    let given : tree_given (Ok c.args.entry) ≡ plain_entry (entry_location f) f.kind = refl in
     gives_entry g.D.Directory.law w c.enter_later.new.self c.enter_later.new.self.entered (entry_location f) f.kind s
     i.0 items rest (Ok c.args.entry) c.enter_later.ensures.rest
     (omega (arith, c.depth.ensures, c.if-depth-self.false)) given r i.2 i.1 e
@@ -67,13 +65,13 @@ returns-clause-uses_answer g c =
     (λ p n i. let t = c.in-Ok.ensures.folder entered p n i in (t.1, t.2)))
 
 pub returns-in_default-clause-course : goal.returns-in_default-clause-course
-returns-in_default-clause-course g c going first entered root =
+returns-in_default-clause-course g c going first entered =
     let w = c.args.self.now in
     memory_uses [] _ c.fail.result c.fail.new.self (some_entry w (facts_of c.args.entry)) c.fail.ensures.memory
     (ap (λ v. v.has_ended) c.fail.ensures.ended)
 
 pub returns-then-depth-self-clause-course : goal.returns-then-depth-self-clause-course
-returns-then-depth-self-clause-course g c going first entered root =
+returns-then-depth-self-clause-course g c going first entered =
     let w = c.args.self.now in
     let rest = c.enter_later.ensures.rest in
     let min : c.enter_later.new.self.min ≡ w.min = ap (λ v. v.min) rest in
@@ -81,12 +79,11 @@ returns-then-depth-self-clause-course g c going first entered root =
     (omega (arith, c.depth.ensures, c.if-depth-self.true, min))
 
 pub returns-clause-course : goal.returns-clause-course
-returns-clause-course g c going first entered root =
+returns-clause-course g c going first entered =
     let w = c.args.self.now in
     let f = facts_of c.args.entry in
     let rest = c.enter_later.ensures.rest in
     let min : c.enter_later.new.self.min ≡ w.min = ap (λ v. v.min) rest in
-    let given : tree_given (Ok c.args.entry) ≡ plain_entry (scope_of w) (entry_location f) f.kind =
-    ap (λ v. entry kept (record f { root = v })) root in
+    let given : tree_given (Ok c.args.entry) ≡ plain_entry (entry_location f) f.kind = refl in
     gives_uses w c.enter_later.new.self f rest going first entered c.in-Ok.ensures.enters (Ok c.args.entry) given
     (omega (arith, c.depth.ensures, c.if-depth-self.false, min))

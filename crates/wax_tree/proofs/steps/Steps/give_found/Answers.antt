@@ -6,7 +6,7 @@ use Rattle.wax_tree.specs.Plain.{count_shown}
 use Rattle.wax_tree.specs.Reaching.{OneFolder, ReachesFrom}
 use Rattle.wax_tree.specs.Stepping.{StepPlaces}
 use Rattle.wax_tree.specs.Walking.{begins, names_left, scope_of}
-use Rattle.wax_tree.proofs.Finding.{found_entry, found_root, found_fault, entry_uses_answer, found_uses_answer}
+use Rattle.wax_tree.proofs.Finding.{found_entry, found_fault, entry_uses_answer, found_uses_answer}
 use Rattle.wax_tree.proofs.Resting.{comes_rest}
 use Rattle.wax_tree.proofs.Stepping.{gives_fault}
 use Rattle.wax_tree.proofs.Reaching.{entry_places, found_places}
@@ -17,7 +17,7 @@ use Rattle.wax_tree.proofs.steps.Steps.give_found.Goals as goal
 
 pub returns-in-Entry-clause-uses_answer : goal.returns-in-Entry-clause-uses_answer
 returns-in-Entry-clause-uses_answer g c at x f =
-    entry_uses_answer at (string_bytes c.args.self.now.root) x c.in-Entry.entry (names_left c.args.self.now)
+    entry_uses_answer at x c.in-Entry.entry (names_left c.args.self.now)
     (begins c.args.self.now + 1) c.args.self.now c.give.new.self c.give.result (rw c.in-Entry.is at f)
     c.give.ensures.uses_answer
 
@@ -27,9 +27,8 @@ returns-in-Entry-clause-continues g c at x l f d h i rest items r e =
     let found = rw c.in-Entry.is at f in
     let t = found_entry (scope_of w) at (g.D.Directory.law.shows w.directory) x c.in-Entry.entry l rest.forest found
     h i in
-    let root = found_root (scope_of w) at (g.D.Directory.law.shows w.directory) x c.in-Entry.entry found in
     let few : count_shown t.0 + rest.count ≤ items = omega (arith, e, t.3) in
-    rw t.4 (c.give.ensures.continues t.0 root t.1 t.2 rest items r few)
+    rw t.4 (c.give.ensures.continues t.0 t.1 t.2 rest items r few)
 
 pub returns-in-Fault-clause-uses_answer : goal.returns-in-Fault-clause-uses_answer
 returns-in-Fault-clause-uses_answer g c at x f =
@@ -66,12 +65,11 @@ pub returns-in-Entry-clause-course : goal.returns-in-Entry-clause-course
 returns-in-Entry-clause-course g c going first entered at x f d =
     let w = c.args.self.now in
     let found = rw c.in-Entry.is at f in
-    let root = found_root (scope_of w) at (g.D.Directory.law.shows w.directory) x c.in-Entry.entry found in
     uses_moved [] _ _ c.give.result c.give.new.self (λ e h. (
       h.0,
       h.1,
-      entry_item (scope_of w) at (string_bytes w.root) x c.in-Entry.entry h.0 e found h.2,
-    )) (c.give.ensures.course going first entered root)
+      entry_item (scope_of w) at x c.in-Entry.entry h.0 e found h.2,
+    )) (c.give.ensures.course going first entered)
 
 pub returns-in-Fault-clause-course : goal.returns-in-Fault-clause-course
 returns-in-Fault-clause-course g c going first entered at x f d =
@@ -79,5 +77,5 @@ returns-in-Fault-clause-course g c going first entered at x f d =
     let depth : c.saturating_sub.result ≡ at.depth - 1 = omega (arith, d, c.saturating_sub.ensures) in
     fault_uses [] (ItemComes (scope_of w) at x) w w _
     (fault c.in-Fault.kind (string_bytes c.in-Fault.path) c.saturating_sub.result) refl going first entered refl
-    (λ rest. fault_item (scope_of w) at (string_bytes w.root) x c.in-Fault.kind c.in-Fault.path
+    (λ rest. fault_item (scope_of w) at x c.in-Fault.kind c.in-Fault.path
     c.saturating_sub.result rest depth (rw c.in-Fault.is at f))

@@ -1,4 +1,4 @@
-use Rattle.std.proofs.Common.{arith, string_bytes, refl}
+use Rattle.std.proofs.Common.{arith, refl}
 use Rattle.wax_directory.specs.Shown.{rest_of}
 use Rattle.wax_tree.specs.Walking.{cursors_of, located}
 use Rattle.wax_tree.proofs.Resting.{rest_moved}
@@ -38,7 +38,7 @@ pub returns-in-Ok-Some-clause-lists : goal.returns-in-Ok-Some-clause-lists
 returns-in-Ok-Some-clause-lists g c l rest items b e =
     let law = g.D.Directory.law in
     let w = c.args.self.now in
-    let path = string_bytes c.args.level.folder.path in
+    let path = c.args.level.folder.path.path in
     let o = rw c.in-Ok-Some.field-0-is at c.in-Ok-Some.ensures in
     let k = o.nexts (cursors_of w.levels.items) rest.has l b.held in
     let held = g.met.D.Directory.dropped c.next.new.self (cursors_of w.levels.items) rest.has
@@ -104,7 +104,7 @@ returns-in-Err-clause-course g c going first entered =
 pub returns-in-Ok-None-clause-course : goal.returns-in-Ok-None-clause-course
 returns-in-Ok-None-clause-course g c going first entered =
     let w = c.args.self.now in
-    let path = string_bytes c.args.level.folder.path in
+    let path = c.args.level.folder.path.path in
     let o = rw c.in-Ok-None.field-0-is at c.in-Ok-None.ensures in record {
       calls = call path at_end ∷ [];
       answered = o.answered;
@@ -115,7 +115,7 @@ returns-in-Ok-None-clause-course g c going first entered =
 pub returns-in-Ok-Some-clause-course : goal.returns-in-Ok-Some-clause-course
 returns-in-Ok-Some-clause-course g c going first entered =
     let w = c.args.self.now in
-    let path = string_bytes c.args.level.folder.path in
+    let path = c.args.level.folder.path.path in
     let x = c.in-Ok-Some.item in
     let o = rw c.in-Ok-Some.field-0-is at c.in-Ok-Some.ensures in
     let calls = call path (listed (listed_of x)) ∷ [] in record {

@@ -1,4 +1,4 @@
-use Rattle.std.proofs.Common.{arith, ap, inl, refl, string_bytes, ◌≡◌, ◌≤◌, ◌+◌, ◌∙◌, cond}
+use Rattle.std.proofs.Common.{arith, ap, inl, refl, ◌≡◌, ◌≤◌, ◌+◌, ◌∙◌, cond}
 use Rattle.std.proofs.Common.{length-append, length, ◌-◌}
 use Rattle.wax_directory.specs.Answers.{listed_of}
 use Rattle.wax_directory.specs.Counting.{item_counts}
@@ -30,7 +30,7 @@ returns-then-self-eq0-clause-lists g c l rest items h b i e =
     let none : w.budget ≡ 0 = c.if-self-eq0.true in
     let allowed : allowance w ≡ w.budget + 1 = ap (λ v. cond v 0 (w.budget + 1)) b.rests.running in
     let one = count_rest (listed_of c.args.item) l h in
-    stops_over g.D.Directory.law w c.stop.new.self _ (string_bytes c.args.folder.path) _ c.stop.result
+    stops_over g.D.Directory.law w c.stop.new.self _ c.args.folder.path.path _ c.stop.result
     c.stop.ensures.gives (omega (arith, none, allowed, one, e)) b.opened
 
 pub returns-clause-uses_answer : goal.returns-clause-uses_answer
@@ -44,7 +44,7 @@ returns-clause-uses_answer g c running first =
     c.give_found.new.self c.give_found.result (omega (arith, none, allowed, allowed_then))
     (omega (arith, allowed_then))
     (c.give_found.ensures.uses_answer (located c.args.folder) c.args.item
-    (rw c.as_str.ensures.value at c.in-Ok.ensures))
+    c.in-Ok.ensures)
 
 pub returns-clause-lists : goal.returns-clause-lists
 returns-clause-lists g c l rest items h b i e =
@@ -62,7 +62,7 @@ returns-clause-lists g c l rest items h b i e =
     b.rests b.held b.shown b.opened c.in-Ok-push.ensures.items) in
     let few : own_count l + (rest.count + count (rest_of l)) ≤ items - 1 = omega (arith, one, e) in
     let st = c.give_found.ensures.continues (located c.args.folder) c.args.item l
-    (rw c.as_str.ensures.value at c.in-Ok.ensures) refl h i
+    c.in-Ok.ensures refl h i
     _ (items - 1) at_rest few in
     step_from law w mid c.give_found.new.self _ _ c.give_found.result
     (headed_is (scope_of w) (located c.args.folder) (listed_of c.args.item) l rest.forest h) refl
@@ -81,7 +81,7 @@ returns-then-self-eq0-clause-places g c none =
     let w = c.args.self.now in
     let folder = c.args.folder in
     let of = ReachesFrom w (IsOf folder) in
-    stopped_places of of w.max w c.stop.new.self c.stop.result Budget (string_bytes folder.path)
+    stopped_places of of w.max w c.stop.new.self c.stop.result Budget folder.path.path
     c.saturating_sub-depth.result folder.depth c.stop.ensures.gives c.stop.ensures.ended
     c.saturating_sub-depth.ensures (leads_here w.min (OfAny w (IsOf folder)) _ _ (inl (refl, refl)))
 
@@ -91,11 +91,11 @@ returns-clause-places g c none =
     let folder = c.args.folder in
     let of = ReachesFrom w (IsOf folder) in
     let mid = record w { levels = c.push.new.self; budget = w.budget - 1 } in
-    let one = OneFolder (string_bytes folder.path) folder.depth in
+    let one = OneFolder folder.path.path folder.depth in
     let pushed = pushed_reaches w mid (record { folder = folder; cursor = c.args.cursor }) one refl refl c.in-Ok-push.ensures.items (λ p n i. i) in
     places_more (ReachesFrom mid one) of (ReachesFrom mid one) of w.max c.give_found.result c.give_found.new.self pushed
     pushed (c.give_found.ensures.places none (located folder) c.args.item
-    (rw c.as_str.ensures.value at c.in-Ok.ensures) refl)
+    c.in-Ok.ensures refl)
 
 pub returns-then-self-eq0-clause-uses_answer : goal.returns-then-self-eq0-clause-uses_answer
 returns-then-self-eq0-clause-uses_answer g c running first =
@@ -104,7 +104,7 @@ returns-then-self-eq0-clause-uses_answer g c running first =
     let allowed : allowance w ≡ w.budget + 1 = ap (λ v. cond v 0 (w.budget + 1)) running in
     let begun : begins w ≡ 0 = none_begins w first in
     stopped_uses_answer _ w c.stop.new.self c.stop.result
-    (fault Budget (string_bytes c.args.folder.path) c.saturating_sub-depth.result) c.stop.ensures.gives
+    (fault Budget c.args.folder.path.path c.saturating_sub-depth.result) c.stop.ensures.gives
     c.stop.ensures.ended (item_lost c.args.item) tt (omega (arith, begun)) (omega (arith, none, allowed), refl)
     (λ i. absurd i) (omega arith)
 
@@ -131,7 +131,7 @@ pub returns-then-self-eq0-clause-course : goal.returns-then-self-eq0-clause-cour
 returns-then-self-eq0-clause-course g c going first entered = record {
   some = some_taken c.args.self.now c.args.folder c.args.item;
   follows = inr (
-    fault Budget (string_bytes c.args.folder.path) c.saturating_sub-depth.result,
+    fault Budget c.args.folder.path.path c.saturating_sub-depth.result,
     c.stop.ensures.gives,
     ([], listed_of c.args.item, refl),
     ap (λ v. v.has_ended) c.stop.ensures.ended,
@@ -140,14 +140,14 @@ returns-then-self-eq0-clause-course g c going first entered = record {
 
 pub returns-in_default-clause-course : goal.returns-in_default-clause-course
 returns-in_default-clause-course g c going first entered =
-    let path = string_bytes c.args.folder.path in
+    let path = c.args.folder.path.path in
     memory_uses (call path (listed (listed_of c.args.item)) ∷ []) _ c.fail.result c.fail.new.self
     (some_taken c.args.self.now c.args.folder c.args.item) c.fail.ensures.memory
     (ap (λ v. v.has_ended) c.fail.ensures.ended)
 
 pub returns-in_default-push-clause-course : goal.returns-in_default-push-clause-course
 returns-in_default-push-clause-course g c going first entered =
-    let path = string_bytes c.args.folder.path in
+    let path = c.args.folder.path.path in
     memory_uses (call path (listed (listed_of c.args.item)) ∷ []) _ c.fail-in_default-push.result
     c.fail-in_default-push.new.self (some_taken c.args.self.now c.args.folder c.args.item)
     c.fail-in_default-push.ensures.memory (ap (λ v. v.has_ended) c.fail-in_default-push.ensures.ended)
@@ -155,11 +155,11 @@ returns-in_default-push-clause-course g c going first entered =
 pub returns-clause-course : goal.returns-clause-course
 returns-clause-course g c going first entered =
     let w = c.args.self.now in
-    let path = string_bytes c.args.folder.path in
+    let path = c.args.folder.path.path in
     uses_more (call path (listed (listed_of c.args.item)) ∷ []) _ _ c.give_found.result c.give_found.new.self
     (λ d h.
     let p = levels_last (scope_of w) w.levels.items (record { folder = c.args.folder; cursor = c.args.cursor }) h.0
     (subst (λ ls. LevelsCome (scope_of w) ls h.0) c.in-Ok-push.ensures.items h.1) in
     (p.0, p.1, (h.0, p.2, h.2)))
     (c.give_found.ensures.course going first entered (located c.args.folder) c.args.item
-    (rw c.as_str.ensures.value at c.in-Ok.ensures) refl)
+    c.in-Ok.ensures refl)

@@ -14,30 +14,29 @@ returns-clause-ended g c =
       directory = c.args.directory;
       min = c.args.range.min;
       max = c.args.range.max;
-      root = c.new.result;
       first = None;
       entered = None;
-      levels = c.new-2.result.levels;
+      levels = c.new.result.levels;
       budget = c.args.range.budget;
       has_ended = false;
     } in
-    rw c.new-2.ensures.fields (record {
+    rw c.new.ensures.fields (record {
       comes = λ path s listed h told. goes refl (made_nothing law
           made
-          listed refl refl c.new-2.ensures.levels told
+          listed refl refl c.new.ensures.levels told
           (g.met.D.Directory.none_open c.args.directory path s h));
-      takes = λ d t. none_takes law made d refl refl c.new-2.ensures.levels refl t;
-      ended = (refl, inr (refl, refl, c.new-2.ensures.levels));
-      idle = inr (inr (refl, refl, c.new-2.ensures.levels));
+      takes = λ d t. none_takes law made d refl refl c.new.ensures.levels refl t;
+      ended = (refl, inr (refl, refl, c.new.ensures.levels));
+      idle = inr (inr (refl, refl, c.new.ensures.levels));
       listings = refl;
       names = refl;
-      none_listed = ap length c.new-2.ensures.levels;
+      none_listed = ap length c.new.ensures.levels;
       begun = refl;
       none_to_open = refl;
       yields_from = refl;
       may_open = refl;
       fails = record {
-        at = none_reached made refl c.new-2.ensures.levels;
+        at = none_reached made refl c.new.ensures.levels;
         below = none_entered made refl;
       };
       directory = refl;

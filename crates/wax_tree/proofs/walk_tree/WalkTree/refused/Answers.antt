@@ -14,26 +14,25 @@ returns-clause-lacks g c =
       directory = c.args.directory;
       min = c.args.range.min;
       max = c.args.range.max;
-      root = c.new.result;
       first = None;
       entered = None;
-      levels = c.new-2.result.levels;
+      levels = c.new.result.levels;
       budget = c.args.range.budget;
       has_ended = false;
     } in
-    rw c.new-2.ensures.fields (record {
+    rw c.new.ensures.fields (record {
       comes = λ p told. lacks refl told;
       takes = λ d t. lacks_takes law (record { steps = made; lacks_memory = true }) d refl t;
       idle = inl refl;
       listings = refl;
       names = refl;
-      none_listed = ap length c.new-2.ensures.levels;
+      none_listed = ap length c.new.ensures.levels;
       begun = refl;
       none_to_open = refl;
       yields_from = refl;
       may_open = refl;
       fails = record {
-        at = none_reached made refl c.new-2.ensures.levels;
+        at = none_reached made refl c.new.ensures.levels;
         below = none_entered made refl;
       };
       directory = refl;
