@@ -27,8 +27,8 @@ facts_of e = record {
   kind = e.kind;
 }
 
-abbrev pub texts_of : Facts → PathTexts
-texts_of f = record { path = f.path; root = f.root; candidate = f.candidate }
+abbrev pub entry_texts : Facts → PathTexts
+entry_texts f = record { path = f.path; root = f.root; candidate = f.candidate }
 
 -- ---- errors
 

@@ -2,7 +2,7 @@
 
 ghost use Rattle.std.specs.Prelude.{◌≡◌, string_bytes};
 ghost use Rattle.wax_walk.specs.Given.{Facts};
-ghost use Rattle.wax_walk.specs.Entries.{facts_of, texts_of};
+ghost use Rattle.wax_walk.specs.Entries.{facts_of, entry_texts};
 
 use crate::candidate::Candidate;
 use crate::walked_path::WalkedPath;
@@ -53,7 +53,7 @@ impl TreeEntry {
 
     /// Returns the path with its start and its candidate.
     pub fn walked_path(&self) -> &WalkedPath
-        ensures { result.now ≡ texts_of (⟦<Self as Entry>⟧.facts self.now) }
+        ensures { result.now ≡ entry_texts (⟦<Self as Entry>⟧.facts self.now) }
     {
         &self.at
     }

@@ -115,7 +115,7 @@ impl WalkedPath {
         self.path.as_str()
     }
 
-    /// Converts it into the path alone.
+    /// Converts it into the text of the path.
     pub fn into_string(self) -> String
         ensures { string_bytes result ≡ self.path }
     {

@@ -15,7 +15,7 @@ returns-in_ok-path-clause-entered g c s alone h k =
     let is : f.kind ≡ Folder = search rules in
     enters_later (g.D.Directory.law.shows w.directory) (scope_of w)
     (record { path = c.in_ok-path.path; depth = c.depth-depth.result + 1 }) (entry_location f) s h
-    (subst (λ v. HasKind s v) is k) (omega (arith, c.depth-depth.ensures, c.if-depth-self.true)) 
+    (subst (λ v. HasKind s v) is k) (omega (arith, c.depth-depth.ensures, c.if-depth-self.true))
     (folder_is (facts_of c.args.entry.now) c.in_ok-path.path c.depth-depth.result
     (c.in_ok-path.ensures.cases ∙ c.walked_path.ensures) c.depth-depth.ensures)
 
