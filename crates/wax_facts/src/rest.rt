@@ -75,15 +75,15 @@ fn taken_inside<'t>(tokens: &[Token<'t, ExpressionMetadata>], taken: usize) -> O
 {
     let (last, before) = tokens.split_last()?;
     let inside = taken.checked_sub(before.len())?;
-    if is_entered(opened::open_body(last)?, inside) {
+    if rest_begins_inside(opened::open_body(last)?, inside) {
         return Some(inside);
     }
     None
 }
 
-// The rest is inside the sub-glob if one of its tokens is taken, or if it begins with the `**` at
-// which the prefix ends.
-fn is_entered<'t>(body: &Token<'t, ExpressionMetadata>, taken: usize) -> bool
+// Returns whether the rest begins inside the sub-glob: whether one of its tokens is taken, or it
+// begins with the `**` at which the prefix ends.
+fn rest_begins_inside<'t>(body: &Token<'t, ExpressionMetadata>, taken: usize) -> bool
     ensures { result ≡ (nat_lt 0 taken || begins_with_tree (opened body.now)) }
 {
     taken > 0 || opened::begins_with_tree(body)

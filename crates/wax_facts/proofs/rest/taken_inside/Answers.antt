@@ -22,8 +22,8 @@ returns-in_err-open_body c =
     (inside_last c.args.tokens.now c.in_ok-last.before.now c.in_ok-last.last.now c.args.taken c.in_ok-last.ensures.cases.0 le
     ∙ ap (entered_body (c.args.taken - length c.in_ok-last.before.now)) o)
 
-pub returns-then-is_entered : goal.returns-then-is_entered
-returns-then-is_entered c =
+pub returns-then-rest_begins_inside : goal.returns-then-rest_begins_inside
+returns-then-rest_begins_inside c =
     let body = c.in_ok-open_body.field-0.now in
     let le : length c.in_ok-last.before.now ≤ c.args.taken = search rules in
     let k : c.in_ok-inside.inside ≡ c.args.taken - length c.in_ok-last.before.now = search rules in
