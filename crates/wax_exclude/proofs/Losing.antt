@@ -47,6 +47,6 @@ pub loses_ignored : {A : Type 0} (lines : List (Line A)) (range : DepthRange) (s
 loses_ignored lines range start s h =
     let scope = scope_in range in
     stay_stacked (OfNames scope start false []) (IsIgnoredBelow lines start) (ignore_rules lines)
-    (loses lines scope start, tt) (plain scope s)
+    (loses lines scope start, tt) (plain scope start s)
     (lie_at scope start false [] (start_location start) s refl
     (record { candidate_is = refl; depth_is = refl; are_plain = tt }) h)

@@ -153,7 +153,7 @@ module _ (p : Given → Bool)
 
       module _ (past : (at : Location) (kind : FileType) (names : List (List ℕ)) → At rooted at names
           → less < at.depth
-          → p (plain_entry all at kind) ≡ false) where
+          → p (plain_entry at kind) ≡ false) where
         deep_none : (at : Location) (names : List (List ℕ)) (l : Items) → less ≤ at.depth → At rooted at names
             → ArePlainItems l → of (all_in at l) ≡ []
         deep_none at names l d a t =
@@ -187,12 +187,12 @@ module _ (p : Given → Bool)
             → of after ≡ of after'
             → of (cond (nat_lt at.depth min) (followed_by
             (cond (nat_lt at.depth less) (lists at.path f) nothing) after)
-            (item (plain_entry all at Folder) (cond (nat_lt at.depth less) (lists at.path f) nothing) after))
+            (item (plain_entry at Folder) (cond (nat_lt at.depth less) (lists at.path f) nothing) after))
             ≡ of (cond (nat_lt at.depth min)
             (followed_by (cond (nat_lt at.depth max) (lists at.path g) nothing) after')
-            (item (plain_entry all at Folder) (cond (nat_lt at.depth max) (lists at.path g) nothing) after'))
+            (item (plain_entry at Folder) (cond (nat_lt at.depth max) (lists at.path g) nothing) after'))
         same_entry at f g after after' e n i =
-            same_unless (nat_lt at.depth min) (plain_entry all at Folder)
+            same_unless (nat_lt at.depth min) (plain_entry at Folder)
             (cond (nat_lt at.depth less) (lists at.path f) nothing)
             (cond (nat_lt at.depth max) (lists at.path g) nothing) after after'
             (same_below at f g e n (nat_lt at.depth less) (nat_lt at.depth max) refl refl) i
@@ -202,7 +202,7 @@ module _ (p : Given → Bool)
         same_inside at names end a t = refl
         same_inside at names (leaf x link rest) a t =
             let c = child_location at x in
-            same_unless (nat_lt c.depth min) (plain_entry all c (leaf_kind link)) nothing nothing
+            same_unless (nat_lt c.depth min) (plain_entry c (leaf_kind link)) nothing nothing
             (few_in at rest)
             (all_in at rest) refl (same_inside at names rest a t.1)
         same_inside at names (folder x inner rest) a t =
