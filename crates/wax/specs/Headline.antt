@@ -21,6 +21,7 @@ pub use Rattle.wax_exclude.specs.GlobRequests.{ComesExcluding, ComesWanted, Keep
 pub use Rattle.wax_exclude.specs.Walked.{MayList, wanted_entries}
 pub use Rattle.wax_exclude.specs.Wanted.{Wanted, is_wanted}
 pub use Rattle.wax_exclude.specs.WantedEntries.{SelectsWanted}
+pub use Rattle.wax_tree.specs.Begins.{origin_location}
 pub use Rattle.wax_tree.specs.Whole.{is_in, whole_at}
 -- ---- Walks of whatever directory: what was answered is what some tree answers, call by call, and the items
 -- are the plain walk of that tree (`EntriesAnswered`, of `entries`), or what a glob's walk with filters keeps

@@ -4,7 +4,7 @@ use Rattle.wax.specs.Language.{Span, Tree}
 use Rattle.wax.specs.Patterns.{OneMeans}
 use Rattle.wax.specs.Walks.{ArePlain, DepthRange, entry, Given, GlobRequest, kept, KeepsWanted, Law, Selects}
 use Rattle.wax.specs.Walks.{Shown, Unbounded, behavior_at, behavior_range, wanted_entries}
-use Rattle.wax.specs.Headline.{whole_at}
+use Rattle.wax.specs.Headline.{origin_location, whole_at}
 
 -- a kept entry whose depth is in range, of which one of the patterns means the candidate
 abbrev pub IsMatchedEntryOf : {P : Type 0} → (P → Tree Span → Type 0) → List P → DepthRange → Given → Type 0
@@ -20,8 +20,7 @@ pub record KeepsMatches {P D C : Type 0} (SpellsTree : P → Tree Span → Type 
   pub begins : (request.origin.path ≡ []) ⊎ (request.origin.path ≡ 47 ∷ [])
   pub asked : request.asked ≡ behavior_range (behavior_at Unbounded)
   pub matched : (s : Shown) → Selects (IsMatchedEntryOf SpellsTree patterns request.asked)
-      (whole_at request.origin.root
-      (record { path = request.origin.path; candidate = request.origin.candidate; depth = 0 }) s)
+      (whole_at (origin_location request.origin) s)
       (wanted_entries request.wanted request.asked request.origin s)
   pub keeps : ArePlain request.origin.names → (s : Shown) (listed : List (List ℕ))
       → law.shows d request.origin.path s → law.tells d listed
