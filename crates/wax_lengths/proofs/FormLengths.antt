@@ -97,12 +97,6 @@ spelled_first f (x ∷ ls) s zero l c lt is at h = absurd h
 spelled_first f (x ∷ ls) [] (suc n) l c lt is at h = absurd h
 spelled_first f (x ∷ ls) (d ∷ s) (suc n) l c lt is at h = subst (λ z. IsLetter f z c) (sym is) (subst (IsLetter f x) (sym at) h.0)
 
-pub spelled_each : (f : Bool) (ls s : List ℕ) → SpelledBy f ls (take (length ls) s) → (j l c : ℕ) → j < length ls → l ≡ get_or ls j l → c ≡ get_or s j c → length ls ≤ length s → IsLetter f l c
-spelled_each f [] s h j l c lt le ce long = absurd (omega (arith, lt))
-spelled_each f (k ∷ ls) [] h j l c lt le ce long = absurd (omega (arith, long))
-spelled_each f (k ∷ ls) (d ∷ s) h zero l c lt le ce long = subst (λ z. IsLetter f z c) (sym le) (subst (IsLetter f k) (sym ce) h.0)
-spelled_each f (k ∷ ls) (d ∷ s) h (suc j) l c lt le ce long = spelled_each f ls s h.1 j l c (omega (arith, lt)) le ce (omega (arith, long))
-
 -- each letter is where it is spelled
 pub spelled_at : (f : Bool) (ls s : List ℕ) (n j : ℕ) → SpelledBy f ls (take n s) → j < length ls → (j < length s) × IsLetter f (get_or ls j 0) (get_or s j 0)
 spelled_at f [] s n j h lt = absurd (omega (arith, lt))

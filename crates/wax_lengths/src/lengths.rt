@@ -7,8 +7,9 @@ ghost use Rattle.wax_query.specs.Ranges.{AtMost};
 ghost use Rattle.wax_token.specs.Meaning.{HasNoSlash, TreeMeans};
 ghost use Rattle.wax_lengths.specs.Forms.{EachPasses, IsLetter, IsRunOf, SpelledBy, TakenBy};
 ghost use Rattle.wax_lengths.specs.Forms.{form_size, program_size};
+ghost use Rattle.wax_lengths.specs.inner.Finding.{FindsLengths};
 ghost use Rattle.wax_lengths.specs.inner.Names.{tree_end, tree_low, tree_marks, name_len};
-ghost use Rattle.wax_lengths.specs.Spans.{AreLengths, HasLengths, looks};
+ghost use Rattle.wax_lengths.specs.Spans.{HasLengths, looks};
 
 use crate::form::Form;
 use crate::span::{LengthSpan, Marks};
@@ -22,11 +23,8 @@ use wax_token::token::Sides;
 /// Returns the lengths for one character that passes the test.
 fn lengths_of_char(test: &Test, text: &Text<'_>, at: usize, visits: &mut Visits) -> LengthSpan
     requires { at ≤ length text.now }
-    ensures lengths { AreLengths (λ x. (c : ℕ) × (x ≡ c ∷ []) × PassesTest test.now c)
-        (drop at text.now) result }
-    ensures end { at + result.end ≤ length text.now + 1 }
-    ensures looked { visits.new + looks result ≤ visits.old + (length text.now + 1) }
-    ensures steady { visits.old ≤ visits.new }
+    ensures { FindsLengths (λ x. (c : ℕ) × (x ≡ c ∷ []) × PassesTest test.now c) (drop at text.now) result
+        (length text.now + 1) visits.old visits.new }
 {
     if at == text.len() {
         return LengthSpan::new(0, 0);
@@ -51,28 +49,21 @@ fn is_letter(is_folded: bool, letter: char, c: char) -> bool
     }
 }
 
-/// Returns whether the text has the letters at the place.
-fn is_spelled(
-    letters: &[char],
-    is_folded: bool,
-    text: &Text<'_>,
-    at: usize,
-    visits: &mut Visits,
-) -> bool
+/// Returns how many of the letters the text has at the place, one after another.
+fn spelled_len(letters: &[char], is_folded: bool, text: &Text<'_>, at: usize) -> usize
     requires { at + length letters.now ≤ length text.now }
-    ensures spelled { IsTrue result
-        ↔ SpelledBy is_folded letters.now (take (length letters.now) (drop at text.now)) }
-    ensures looked { visits.new ≤ visits.old + length letters.now }
-    ensures steady { visits.old ≤ visits.new }
+    ensures within { result ≤ length letters.now }
+    ensures all { result ≡ length letters.now
+        → SpelledBy is_folded letters.now (take (length letters.now) (drop at text.now)) }
+    ensures fewer { result < length letters.now
+        → (n : ℕ) → SpelledBy is_folded letters.now (take n (drop at text.now)) → ⊥ }
 {
     for index in 0..letters.len() {
         if !is_letter(is_folded, letters[index], text.char_after(at, index)) {
-            visits.add(index + 1);
-            return false;
+            return index;
         }
     }
-    visits.add(letters.len());
-    true
+    letters.len()
 }
 
 /// Returns whether the text may have the letters at the place: whether it has the first of them.
@@ -125,12 +116,7 @@ fn has_letters(letters: &[char], is_folded: bool, text: &Text<'_>, at: usize) ->
     if letters.len() > text.len() - at {
         return false;
     }
-    for n in 0..letters.len() {
-        if !is_letter(is_folded, letters[n], text.char_after(at, n)) {
-            return false;
-        }
-    }
-    true
+    spelled_len(letters, is_folded, text, at) == letters.len()
 }
 
 /// Returns whether the form may take a part of the text from `at` on. Looks at each letter of a form
@@ -154,19 +140,19 @@ fn lengths_of_text(
     visits: &mut Visits,
 ) -> LengthSpan
     requires { at ≤ length text.now }
-    ensures lengths { AreLengths (SpelledBy is_folded letters.now) (drop at text.now) result }
-    ensures end { at + result.end ≤ length text.now + 1 }
-    ensures looked { visits.new + looks result ≤ visits.old + length letters.now * (length text.now + 1) }
-    ensures steady { visits.old ≤ visits.new }
+    ensures { FindsLengths (SpelledBy is_folded letters.now) (drop at text.now) result
+        (length letters.now * (length text.now + 1)) visits.old visits.new }
 {
     let len = letters.len();
     if len > text.len() - at {
         return LengthSpan::new(0, 0);
     }
-    if is_spelled(letters, is_folded, text, at, visits) {
-        return LengthSpan::new(len, len + 1);
+    let spelled = spelled_len(letters, is_folded, text, at);
+    visits.add(len.min(spelled + 1));
+    if spelled < len {
+        return LengthSpan::new(0, 0);
     }
-    LengthSpan::new(0, 0)
+    LengthSpan::new(len, len + 1)
 }
 
 /// Returns the number of characters from the place to the next `/`, or to the text's end.
@@ -186,10 +172,8 @@ fn name_len(text: &Text<'_>, at: usize) -> usize
 /// Returns the lengths for zero or more characters other than `/`.
 fn lengths_of_name(text: &Text<'_>, at: usize, visits: &mut Visits) -> LengthSpan
     requires { at ≤ length text.now }
-    ensures lengths { AreLengths HasNoSlash (drop at text.now) result }
-    ensures end { at + result.end ≤ length text.now + 1 }
-    ensures looked { visits.new + looks result ≤ visits.old + (length text.now + 1) }
-    ensures steady { visits.old ≤ visits.new }
+    ensures { FindsLengths HasNoSlash (drop at text.now) result
+        (length text.now + 1) visits.old visits.new }
 {
     let end = name_len(text, at) + 1;
     visits.add(end);
@@ -206,10 +190,8 @@ fn begins_with_slash(text: &Text<'_>, at: usize) -> bool
 /// Returns the lengths for the empty text or `/`.
 fn lengths_of_slash_or_nothing(text: &Text<'_>, at: usize, visits: &mut Visits) -> LengthSpan
     requires { at ≤ length text.now }
-    ensures lengths { AreLengths (λ x. (x ≡ []) ⊎ (x ≡ 47 ∷ [])) (drop at text.now) result }
-    ensures end { at + result.end ≤ length text.now + 1 }
-    ensures looked { visits.new + looks result ≤ visits.old + (length text.now + 1) }
-    ensures steady { visits.old ≤ visits.new }
+    ensures { FindsLengths (λ x. (x ≡ []) ⊎ (x ≡ 47 ∷ [])) (drop at text.now) result
+        (length text.now + 1) visits.old visits.new }
 {
     visits.add(1);
     if begins_with_slash(text, at) {
@@ -263,10 +245,8 @@ fn lengths_of_tree(
     visits: &mut Visits,
 ) -> LengthSpan
     requires { at ≤ length text.now }
-    ensures lengths { AreLengths (TreeMeans sides.before sides.after has_root) (drop at text.now) result }
-    ensures end { at + result.end ≤ length text.now + 1 }
-    ensures looked { visits.new + looks result ≤ visits.old + 2 * (length text.now + 1) }
-    ensures steady { visits.old ≤ visits.new }
+    ensures { FindsLengths (TreeMeans sides.before sides.after has_root) (drop at text.now) result
+        (2 * (length text.now + 1)) visits.old visits.new }
 {
     visits.add(1);
     let begins = begins_with_slash(text, at);
@@ -312,10 +292,8 @@ fn lengths_of_run(
     visits: &mut Visits,
 ) -> LengthSpan
     requires { at ≤ length text.now }
-    ensures lengths { AreLengths (IsRunOf test.now low high) (drop at text.now) result }
-    ensures end { at + result.end ≤ length text.now + 1 }
-    ensures looked { visits.new + looks result ≤ visits.old + (length text.now + 1) }
-    ensures steady { visits.old ≤ visits.new }
+    ensures { FindsLengths (IsRunOf test.now low high) (drop at text.now) result
+        (length text.now + 1) visits.old visits.new }
 {
     let most = run_most(high, text.len() - at);
     let end = run_len(test, text, at, most) + 1;
@@ -332,9 +310,8 @@ fn lengths_of_program(
     visits: &mut Visits,
 ) -> Result<LengthSpan, AllocError>
     requires { at ≤ length text.now }
-    ensures lengths { IfOk result (AreLengths (Accepts program.now.0 0) (drop at text.now)) }
-    ensures end { IfOk result (λ span. at + span.end ≤ length text.now + 1) }
-    ensures none { IfOk result (λ span. looks span ≡ 0) }
+    ensures found { IfOk result (λ span. FindsLengths (Accepts program.now.0 0) (drop at text.now) span
+        (program_size program.now * (length text.now + 1)) visits.old visits.new) }
     ensures above { visits.new ≤ visits.old + program_size program.now * (length text.now + 1) }
     ensures steady { visits.old ≤ visits.new }
 {
@@ -349,6 +326,7 @@ fn lengths_of_program(
 
 /// Returns the lengths, in characters, of the parts from `at` on that the form takes. Only a
 /// program allocates.
+#[tactic(auto, using(crate::proofs::Lists::end_within))]
 pub fn lengths_of(
     alloc: Global,
     form: &Form,

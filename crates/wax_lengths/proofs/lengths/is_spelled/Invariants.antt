@@ -1,9 +1,0 @@
-use Rattle.std.proofs.Common.{◌≡◌, drop}
-use Rattle.wax_lengths.proofs.FormLengths.{SpelledTo}
-use Rattle.wax_lengths.proofs.lengths.is_spelled.Given as goal
-
-abbrev pub invariant-loop-index : goal.invariant-loop-index
-invariant-loop-index l = record {
-  spelled : SpelledTo l.is_folded l.letters (drop l.at l.text) l.index;
-  same : l.visits ≡ l.fn.visits;
-}
