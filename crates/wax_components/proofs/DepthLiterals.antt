@@ -5,7 +5,7 @@ use Rattle.wax_query.specs.Components.{slash, slashes}
 use Rattle.wax_token.specs.Meaning.{SameFold, SameText}
 use Rattle.wax_components.specs.inner.Shapes.{ended, joined_shape, shape}
 use Rattle.wax_components.proofs.Basics.{is_slash}
-use Rattle.wax_components.proofs.Slash.{alone_slash, slash_alone}
+use Rattle.wax_token.proofs.Slash.{alone_slash, slash_alone}
 
 same_slash : (c d : ℕ) → (c ≡ 47 → d ≡ 47) → (d ≡ 47 → c ≡ 47) → (c == 47) ≡ (d == 47)
 same_slash c d to from = elim (c == 47) as (λ b. (c == 47) ≡ b → b ≡ (d == 47)) [

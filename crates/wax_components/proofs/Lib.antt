@@ -21,7 +21,6 @@ pub mod Runs
 pub mod Saturation
 pub mod Shapes
 pub mod Singles
-pub mod Slash
 pub mod Texts
 pub mod Thinning
 pub mod TopLevels

@@ -1,7 +1,7 @@
 -- Without a boundary what stands around a token doesn't matter, and no text that it means holds a `/`.
 use Rattle.std.proofs.Common.{◌≡◌, ◌≢◌, ℕ, zero, suc, Bool, true, false, ◌||◌, List, [], ◌∷◌, ◌++◌, refl, sym}
 use Rattle.std.proofs.Common.{subst, inl, inr}
-use Rattle.wax_components.proofs.Slash.{slash_alone}
+use Rattle.wax_token.proofs.Slash.{slash_alone}
 use Rattle.wax_token.specs.Kinds.{is_boundary_leaf, has_boundary, some_has_boundary}
 use Rattle.wax_token.specs.Meaning.{HasNoSlash, SameFold, SameText, LeafMeans, in_class, Copies}
 use Rattle.wax_token.specs.Meaning.{Means, MeansSome, MeansEach}

@@ -20,7 +20,7 @@ unfolding no_slash_first
 slash_from c [] h e = e
 slash_from c (x ∷ xs) h e = absurd (let f : (x == 47) ≡ true = ap (λ z. z == 47) e in let g : ⊥ = cc in g)
 
-folds_to_slash : (c : ℕ) → simple_fold c ≡ 47 → c ≡ 47
+pub folds_to_slash : (c : ℕ) → simple_fold c ≡ 47 → c ≡ 47
 folds_to_slash c e = slash_from c (simple_folding c) (no_slash_folding c) e
 
 slash_folds : simple_fold 47 ≡ 47
