@@ -9,7 +9,7 @@ use Rattle.std.proofs.Math.Dec.{eqb-suc-zero}
 use Rattle.std.proofs.lemmas.Slice.Eq.{bytes_eq-Decides}
 use Rattle.std.proofs.lemmas.List.Folds.{list_any-append}
 use Rattle.wax_directory.specs.Names.{is_some_name, are_distinct}
-use Rattle.wax_directory.specs.Shown.{is_open}
+use Rattle.wax_query.specs.Below.{ends_open}
 
 pub some_name : (x : List ℕ) → not (length x == 0) ≡ is_some_name x
 some_name [] = refl
@@ -53,7 +53,7 @@ distinct_twice (y ∷ names) x more h = elim (or_cases (bytes_eq x y) (list_any 
       (distinct_twice names x more e)
 ]
 
-open_last : (xs : List ℕ) (c k : ℕ) → length xs ≡ suc k → Some c ≡ slice_get xs k → nat_eq c 47 ≡ is_open xs
+open_last : (xs : List ℕ) (c k : ℕ) → length xs ≡ suc k → Some c ≡ slice_get xs k → nat_eq c 47 ≡ ends_open xs
 open_last [] c k l h = cc
 open_last (d ∷ []) c zero l h = let e : c ≡ d = cc in ap (λ v. nat_eq v 47) e
 open_last (d ∷ []) c (suc k) l h = cc
@@ -61,6 +61,6 @@ open_last (d ∷ e ∷ xs) c zero l h = absurd (omega (arith, l))
 open_last (d ∷ e ∷ xs) c (suc k) l h = open_last (e ∷ xs) c k (omega (arith, l)) h
 
 -- whether a text ends with `/`, by its last byte
-pub open_some : (xs : List ℕ) (c : ℕ) → Some c ≡ slice_get xs (length xs - 1) → nat_eq c 47 ≡ is_open xs
+pub open_some : (xs : List ℕ) (c : ℕ) → Some c ≡ slice_get xs (length xs - 1) → nat_eq c 47 ≡ ends_open xs
 open_some [] c h = cc
 open_some (d ∷ xs) c h = open_last (d ∷ xs) c (length (d ∷ xs) - 1) (omega arith) h

@@ -6,7 +6,7 @@ use Rattle.std.specs.Str.{bytes_eq}
 use Rattle.wax_directory.specs.declared.directory.FileType.{FileType}
 use Rattle.wax_directory.specs.declared.directory.FileType.TheVariants.{File, Folder}
 use Rattle.wax_directory.specs.Shown.{Items, Shown, a_leaf, a_folder, missing, Listed, named, listing}
-use Rattle.wax_directory.specs.Shown.{is_open}
+use Rattle.wax_query.specs.Below.{ends_open}
 use Rattle.wax_directory.specs.Names.{is_rooted, names_in_path}
 
 -- the part of a path below some folder: its names, and whether the path is a folder's
@@ -77,7 +77,7 @@ starts_at false text = not (is_rooted text)
 
 -- the text as a path: that of a folder if it is empty or ends with `/`, else that of a file
 abbrev pub tail_of : List ℕ → PathTail
-tail_of text = tail (names_in_path text) (is_open text)
+tail_of text = tail (names_in_path text) (ends_open text)
 
 -- the tails from the root, or else from the working folder: that folder, and the texts that start there
 abbrev pub tails_from : Bool → List (List ℕ) → List PathTail

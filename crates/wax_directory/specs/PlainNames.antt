@@ -12,7 +12,8 @@ use Rattle.std.proofs.lemmas.Bool.Decides.{Decides-eqb}
 use Rattle.std.proofs.lemmas.List.Folds.{Any-from_list_any, list_any_at}
 use Rattle.std.proofs.lemmas.List.Elements.{filter-append}
 use Rattle.wax_directory.specs.Shown.{end}
-use Rattle.wax_directory.specs.Shown.{IsPlain, is_open, join}
+use Rattle.wax_directory.specs.Shown.{IsPlain, join}
+use Rattle.wax_query.specs.Below.{ends_open}
 use Rattle.wax_directory.specs.Names.{is_entry_name, is_plain, is_some_name, names_in_path, is_rooted}
 
 split_cons : (xs : List ℕ) → (part : List ℕ) × (parts : List (List ℕ)) ×
@@ -132,7 +133,7 @@ not_plain x h p = elim (and_cases (is_entry_name x) (not (list_any (λ c. c == 4
 ]
 
 -- an open path is empty or has a `/` at its end
-open_cases : (path : List ℕ) → is_open path ≡ true → (path ≡ []) ⊎ ((p : List ℕ) × (path ≡ p ++ 47 ∷ []))
+open_cases : (path : List ℕ) → ends_open path ≡ true → (path ≡ []) ⊎ ((p : List ℕ) × (path ≡ p ++ 47 ∷ []))
 open_cases [] h = inl refl
 open_cases (c ∷ []) h = inr ([], ap (λ b. b ∷ []) ((Decides-eqb c 47).0 h))
 open_cases (c ∷ d ∷ path) h = elim (open_cases (d ∷ path) h) [
@@ -164,8 +165,8 @@ names_open path x h (inr q) =
 
 pub names_join : (path x : List ℕ) → Plainly x → names_in_path (join path x) ≡ names_in_path path ++ x ∷ []
 names_join path x h =
-    elim (is_open path) as
-    (λ b. is_open path ≡ b → names_in_path (cond b (path ++ x) (path ++ 47 ∷ x)) ≡ names_in_path path ++ x ∷
+    elim (ends_open path) as
+    (λ b. ends_open path ≡ b → names_in_path (cond b (path ++ x) (path ++ 47 ∷ x)) ≡ names_in_path path ++ x ∷
     []) [
       | true ↦ λ e. names_open path x h (open_cases path e)
       | false ↦ λ e. names_seam path x h
@@ -173,6 +174,6 @@ names_join path x h =
 
 pub rooted_join : (path x : List ℕ) → Plainly x → is_rooted (join path x) ≡ is_rooted path
 rooted_join [] x h = h.rooted
-rooted_join (c ∷ path) x h = elim (is_open (c ∷ path)) as
+rooted_join (c ∷ path) x h = elim (ends_open (c ∷ path)) as
     (λ b. is_rooted (cond b ((c ∷ path) ++ x) ((c ∷ path) ++ 47 ∷ x)) ≡ (c == 47))
     [ true ↦ refl | false ↦ refl ]

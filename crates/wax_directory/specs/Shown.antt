@@ -1,8 +1,9 @@
 -- What a directory shows: trees of files, links and folders, with errors in their places.
 use Rattle.std.specs.Prelude.{◌≡◌, ℕ, Bool, true, false, cond, List, [], ◌∷◌, ◌++◌, Option, Some, None}
-use Rattle.std.specs.Prelude.{nat_eq, ⊤}
+use Rattle.std.specs.Prelude.{⊤}
 use Rattle.std.specs.List.{Contains}
 use Rattle.std.specs.Str.{bytes_eq, IsUtf8}
+use Rattle.wax_query.specs.Below.{ends_open}
 use Rattle.wax_directory.specs.declared.directory.FileType.{FileType}
 use Rattle.wax_directory.specs.declared.directory.FileType.TheVariants.{File, Link, Folder}
 
@@ -32,15 +33,9 @@ pub record IsPlain (name : List ℕ) : Type 0 where
   pub not_above : ¬ (name ≡ 46 ∷ 46 ∷ [])
   pub one_name : ¬ (Contains name 47)
 
--- the path is empty or ends with `/`, so that a name can be appended directly
-abbrev pub is_open : List ℕ → Bool
-is_open [] = true
-is_open (c ∷ []) = nat_eq c 47
-is_open (c ∷ d ∷ path) = is_open (d ∷ path)
-
 -- the path of a name in a folder
 abbrev pub join : List ℕ → List ℕ → List ℕ
-join path name = cond (is_open path) (path ++ name) (path ++ 47 ∷ name)
+join path name = cond (ends_open path) (path ++ name) (path ++ 47 ∷ name)
 
 -- each entry of a folder has a plain name and is shown at its path; a misnamed entry has no plain name
 abbrev pub ShowsIn : (List ℕ → Shown → Type 0) → List ℕ → Items → Type 0

@@ -4,8 +4,8 @@ ghost use Rattle.std.specs.Prelude.{◌≡◌, IfOk, map, string_bytes};
 ghost use Rattle.wax_directory.specs.Names.{names_in_path};
 ghost use Rattle.wax_directory.specs.Names.{is_plain as is_plain_name};
 ghost use Rattle.wax_directory.specs.Names.{is_rooted as is_rooted_path};
-ghost use Rattle.wax_directory.specs.Shown.{is_open as is_open_path};
 ghost use Rattle.wax_directory.specs.Shown.{join as join_path};
+ghost use Rattle.wax_query.specs.Below.{ends_open};
 
 use std::alloc::{AllocError, Global};
 
@@ -28,7 +28,7 @@ pub(crate) fn is_rooted(path: &str) -> bool
 
 /// Returns whether a name can follow the path without a `/`: the path is empty or ends with one.
 pub fn is_open(path: &str) -> bool
-    ensures { result ≡ is_open_path path.now }
+    ensures { result ≡ ends_open path.now }
 {
     match path.as_bytes().last() {
         None => true,

@@ -5,7 +5,7 @@ use Rattle.std.specs.List.{Contains}
 use Rattle.std.proofs.lemmas.List.{append_cancel_left, map-append}
 use Rattle.std.proofs.lemmas.List.Elements.{All-contains, Contains-append_left, Contains-append_right}
 use Rattle.wax_directory.specs.Names.{names_in_path}
-use Rattle.wax_directory.specs.Shown.{Shown, is_open, join}
+use Rattle.wax_directory.specs.Shown.{Shown, join}
 use Rattle.wax_token.specs.Meaning.{HasNoSlash, Means}
 use Rattle.wax_tree.specs.Begins.{Origin}
 use Rattle.wax_tree.specs.declared.steps.DepthRange.{DepthRange}
@@ -17,7 +17,7 @@ use Rattle.wax_exclude.proofs.Closed.{plain_later, loses_shut}
 use Rattle.wax_exclude.proofs.Names.{closed_name, names_bytes, names_chars, names_in_joined, open_append}
 use Rattle.wax_exclude.proofs.Opened.{opens_few}
 use Rattle.wax_exclude.proofs.Staying.{Each, each_more, each_filtered, all_listed}
-use Rattle.wax_query.specs.Below.{AreNames, joined_names, slashed}
+use Rattle.wax_query.specs.Below.{AreNames, joined_names, slashed, ends_open}
 use Rattle.wax_exclude.specs.Candidates.{text_at}
 use Rattle.wax_exclude.specs.Premises.{IsPlainShown}
 use Rattle.wax_exclude.specs.Pruned.{MeansLonger, TestsBelow, opens_where, least_rules, least_walk}
@@ -32,16 +32,16 @@ abbrev tail : Bool → List (List ℕ) → List ℕ
 tail true names = joined_names names
 tail false names = slashed names
 
-closed_slash : (x : List ℕ) → ¬ (x ≡ []) → HasNoSlash x → is_open (47 ∷ x) ≡ false
+closed_slash : (x : List ℕ) → ¬ (x ≡ []) → HasNoSlash x → ends_open (47 ∷ x) ≡ false
 closed_slash [] some none = absurd (some refl)
 closed_slash (c ∷ x) some none = closed_name (c ∷ x) some none
 
-closed_more : (path x : List ℕ) → ¬ (x ≡ []) → HasNoSlash x → is_open (path ++ x) ≡ false
+closed_more : (path x : List ℕ) → ¬ (x ≡ []) → HasNoSlash x → ends_open (path ++ x) ≡ false
 closed_more path [] some none = absurd (some refl)
 closed_more path (c ∷ x) some none = open_append path c x ∙ closed_name (c ∷ x) some none
 
 closed_join : (b : Bool) (path x : List ℕ) → ¬ (x ≡ []) → HasNoSlash x
-    → is_open (cond b (path ++ x) (path ++ 47 ∷ x)) ≡ false
+    → ends_open (cond b (path ++ x) (path ++ 47 ∷ x)) ≡ false
 closed_join true path x some none = closed_more path x some none
 closed_join false path x some none = open_append path 47 x ∙ closed_slash x some none
 
@@ -55,12 +55,12 @@ tail_none true = refl
 tail_none false = refl
 
 path_tail : (path : List ℕ) (names : List (List ℕ)) → AreNames names
-    → path_from path names ≡ path ++ tail (is_open path) names
-path_tail path [] h = sym (append-nil path) ∙ ap (λ v. path ++ v) (sym (tail_none (is_open path)))
+    → path_from path names ≡ path ++ tail (ends_open path) names
+path_tail path [] h = sym (append-nil path) ∙ ap (λ v. path ++ v) (sym (tail_none (ends_open path)))
 path_tail path (x ∷ names) h =
     path_tail (join path x) names h.2
-    ∙ ap (λ b. join path x ++ tail b names) (closed_join (is_open path) path x h.0 h.1)
-    ∙ tail_join (is_open path) path x names
+    ∙ ap (λ b. join path x ++ tail b names) (closed_join (ends_open path) path x h.0 h.1)
+    ∙ tail_join (ends_open path) path x names
 
 slashed_names : (names : List (List ℕ)) → AreNames names → names_in_path (slashed names) ≡ names
 slashed_names [] h = refl
@@ -74,7 +74,7 @@ tail_names false names h = slashed_names names h
 pub same_names : (path : List ℕ) (xs ys : List (List ℕ)) → AreNames xs → AreNames ys
     → path_from path xs ≡ path_from path ys → xs ≡ ys
 same_names path xs ys h k e =
-    let b = is_open path in
+    let b = ends_open path in
     let t : tail b xs ≡ tail b ys =
     append_cancel_left path (tail b xs) (tail b ys) (sym (path_tail path xs h) ∙ e ∙ path_tail path ys k) in
     sym (tail_names b xs h) ∙ ap names_in_path t ∙ tail_names b ys k

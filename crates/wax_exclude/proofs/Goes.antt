@@ -2,18 +2,12 @@
 use Rattle.std.proofs.Common.{◌≡◌, ◌↔◌, ℕ, Bool, true, false, if◌then◌else◌, List, [], ◌∷◌, ◌++◌, refl, sym, ap}
 use Rattle.std.proofs.Common.{subst, ◌∙◌, append_assoc}
 use Rattle.wax_prefilter.specs.Below.{MeansBelow, goes_test, goes_tested}
-use Rattle.wax_directory.specs.Shown.{is_open}
 use Rattle.wax_query.specs.Below.{AreNames, ends_open, folder_text, joined_names, slashed}
 use Rattle.wax_token.specs.Meaning.{Means}
 use Rattle.wax_token.specs.Syntax.{Tree}
 use Rattle.wax_exclude.proofs.Names.{closed_after}
 use Rattle.wax_exclude.specs.Candidates.{base, text_at}
 use Rattle.wax_exclude.specs.Pruned.{MeansLonger, TestsBelow}
-
-same_open : (s : List ℕ) → ends_open s ≡ is_open s
-same_open [] = refl
-same_open (c ∷ []) = refl
-same_open (c ∷ d ∷ s) = same_open (d ∷ s)
 
 slashed_append : (names more : List (List ℕ)) → slashed (names ++ more) ≡ slashed names ++ slashed more
 slashed_append [] more = refl
@@ -25,7 +19,7 @@ closed_text : (rooted : Bool) (n : List ℕ) (names : List (List ℕ)) → AreNa
     → folder_text (text_at rooted (n ∷ names)) ≡ text_at rooted (n ∷ names) ++ 47 ∷ []
 closed_text rooted n names h =
     let p = text_at rooted (n ∷ names) in
-    ap (λ b. if b then p else p ++ 47 ∷ []) (same_open p ∙ closed_after rooted n names h)
+    ap (λ b. if b then p else p ++ 47 ∷ []) (closed_after rooted n names h)
 
 -- the texts below the text of some names are those of longer names
 pub text_below : (rooted : Bool) (names more : List (List ℕ)) → AreNames names → ¬ (more ≡ [])

@@ -10,12 +10,12 @@ use Rattle.std.proofs.lemmas.Bool.{eqb-true, cases_Bool}
 use Rattle.std.proofs.lemmas.List.Elements.{Contains-append_right}
 use Rattle.std.proofs.lemmas.Str.{chars-append, encodes-chars, encodes-append, chars-nil, chars-encodes}
 use Rattle.wax_directory.specs.Names.{is_some_name, names_in_path}
-use Rattle.wax_directory.specs.Shown.{is_open, join, IsPlain}
+use Rattle.wax_directory.specs.Shown.{join, IsPlain}
 use Rattle.wax_token.specs.Meaning.{HasNoSlash}
 use Rattle.wax_tree.specs.Plain.{Location}
 use Rattle.wax_tree.specs.Prefix.{ArePlain}
 use Rattle.wax_walk.specs.Candidates.{Candidate}
-use Rattle.wax_query.specs.Below.{slashed, joined_names, AreNames}
+use Rattle.wax_query.specs.Below.{slashed, joined_names, AreNames, ends_open}
 use Rattle.wax_exclude.specs.Candidates.{base, text_at}
 use Rattle.wax_exclude.specs.Candidates.{candidate_at}
 use Rattle.wax_exclude.specs.inner.Descents.{At, child_location}
@@ -40,33 +40,33 @@ no_slash_in (c ∷ x) h = (
 
 -- ---- paths that no name may follow at once
 
-pub open_append : (xs : List ℕ) (y : ℕ) (ys : List ℕ) → is_open (xs ++ y ∷ ys) ≡ is_open (y ∷ ys)
+pub open_append : (xs : List ℕ) (y : ℕ) (ys : List ℕ) → ends_open (xs ++ y ∷ ys) ≡ ends_open (y ∷ ys)
 open_append [] y ys = refl
 open_append (x ∷ []) y ys = refl
 open_append (x ∷ z ∷ xs) y ys = open_append (z ∷ xs) y ys
 
-pub closed_name : (n : List ℕ) → ¬ (n ≡ []) → HasNoSlash n → is_open n ≡ false
+pub closed_name : (n : List ℕ) → ¬ (n ≡ []) → HasNoSlash n → ends_open n ≡ false
 closed_name [] h k = absurd (h refl)
 closed_name (c ∷ []) h k = differ c 47 k.0
 closed_name (c ∷ d ∷ n) h k = closed_name (d ∷ n) (λ e. (cc)) k.1
 
 closed_names : (n : List ℕ) (names : List (List ℕ)) → AreNames (n ∷ names)
-    → is_open (n ++ slashed names) ≡ false
-closed_names n [] h = ap is_open (append-nil n) ∙ closed_name n h.0 h.1
+    → ends_open (n ++ slashed names) ≡ false
+closed_names n [] h = ap ends_open (append-nil n) ∙ closed_name n h.0 h.1
 closed_names n (m ∷ names) h = open_append n 47 (m ++ slashed names)
     ∙ after m names h.2 (closed_names m names h.2) where
       after : (m : List ℕ) (names : List (List ℕ)) → AreNames (m ∷ names)
-          → is_open (m ++ slashed names) ≡ false
-          → is_open (47 ∷ (m ++ slashed names)) ≡ false
+          → ends_open (m ++ slashed names) ≡ false
+          → ends_open (47 ∷ (m ++ slashed names)) ≡ false
       after [] names h e = absurd (h.0 refl)
       after (c ∷ m) names h e = e
 
-base_open : (rooted : Bool) → is_open (base rooted) ≡ true
+base_open : (rooted : Bool) → ends_open (base rooted) ≡ true
 base_open true = refl
 base_open false = refl
 
 pub closed_after : (rooted : Bool) (n : List ℕ) (names : List (List ℕ)) → AreNames (n ∷ names)
-    → is_open (base rooted ++ (n ++ slashed names)) ≡ false
+    → ends_open (base rooted ++ (n ++ slashed names)) ≡ false
 closed_after false n names h = closed_names n names h
 closed_after true [] names h = absurd (h.0 refl)
 closed_after true (c ∷ n) names h = closed_names (c ∷ n) names h

@@ -4,25 +4,25 @@ use Rattle.std.proofs.Common.{refl, ap, arith}
 use Rattle.std.specs.Prelude.{Some, None, ◌||◌, slice_index_or}
 use Rattle.std.specs.List.{list_any, Contains, slice_get}
 use Rattle.std.proofs.lemmas.Bool.{eqb-true, eq-eqb}
-use Rattle.wax_directory.specs.Shown.{is_open}
+use Rattle.wax_query.specs.Below.{ends_open}
 
 item_at : (xs : List ℕ) (k : ℕ) → k < length xs → None ≡ slice_get xs k → ⊥
 item_at [] k l h = omega (arith, l)
 item_at (x ∷ xs) zero l h = cc
 item_at (x ∷ xs) (suc k) l h = item_at xs k (omega (arith, l)) h
 
-pub open_none : (xs : List ℕ) → None ≡ slice_get xs (length xs - 1) → true ≡ is_open xs
+pub open_none : (xs : List ℕ) → None ≡ slice_get xs (length xs - 1) → true ≡ ends_open xs
 open_none [] h = refl
 open_none (c ∷ xs) h = absurd (item_at (c ∷ xs) (length (c ∷ xs) - 1) (omega arith) h)
 
-open_last : (xs : List ℕ) (c k : ℕ) → length xs ≡ suc k → Some c ≡ slice_get xs k → nat_eq c 47 ≡ is_open xs
+open_last : (xs : List ℕ) (c k : ℕ) → length xs ≡ suc k → Some c ≡ slice_get xs k → nat_eq c 47 ≡ ends_open xs
 open_last [] c k l h = cc
 open_last (d ∷ []) c zero l h = let e : c ≡ d = cc in ap (λ v. nat_eq v 47) e
 open_last (d ∷ []) c (suc k) l h = cc
 open_last (d ∷ e ∷ xs) c zero l h = absurd (omega (arith, l))
 open_last (d ∷ e ∷ xs) c (suc k) l h = open_last (e ∷ xs) c k (omega (arith, l)) h
 
-pub open_some : (xs : List ℕ) (c : ℕ) → Some c ≡ slice_get xs (length xs - 1) → nat_eq c 47 ≡ is_open xs
+pub open_some : (xs : List ℕ) (c : ℕ) → Some c ≡ slice_get xs (length xs - 1) → nat_eq c 47 ≡ ends_open xs
 open_some [] c h = cc
 open_some (d ∷ xs) c h = open_last (d ∷ xs) c (length (d ∷ xs) - 1) (omega arith) h
 

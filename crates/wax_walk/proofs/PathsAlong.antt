@@ -5,37 +5,38 @@ use Rattle.std.specs.List.{Contains, join_with_byte}
 use Rattle.std.proofs.lemmas.Bool.{cases_Bool, false_from_ne_true}
 use Rattle.std.proofs.lemmas.Bool.Decides.{Decides-eqb}
 use Rattle.std.proofs.lemmas.List.Elements.{All-head, All-tail}
-use Rattle.wax_directory.specs.Shown.{IsPlain, is_open, join}
+use Rattle.wax_directory.specs.Shown.{IsPlain, join}
+use Rattle.wax_query.specs.Below.{ends_open}
 use Rattle.wax_walk.specs.NamedPaths.{texts_along, start_texts, PathsAreJoined}
 use Rattle.wax_walk.specs.Paths.{PathTexts, item_texts}
 
-open_slash : (x : List ℕ) → ¬ (x ≡ []) → is_open x ≡ true → Contains x 47
+open_slash : (x : List ℕ) → ¬ (x ≡ []) → ends_open x ≡ true → Contains x 47
 open_slash [] some e = absurd (some refl)
 open_slash (c ∷ []) some e = (0, omega arith, (Decides-eqb c 47).0 e)
 open_slash (c ∷ d ∷ x) some e =
     let h = open_slash (d ∷ x) (λ q. (cc)) e in (suc h.0, omega (arith, h.1), h.2)
 
-closed_plain : (x : List ℕ) → IsPlain x → is_open x ≡ false
-closed_plain x plain = false_from_ne_true (is_open x) (λ e. plain.one_name (open_slash x plain.not_empty e))
+closed_plain : (x : List ℕ) → IsPlain x → ends_open x ≡ false
+closed_plain x plain = false_from_ne_true (ends_open x) (λ e. plain.one_name (open_slash x plain.not_empty e))
 
-closed_end : (at x : List ℕ) → IsPlain x → is_open (at ++ x) ≡ false
+closed_end : (at x : List ℕ) → IsPlain x → ends_open (at ++ x) ≡ false
 closed_end [] x plain = closed_plain x plain
 closed_end (c ∷ []) [] plain = absurd (plain.not_empty refl)
 closed_end (c ∷ []) (d ∷ x) plain = closed_plain (d ∷ x) plain
 closed_end (c ∷ d ∷ at) x plain = closed_end (d ∷ at) x plain
 
-open_after : (at : List ℕ) (c : ℕ) (x : List ℕ) → is_open (at ++ c ∷ x) ≡ is_open (c ∷ x)
+open_after : (at : List ℕ) (c : ℕ) (x : List ℕ) → ends_open (at ++ c ∷ x) ≡ ends_open (c ∷ x)
 open_after [] c x = refl
 open_after (d ∷ []) c x = refl
 open_after (d ∷ e ∷ at) c x = open_after (e ∷ at) c x
 
 -- after a name, a further name needs a `/`
 join_twice : (at x y : List ℕ) → IsPlain x → join (join at x) y ≡ join at (x ++ 47 ∷ y)
-join_twice at x y plain = elim (cases_Bool (is_open at)) [
+join_twice at x y plain = elim (cases_Bool (ends_open at)) [
   | inl e ↦ rw (e, closed_end at x plain) (append_assoc at x (47 ∷ y))
   | inr e ↦ rw (e, slashed) (append_assoc at (47 ∷ x) (47 ∷ y))
 ] where
-  slashed : is_open (at ++ 47 ∷ x) ≡ false
+  slashed : ends_open (at ++ 47 ∷ x) ≡ false
   slashed = open_after at 47 x ∙ closed_end (47 ∷ []) x plain
 
 -- a text along names

@@ -10,7 +10,8 @@ use Rattle.std.proofs.lemmas.List.{get_or_append_left}
 use Rattle.std.proofs.lemmas.Str.{IsCharBoundary-at_seam, IsCharBoundary-from_drop, IsUtf8-append, IsUtf8-encode}
 use lib.Utf8.{encode}
 use Rattle.std.specs.Str.{IsCharBoundary, IsUtf8}
-use Rattle.wax_directory.specs.Shown.{is_open, join}
+use Rattle.wax_directory.specs.Shown.{join}
+use Rattle.wax_query.specs.Below.{ends_open}
 use Rattle.wax_walk.specs.inner.Shared.{IsShared}
 
 -- what follows the folder's path: the name, after a `/` if one is needed
@@ -23,12 +24,12 @@ unfolding encode
 tail_utf8 true x u = u
 tail_utf8 false x u = IsUtf8-append (47 ∷ []) x (IsUtf8-encode 47 refl) u
 
-join_tail : (at x : List ℕ) (b : Bool) → is_open at ≡ b → join at x ≡ at ++ tail_of b x
+join_tail : (at x : List ℕ) (b : Bool) → ends_open at ≡ b → join at x ≡ at ++ tail_of b x
 join_tail at x true e = ap (λ v. cond v (at ++ x) (at ++ 47 ∷ x)) e
 join_tail at x false e = ap (λ v. cond v (at ++ x) (at ++ 47 ∷ x)) e
 
 -- an end that isn't empty decides whether a `/` is needed
-open_end : (a c : List ℕ) (d : ℕ) → is_open (a ++ d ∷ c) ≡ is_open (d ∷ c)
+open_end : (a c : List ℕ) (d : ℕ) → ends_open (a ++ d ∷ c) ≡ ends_open (d ∷ c)
 open_end [] c d = refl
 open_end (e ∷ []) c d = refl
 open_end (e ∷ f ∷ a) c d = open_end (f ∷ a) c d
@@ -56,7 +57,7 @@ ends_with_name p x false =
 
 -- the name is the end of its path
 pub item_name : (path name : List ℕ) → drop (length (join path name) - length name) (join path name) ≡ name
-item_name path name = rw (join_tail path name (is_open path) refl) (ends_with_name path name (is_open path))
+item_name path name = rw (join_tail path name (ends_open path) refl) (ends_with_name path name (ends_open path))
 
 pub item_name_begins : (path name : List ℕ) → IsUtf8 name
     → IsCharBoundary (join path name) (length (join path name) - length name)
@@ -78,9 +79,9 @@ parts_shared path end start e s =
 item_begins : (path root candidate name : List ℕ) (start : ℕ) → IsShared path root candidate start → IsUtf8 name
     → (take (length root) (join path name) ≡ root) × IsCharBoundary (join path name) (length root)
 item_begins path root candidate name start shared text =
-    let joined = join_tail path name (is_open path) refl in (
+    let joined = join_tail path name (ends_open path) refl in (
       ap (take (length root)) joined ∙ take-append-le (length root) path _ shared.root_ends.0 ∙ shared.begins,
-      rw joined (extends path _ (length root) (tail_utf8 (is_open path) name text) shared.root_ends),
+      rw joined (extends path _ (length root) (tail_utf8 (ends_open path) name text) shared.root_ends),
     )
 
 -- the candidate of an item is its name if that of the folder is empty
@@ -104,18 +105,18 @@ pub shared_candidate : (path root candidate name : List ℕ) (start : ℕ) → I
 shared_candidate path root [] name start shared text some = absurd (let e : false ≡ true = some in (cc))
 shared_candidate path root (c ∷ cs) name start shared text some =
     let begins = item_begins path root (c ∷ cs) name start shared text in
-    let joined = join_tail path name (is_open path) refl in
+    let joined = join_tail path name (ends_open path) refl in
     let whole : path ≡ take start path ++ c ∷ cs =
     sym (take-append-drop start path) ∙ ap (λ v. take start path ++ v) shared.ends in
-    let same : is_open (c ∷ cs) ≡ is_open path =
-    sym (open_end (take start path) cs c) ∙ sym (ap is_open whole) in record {
+    let same : ends_open (c ∷ cs) ≡ ends_open path =
+    sym (open_end (take start path) cs c) ∙ sym (ap ends_open whole) in record {
       begins = begins.0;
       root_ends = begins.1;
       ends =
           ap (drop start) joined
           ∙ drop-append-le start path _ shared.candidate_begins.0
-          ∙ ap (λ v. v ++ tail_of (is_open path) name) shared.ends
-          ∙ sym (join_tail (c ∷ cs) name (is_open path) same);
+          ∙ ap (λ v. v ++ tail_of (ends_open path) name) shared.ends
+          ∙ sym (join_tail (c ∷ cs) name (ends_open path) same);
       candidate_begins =
-          rw joined (extends path _ start (tail_utf8 (is_open path) name text) shared.candidate_begins);
+          rw joined (extends path _ start (tail_utf8 (ends_open path) name text) shared.candidate_begins);
     }
