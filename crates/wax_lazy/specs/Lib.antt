@@ -1,3 +1,4 @@
+pub mod Dfa
 pub mod Numbers
 pub mod Verdict
 pub mod inner

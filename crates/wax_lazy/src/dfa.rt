@@ -1,8 +1,9 @@
 //! Deciding many texts by one program.
 ghost use Rattle.std.specs.Prelude.{◌≡◌, ◌≤◌, ◌↔◌, IfOk, IsFalse, IsTrue, chars, is_some, length};
+ghost use Rattle.wax_lazy.specs.Dfa.{IsDfaOf};
 ghost use Rattle.wax_lazy.specs.Numbers.{AreNumbers};
 ghost use Rattle.wax_lazy.specs.Verdict.{IsVerdict};
-ghost use Rattle.wax_lazy.specs.inner.Cached.{IsFollowed, IsKeptFor, IsDfaOf, numbers_known};
+ghost use Rattle.wax_lazy.specs.inner.Cached.{IsFollowed, IsKeptFor, numbers_known};
 ghost use Rattle.wax_program.specs.Closed.{IsClosed};
 ghost use Rattle.wax_program.specs.Last.{ReadsLast};
 ghost use Rattle.wax_program.specs.Machine.{Accepts};
@@ -17,7 +18,18 @@ use wax_query::diagnostics::NoMemory;
 use wax_query::query::Verdict;
 use wax_states::StateId;
 
-/// What is known of a program, and the states that earlier texts led to.
+/// How many bytes states and their cells may take, about.
+const MOST_BYTES: usize = 2_097_152;
+
+/// How many they may take for each instruction of a large program, about.
+const BYTES_PER_INSTRUCTION: usize = 512;
+
+/// How many they may take, about, however large the program is.
+const MOST_BYTES_OF_ALL: usize = 16_777_216;
+
+/// What is known of a program, and the states that earlier texts led to. It is apart from the program,
+/// so that a struct can hold both by value; each call takes the program. `Matcher` holds both together.
+/// Contracts say of which program it is (`IsDfaOf`).
 #[derive(Drop)]
 pub struct LazyDfa {
     /// True if the program depends only on the last component of a text.
@@ -33,9 +45,20 @@ pub struct LazyDfa {
 }
 
 impl LazyDfa {
+    /// Creates what is known of a program before the first text. It will keep at most about 2 MiB; or
+    /// 512 bytes for each instruction of the program, if that is more, but at most about 16 MiB. Reads
+    /// each instruction at most once. Doesn't allocate before the first text.
+    pub fn of(program: &CompiledProgram) -> LazyDfa
+        ensures { IsDfaOf program.now.0 result }
+    {
+        let most_bytes = program.size().saturating_mul(BYTES_PER_INSTRUCTION);
+        let most_bytes = most_bytes.max(MOST_BYTES).min(MOST_BYTES_OF_ALL);
+        LazyDfa::new(program, most_bytes)
+    }
+
     /// Creates what is known of a program before the first text. The cache will keep at most about
     /// `most_bytes` bytes. Reads each instruction at most once. Doesn't allocate.
-    pub fn new(program: &CompiledProgram, most_bytes: usize) -> LazyDfa
+    pub(crate) fn new(program: &CompiledProgram, most_bytes: usize) -> LazyDfa
         ensures { IsDfaOf program.now.0 result }
     {
         let mut meter = Meter::new();
@@ -79,8 +102,13 @@ impl LazyDfa {
         Ok(())
     }
 
-    /// Returns whether the program accepts the text.
-    pub(crate) fn is_match(
+    /// Returns whether the program accepts the text. If the text leads only to states that are known,
+    /// this takes what `Matcher::is_match` does, without its test.
+    ///
+    /// # Errors
+    ///
+    /// Returns `NoMemory` if allocation fails. Further texts can be decided even then.
+    pub fn is_match(
         &mut self,
         alloc: Global,
         program: &CompiledProgram,
@@ -102,8 +130,12 @@ impl LazyDfa {
     }
 
     /// Returns whether the program accepts the text, and whether it accepts one of something below
-    /// the folder with this text.
-    pub(crate) fn verdict(
+    /// the folder with this text. The first verdict finds the places of the program that lead on.
+    ///
+    /// # Errors
+    ///
+    /// Returns `NoMemory` if allocation fails. Further texts can be decided even then.
+    pub fn verdict(
         &mut self,
         alloc: Global,
         program: &CompiledProgram,
@@ -174,7 +206,7 @@ impl LazyDfa {
     }
 
     /// Returns whether states were removed before they had served enough text.
-    pub fn gives_up(&self) -> bool {
+    pub(crate) fn gives_up(&self) -> bool {
         match &self.cache {
             Some(cache) => cache.gives_up,
             None => false,

@@ -10,5 +10,6 @@ mod matcher;
 mod once;
 mod rows;
 
+pub use dfa::LazyDfa;
 pub use matcher::{HasProgram, Matcher};
 pub use once::{last_number, list_numbers};

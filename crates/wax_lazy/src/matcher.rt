@@ -13,15 +13,6 @@ use wax_program::CompiledProgram;
 use wax_query::diagnostics::NoMemory;
 use wax_query::query::Verdict;
 
-/// How many bytes states and their cells may take, about.
-const MOST_BYTES: usize = 2_097_152;
-
-/// How many they may take for each instruction of a large program, about.
-const BYTES_PER_INSTRUCTION: usize = 512;
-
-/// How many they may take, about, however large the program is.
-const MOST_BYTES_OF_ALL: usize = 16_777_216;
-
 /// A program with what else is known of the texts that it accepts, or a reference to one.
 pub trait HasProgram {
     // The instructions of the program.
@@ -87,7 +78,7 @@ impl<P: HasProgram> Model for Matcher<P> {
     ghost use Rattle.std.specs.Coded.{coded_list};
     ghost use Rattle.wax_program.specs.declared.instruction.Instruction.{Instruction};
     ghost use Rattle.wax_program.specs.contracts.instruction.Instruction as instruction;
-    ghost use Rattle.wax_lazy.specs.inner.Cached.{IsDfaOf};
+    ghost use Rattle.wax_lazy.specs.Dfa.{IsDfaOf};
 
     ghost Value = { List Instruction };
 
@@ -106,12 +97,7 @@ impl<P: HasProgram> Matcher<P> {
         P: Drop,
         ensures { IfOk result (λ m. m ≡ P.code program) }
     {
-        let most_bytes = program
-            .program()
-            .size()
-            .saturating_mul(BYTES_PER_INSTRUCTION);
-        let most_bytes = most_bytes.max(MOST_BYTES).min(MOST_BYTES_OF_ALL);
-        let mut dfa = LazyDfa::new(program.program(), most_bytes);
+        let mut dfa = LazyDfa::of(program.program());
         dfa.prepare(alloc, program.program())?;
         Ok(Matcher {
             alloc,
