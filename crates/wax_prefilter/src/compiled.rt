@@ -2,7 +2,7 @@
 ghost use Rattle.std.specs.Prelude.{◌≡◌, ◌+◌, ◌*◌, ◌++◌, ◌∷◌, ◌<◌, ◌≤◌, ◌↔◌, [], ℕ, List, IfOk, IsTrue};
 ghost use Rattle.std.specs.Prelude.{chars, false, length, min};
 ghost use Rattle.std.specs.Str.{IsUtf8};
-ghost use Rattle.wax_lazy.specs.Verdict.{AcceptsBelow};
+ghost use Rattle.wax_lazy.specs.Verdict.{AcceptsBelow, IsVerdict};
 ghost use Rattle.wax_program.specs.Last.{IsLastName};
 ghost use Rattle.wax_program.specs.Machine.{Accepts};
 ghost use Rattle.wax_program.specs.Meter.{most_ticks};
@@ -15,20 +15,24 @@ ghost use Rattle.wax_prefilter.specs.Compiled.{IsCompiled};
 use crate::prefilter::Prefilter;
 use std::alloc::Global;
 use std::marker::Model;
-use wax_lazy::{HasProgram, Matcher};
+use wax_lazy::{HasProgram, LazyDfa, Matcher};
 use wax_match::encode;
 use wax_match::encode::{CompileError, CompiledProgram, Meter};
 use wax_query::diagnostics::{NoMemory, Refusal};
+use wax_query::query::Verdict;
 use wax_token::token::{ExpressionMetadata, Sides, Token};
 
 /// What tokens are compiled to: a program that accepts exactly the texts that they match, and facts
 /// about these texts, by which most others are rejected before the program is run. It keeps no
-/// tokens. Contracts see the instructions of the program, and its length.
+/// tokens. The calls that end with `_cached` keep what they learn from each text for the next ones.
+/// Contracts see the instructions of the program, and its length.
 pub struct CompiledTokens {
     program: CompiledProgram,
     prefilter: Prefilter,
     /// True if the program is known to depend only on the last component of a text.
     reads_last: bool,
+    /// What earlier texts led to, from the first one on.
+    dfa: LazyDfa,
 }
 
 // Written out, so that crates that drop these don't have to prove again how their parts are dropped.
@@ -38,6 +42,7 @@ impl Drop for CompiledTokens {
             program: _,
             prefilter: _,
             reads_last: _,
+            dfa: _,
         } = self;
     }
 }
@@ -45,6 +50,7 @@ impl Drop for CompiledTokens {
 impl Model for CompiledTokens {
     ghost use Rattle.std.specs.Coded.{coded×, coded_list, coded_ℕ};
     ghost use Rattle.wax_program.specs.contracts.instruction.Instruction as instruction;
+    ghost use Rattle.wax_lazy.specs.Dfa.{IsDfaOf};
     ghost use Rattle.wax_prefilter.specs.Compiled.{Instructions};
     ghost use Rattle.wax_prefilter.specs.inner.Passing.{AllPass, KnowsLast};
 
@@ -54,7 +60,8 @@ impl Model for CompiledTokens {
 
     ghost view = { λ c. c.program };
 
-    ghost invariant = { λ c. AllPass c.program.0 c.prefilter × KnowsLast c.reads_last c.program.0 };
+    ghost invariant = { λ c. AllPass c.program.0 c.prefilter × KnowsLast c.reads_last c.program.0
+        × IsDfaOf c.program.0 c.dfa };
 }
 
 impl CompiledTokens {
@@ -79,10 +86,12 @@ impl CompiledTokens {
         let prefilter = Prefilter::new(alloc, tokens)?;
         let mut meter = Meter::new();
         let reads_last = encode::reads_last(&program, &mut meter);
+        let dfa = LazyDfa::of(&program);
         Ok(CompiledTokens {
             program,
             prefilter,
             reads_last,
+            dfa,
         })
     }
 
@@ -166,6 +175,36 @@ impl CompiledTokens {
         let mut matcher = Matcher::new(alloc, &self.program)?;
         let verdict = matcher.verdict(text)?;
         Ok(verdict.goes_on)
+    }
+
+    /// Returns what `is_match` does, with the help of what is kept of earlier texts. A quick test comes
+    /// first, which rejects most texts that don't match. About 2 MiB are kept at most, or up to 16 MiB
+    /// if the program is large.
+    ///
+    /// # Errors
+    ///
+    /// Returns `NoMemory` if allocation fails. Further texts can be decided even then.
+    pub fn is_match_cached(&mut self, alloc: Global, text: &str) -> Result<bool, NoMemory>
+        ensures decides { IfOk result (λ answer. IsTrue answer ↔ Accepts self.old.0 0 (chars text.now)) }
+        ensures same { self.new ≡ self.old }
+    {
+        if !self.prefilter.may_match_at_once(text) {
+            return Ok(false);
+        }
+        self.dfa.is_match(alloc, &self.program, text)
+    }
+
+    /// Returns whether the tokens match the text, and whether they match something below the folder
+    /// with this text, with the help of what is kept of earlier texts. Reads the text once.
+    ///
+    /// # Errors
+    ///
+    /// Returns `NoMemory` if allocation fails. Further texts can be decided even then.
+    pub fn verdict_cached(&mut self, alloc: Global, text: &str) -> Result<Verdict, NoMemory>
+        ensures decides { IfOk result (IsVerdict self.old.0 (chars text.now)) }
+        ensures same { self.new ≡ self.old }
+    {
+        self.dfa.verdict(alloc, &self.program, text)
     }
 
     /// Returns how many bytes at the beginning of a text can be passed over in a search for lines
