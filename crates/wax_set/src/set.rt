@@ -23,11 +23,14 @@ ghost use Rattle.wax_token.specs.Words.{trees};
 ghost use Rattle.wax_set.specs.Patterns.{LacksMemory};
 
 mod matcher;
+mod owned;
 mod walking;
 
 use crate::error::BuildError;
 use crate::pattern::Pattern;
 pub use matcher::AnyMatcher;
+use matcher::MOST_NUMBERED;
+pub use owned::OwnedAnyMatcher;
 use std::alloc::Global;
 use std::borrow::CowStr;
 use std::fmt;
@@ -36,7 +39,7 @@ pub use walking::SetWalk;
 use wax_compare::Compared;
 use wax_components::depth;
 use wax_facts::{has_root, is_exhaustive, text};
-use wax_lazy::{HasProgram, list_numbers};
+use wax_lazy::{HasProgram, Matcher, list_numbers};
 use wax_match::encode;
 use wax_match::encode::{CompileError, CompiledProgram, Meter, Numbered};
 use wax_prefilter::CompiledTokens;
@@ -46,13 +49,18 @@ use wax_query::query::{DepthVariance, TextVariance, Variance, When};
 use wax_rule::rule::Checked;
 use wax_token::token::{BranchKind, ExpressionMetadata, Token};
 
+/// The greatest number of patterns with which the program of their alternation decides whether one of
+/// them matches. With more, its states are large and many, so the other program decides it, whose
+/// patterns share their beginnings and their ends.
+const MOST_ALTERNATED: usize = 32;
+
 /// A set of patterns, which matches a path if one of its patterns does. `any` builds it. Contracts
 /// see the alternation of their trees.
 pub struct Any<'t> {
     token: Checked<Token<'t, ExpressionMetadata>>,
     compiled: CompiledTokens,
-    /// The program that says which of the patterns match.
-    numbered: CompiledProgram,
+    /// The program that says which of the patterns match, with what earlier paths led to.
+    numbered: Matcher<CompiledProgram>,
 }
 
 // Written out, so that a crate that drops sets needn't prove again how their tokens are dropped.
@@ -77,7 +85,7 @@ impl<'t> Model for Any<'t> {
 
     ghost view = { λ a. a.token };
 
-    ghost invariant = { λ a. IsCompiledAny a.token a.compiled a.numbered.0 };
+    ghost invariant = { λ a. IsCompiledAny a.token a.compiled a.numbered };
 }
 
 /// Compiles an alternation into a set.
@@ -100,7 +108,7 @@ pub(crate) fn compiled<'t>(
     Ok(Any {
         token,
         compiled,
-        numbered,
+        numbered: Matcher::with_most(alloc, numbered, MOST_NUMBERED),
     })
 }
 
@@ -169,7 +177,7 @@ impl Any<'_> {
     {
         let mut indexes = Vec::new(alloc);
         if self.may_match(path) {
-            list_numbers(alloc, &self.numbered, path.as_str(), &mut indexes)?;
+            list_numbers(alloc, self.numbered.holder(), path.as_str(), &mut indexes)?;
         }
         Ok(indexes)
     }
@@ -197,6 +205,12 @@ impl Any<'_> {
         ensures { MeansText self.now path.now → IsTrue result }
     {
         self.compiled.may_accept(path.as_str())
+    }
+
+    /// Returns whether the set has so many patterns that the program that says which of them match
+    /// decides whether one matches, too.
+    fn has_many(&self) -> bool {
+        branches_of(self.token.as_ref()).len() > MOST_ALTERNATED
     }
 
     /// Returns how many bytes at the beginning of a text can be passed over in a search for lines

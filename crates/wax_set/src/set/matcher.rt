@@ -4,7 +4,7 @@ ghost use Rattle.wax_set.specs.Sets.{AreMatches, MeansText};
 ghost use Rattle.wax_prefilter.specs.Below.{MeansBelow, goes_test, goes_tested};
 ghost use Rattle.wax_token.specs.Decided.{means_test, means_tested};
 
-use crate::set::{Any, branches_of};
+use crate::set::Any;
 use std::alloc::Global;
 use std::marker::Model;
 use wax_lazy::Matcher;
@@ -15,12 +15,7 @@ use wax_query::matching::{BuildMatcher, CandidatePath, PathMatcher};
 use wax_query::query::Verdict;
 
 /// How many bytes of earlier paths are kept at most to say which patterns match, about.
-const MOST_NUMBERED: usize = 16_777_216;
-
-/// The greatest number of patterns with which the program of their alternation decides whether one of
-/// them matches. With more, its states are large and many, so the other program decides it, whose
-/// patterns share their beginnings and their ends.
-const MOST_ALTERNATED: usize = 32;
+pub(crate) const MOST_NUMBERED: usize = 16_777_216;
 
 /// A matcher of a set of patterns for many paths, which keeps what it learns from each for the next
 /// ones. Contracts see the view of its set.
@@ -74,8 +69,8 @@ impl<'t> Any<'t> {
             alloc,
             any: self,
             matcher,
-            numbered: Matcher::with_most(alloc, &self.numbered, MOST_NUMBERED),
-            has_many: branches_of(self.token.as_ref()).len() > MOST_ALTERNATED,
+            numbered: Matcher::with_most(alloc, self.numbered.holder(), MOST_NUMBERED),
+            has_many: self.has_many(),
         })
     }
 }

@@ -7,12 +7,14 @@ use Rattle.wax_set.proofs.set.Any.matches.Goals as goal
 
 pub returns : goal.returns
 returns c =
-    let numbers = subst (λ t. IsNumbered t c.self.inside.numbered.0) c.self.view_is c.self.invariant.numbers in
+    let numbers = subst (λ t. IsNumbered t c.self.inside.numbered) c.self.view_is c.self.invariant.numbers in
     elim c.if-may_match.branch [
       | then-may_match+in_ok-list_numbers w ↦
+          let code = w.holder.result.now.0 in
           rw w.indexes-is
-          (are_matches c.args.self.now c.self.inside.numbered.0 c.args.path.now w.list_numbers.new.numbers.items numbers
-          (subst (λ s. AreNumbers c.self.inside.numbered.0 s w.list_numbers.new.numbers.items) w.as_str.ensures w.in_ok-list_numbers.ensures))
+          (are_matches c.args.self.now code c.args.path.now w.list_numbers.new.numbers.items
+          (subst (IsNumbered c.args.self.now) (sym w.holder.ensures) numbers)
+          (subst (λ s. AreNumbers code s w.list_numbers.new.numbers.items) w.as_str.ensures w.in_ok-list_numbers.ensures))
       | else-may_match w ↦
           rw w.indexes-is
           (no_matches c.args.self.now c.args.path.now c.new-indexes.result.items c.new-indexes.ensures.items

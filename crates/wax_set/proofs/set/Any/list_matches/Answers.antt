@@ -1,0 +1,22 @@
+use Rattle.std.proofs.Common.{◌≡◌, false, subst, sym, true≢false, ◌∙◌, rules}
+use Rattle.std.proofs.lemmas.Result.{IfOk-weaker}
+use Rattle.wax_lazy.specs.Numbers.{AreNumbers}
+use Rattle.wax_set.specs.Sets.{IsCompiledAny, IsNumbered}
+use Rattle.wax_set.proofs.Numbers.{are_matches, no_matches}
+use Rattle.wax_set.proofs.set.Any.list_matches.Goals as goal
+
+pub returns-then-not-may_match_at_once-clause-matches : goal.returns-then-not-may_match_at_once-clause-matches
+returns-then-not-may_match_at_once-clause-matches c =
+    let rejected : c.may_match_at_once.result ≡ false = search rules in
+    no_matches c.args.self.now c.args.path.now c.clear.new.self.items c.clear.ensures.items
+    (λ m. true≢false (sym (c.may_match_at_once.ensures m) ∙ rejected))
+
+pub invariant_of-self : goal.invariant_of-self
+invariant_of-self c = subst (IsCompiledAny c.self.inside.token c.self.inside.compiled) (sym c.list_numbers.ensures.same) c.self.invariant
+
+pub returns-clause-matches : goal.returns-clause-matches
+returns-clause-matches c =
+    let numbers = subst (λ t. IsNumbered t c.self.inside.numbered) c.self.view_is c.self.invariant.numbers in
+    IfOk-weaker c.list_numbers.result _ _
+    (λ w are. are_matches c.args.self.now c.self.inside.numbered c.args.path.now c.list_numbers.new.numbers.items numbers
+    (subst (λ s. AreNumbers c.self.inside.numbered s c.list_numbers.new.numbers.items) c.as_str.ensures are)) c.list_numbers.ensures.numbers
