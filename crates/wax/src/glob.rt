@@ -22,12 +22,14 @@ ghost use Rattle.wax.specs.GlobView.{HasCaptures, IsKept, IsMeant};
 ghost use Rattle.wax.specs.Partition.{as_glob};
 
 mod matcher;
+mod owned;
 mod parts;
 mod pattern;
 mod values;
 mod walking;
 
 pub use matcher::GlobMatcher;
+pub use owned::OwnedGlobMatcher;
 use std::alloc::Global;
 use std::borrow::CowStr;
 use std::fmt;

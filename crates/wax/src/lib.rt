@@ -37,7 +37,7 @@ mod unignored;
 pub mod walk;
 mod walk_filter;
 
-pub use glob::{Glob, GlobMatcher};
+pub use glob::{Glob, GlobMatcher, OwnedGlobMatcher};
 pub use unignored::filter_unignored;
 pub use wax_compare::{
     Compared, Comparison, MOST_STATES, Texts, difference, law_of_plain_paths, overlap,
@@ -48,4 +48,6 @@ pub use wax_query::diagnostics::{NoMemory, Refusal};
 pub use wax_query::matching::{
     BuildMatcher, CandidatePath, MatchedText, PathMatcher, Program, ProgramMatcher,
 };
-pub use wax_set::{Any, AnyMatcher, BuildError, ErrorLocation, GlobError, Pattern, any};
+pub use wax_set::{
+    Any, AnyMatcher, BuildError, ErrorLocation, GlobError, OwnedAnyMatcher, Pattern, any,
+};

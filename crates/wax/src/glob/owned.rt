@@ -1,0 +1,170 @@
+//! A matcher that owns its glob.
+ghost use Rattle.std.specs.Prelude.{◌≡◌, ◌↔◌, IfOk, IsTrue, false};
+ghost use Rattle.wax.specs.GlobView.{IsMeant};
+ghost use Rattle.wax_query.specs.Parts.{NoLineEndsBefore};
+ghost use Rattle.wax_prefilter.specs.Below.{MeansBelow, goes_test, goes_tested};
+ghost use Rattle.wax_token.specs.Decided.{means_test, means_tested};
+
+use crate::glob::Glob;
+use std::alloc::Global;
+use std::marker::Model;
+use wax_query::diagnostics::NoMemory;
+use wax_query::matching::{CandidatePath, PathMatcher};
+use wax_query::query::Verdict;
+
+/// A matcher that owns its glob, so that a struct can hold it. It keeps what it learns from each path
+/// for the next ones, as `GlobMatcher` does. Contracts see the view of its glob.
+pub struct OwnedGlobMatcher<'t> {
+    alloc: Global,
+    glob: Glob<'t>,
+}
+
+impl Drop for OwnedGlobMatcher<'_> {
+    fn drop(self) {
+        let OwnedGlobMatcher { alloc: _, glob: _ } = self;
+    }
+}
+
+impl<'t> Model for OwnedGlobMatcher<'t> {
+    ghost use Rattle.wax.specs.GlobView.{GlobView, glob_code};
+
+    ghost Value = { GlobView };
+
+    ghost coded = { glob_code };
+
+    ghost view = { λ m. m.glob };
+}
+
+impl<'t> Glob<'t> {
+    /// Converts the glob into a matcher that owns it, which is faster than the glob for many paths. It
+    /// keeps about 2 MiB at most, or up to 16 MiB if the expression is long. Doesn't allocate before
+    /// the first path.
+    ///
+    /// ```
+    /// let glob = Glob::new(alloc, "**/{node_modules,target,build}/**")?;
+    /// let mut matcher = glob.into_matcher(alloc);
+    /// for path in ["a/target/b", "a/src/b"] {
+    ///     println!(rt; "{}", matcher.is_match(&CandidatePath::from(path))?)?; // true; false
+    /// }
+    /// println!(rt; "{}", matcher.glob())?; // **/{node_modules,target,build}/**
+    /// ```
+    pub fn into_matcher(self, alloc: Global) -> OwnedGlobMatcher<'t>
+        ensures { result ≡ self.entry }
+    {
+        OwnedGlobMatcher { alloc, glob: self }
+    }
+
+    /// Returns whether the glob matches the whole path, with the help of what is kept of earlier paths.
+    fn is_match_cached(&mut self, alloc: Global, path: &CandidatePath<'_>) -> Result<bool, NoMemory>
+        ensures means { IfOk result (λ answer. IsTrue answer ↔ IsMeant self.old path.now) }
+        ensures decides { IfOk result (λ answer. answer ≡ means_test self.old.tree false false path.now) }
+        ensures same { self.new ≡ self.old }
+    {
+        self.compiled.is_match_cached(alloc, path.as_str())
+    }
+
+    /// Returns whether the glob matches the whole path, and whether it matches the path of something
+    /// below the folder with this path, with the help of what is kept of earlier paths.
+    fn verdict_cached(
+        &mut self,
+        alloc: Global,
+        path: &CandidatePath<'_>,
+    ) -> Result<Verdict, NoMemory>
+        ensures means { IfOk result (λ verdict. IsTrue verdict.is_match ↔ IsMeant self.old path.now) }
+        ensures below { IfOk result
+            (λ verdict. IsTrue verdict.goes_on ↔ MeansBelow self.old.tree path.now) }
+        ensures decides { IfOk result
+            (λ verdict. verdict.is_match ≡ means_test self.old.tree false false path.now) }
+        ensures onward { IfOk result (λ verdict. verdict.goes_on ≡ goes_test self.old.tree path.now) }
+        ensures same { self.new ≡ self.old }
+    {
+        self.compiled.verdict_cached(alloc, path.as_str())
+    }
+}
+
+impl<'t> OwnedGlobMatcher<'t> {
+    /// Returns the glob.
+    pub fn glob(&self) -> &Glob<'t>
+        ensures { result.now ≡ self.now }
+    {
+        &self.glob
+    }
+
+    /// Converts the matcher into its glob, which keeps what was learned for its next matcher.
+    pub fn into_glob(self) -> Glob<'t>
+        ensures { result ≡ self.entry }
+    {
+        let OwnedGlobMatcher { alloc: _, glob } = self;
+        glob
+    }
+
+    /// Returns whether the glob matches the whole path. A quick test comes first, which rejects
+    /// most texts that don't match.
+    ///
+    /// # Errors
+    ///
+    /// Returns `NoMemory` if allocation fails. The matcher can be used for further paths after
+    /// that.
+    pub fn is_match(&mut self, path: &CandidatePath<'_>) -> Result<bool, NoMemory>
+        ensures means { IfOk result (λ answer. IsTrue answer ↔ IsMeant self.old path.now) }
+        ensures decides { IfOk result (λ answer. answer ≡ means_test self.old.tree false false path.now) }
+        ensures same { self.new ≡ self.old }
+    {
+        self.glob.is_match_cached(self.alloc, path)
+    }
+
+    /// Returns whether something below the folder with this path can match: whether the glob matches
+    /// the path of something below it.
+    ///
+    /// # Errors
+    ///
+    /// Returns `NoMemory` if allocation fails. The matcher can be used for further paths after
+    /// that.
+    pub fn goes_on(&mut self, path: &CandidatePath<'_>) -> Result<bool, NoMemory>
+        ensures below { IfOk result (λ answer. IsTrue answer ↔ MeansBelow self.old.tree path.now) }
+        ensures same { self.new ≡ self.old }
+    {
+        let verdict = self.verdict(path)?;
+        Ok(verdict.goes_on)
+    }
+
+    /// Returns whether the glob matches the whole path, and whether it matches the path of something
+    /// below the folder with this path. It reads the path once.
+    ///
+    /// # Errors
+    ///
+    /// Returns `NoMemory` if allocation fails. The matcher can be used for further paths after
+    /// that.
+    pub fn verdict(&mut self, path: &CandidatePath<'_>) -> Result<Verdict, NoMemory>
+        ensures means { IfOk result (λ verdict. IsTrue verdict.is_match ↔ IsMeant self.old path.now) }
+        ensures below { IfOk result
+            (λ verdict. IsTrue verdict.goes_on ↔ MeansBelow self.old.tree path.now) }
+        ensures decides { IfOk result
+            (λ verdict. verdict.is_match ≡ means_test self.old.tree false false path.now) }
+        ensures onward { IfOk result (λ verdict. verdict.goes_on ≡ goes_test self.old.tree path.now) }
+        ensures same { self.new ≡ self.old }
+    {
+        self.glob.verdict_cached(self.alloc, path)
+    }
+}
+
+impl PathMatcher for OwnedGlobMatcher<'_> {
+    ghost decides = { λ m. means_test m.tree false false };
+
+    ghost goes_on = { λ m. goes_test m.tree };
+
+    ghost leads = { λ m folder s is h.
+        (goes_tested m.tree folder).1 (s, is, (means_tested m.tree false false s).0 h) };
+
+    fn is_match(&mut self, path: &CandidatePath<'_>) -> Result<bool, NoMemory> {
+        self.is_match(path)
+    }
+
+    fn verdict(&mut self, path: &CandidatePath<'_>) -> Result<Verdict, NoMemory> {
+        self.verdict(path)
+    }
+
+    fn earliest_end(&self, text: &str) -> usize {
+        self.glob.earliest_end(text)
+    }
+}
