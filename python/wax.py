@@ -126,8 +126,8 @@ def _path_of_library() -> str:
     return os.environ.get("WAX_LIBRARY") or (beside if os.path.exists(beside) else "libwax.so.0")
 
 
-def _loaded() -> ctypes.CDLL:
-    library = ctypes.CDLL(_path_of_library())
+def _loaded(library: ctypes.CDLL, keeps_lock: bool) -> ctypes.CDLL:
+    """Declares the calls that convert their arguments: those that use a handle of a glob or of a set, or the others."""
     text, size, number = ctypes.c_char_p, ctypes.c_size_t, ctypes.c_int32
     handle, sizes = ctypes.c_void_p, ctypes.POINTER(ctypes.c_size_t)
     handles, spans, facts = ctypes.POINTER(handle), ctypes.POINTER(_Span), ctypes.POINTER(_Facts)
@@ -136,36 +136,39 @@ def _loaded() -> ctypes.CDLL:
         ("wax_escape", number, [text, size, *output]),
         ("wax_picture", number, [text, size, *output]),
         ("wax_glob_new", number, [text, size, handles, spans]),
-        ("wax_glob_filter", number, [handle, text, size, *output]),
-        ("wax_glob_captures", number, [handle, text, size, handle, size, sizes, size, sizes]),
-        ("wax_glob_facts", number, [handle, facts]),
-        ("wax_glob_text", number, [handle, *output]),
-        ("wax_glob_partition", number, [handle, *output, handles]),
         ("wax_glob_free", None, [handle]),
         ("wax_set_new", number, [text, size, sizes, size, handles, sizes, spans]),
-        ("wax_set_matches", number, [handle, text, size, sizes, size, sizes]),
         ("wax_set_free", None, [handle]),
         ("wax_ignore_new", number, [text, size, handles, sizes]),
         ("wax_ignore_filter", number, [handle, text, size, *output]),
         ("wax_ignore_free", None, [handle]),
     ]
-    for name, result, arguments in calls:
+    of_handles: List[Tuple[str, Any, List[Any]]] = [
+        ("wax_glob_filter", number, [handle, text, size, *output]),
+        ("wax_glob_captures", number, [handle, text, size, handle, size, sizes, size, sizes]),
+        ("wax_glob_facts", number, [handle, facts]),
+        ("wax_glob_text", number, [handle, *output]),
+        ("wax_glob_partition", number, [handle, *output, handles]),
+        ("wax_set_matches", number, [handle, text, size, sizes, size, sizes]),
+    ]
+    for name, result, arguments in of_handles if keeps_lock else calls:
         function = getattr(library, name)
         function.restype, function.argtypes = result, arguments
     return library
 
 
-_library = _loaded()
+_library = _loaded(ctypes.CDLL(_path_of_library()), keeps_lock=False)
 
-# The calls that decide something about a path. By PyDLL they keep the lock of the interpreter, and without argtypes
-# nothing converts their arguments, which are bytes and numbers of ctypes: so an empty call takes a third of the time.
-_deciding = ctypes.PyDLL(_path_of_library())
-_glob_is_match = _deciding.wax_glob_is_match
-_glob_goes_on = _deciding.wax_glob_goes_on
-_set_is_match = _deciding.wax_set_is_match
-_set_goes_on = _deciding.wax_set_goes_on
-_ignore_is_ignored = _deciding.wax_ignore_is_ignored
-_ignore_excludes_below = _deciding.wax_ignore_excludes_below
+# The calls that use a handle of a glob or of a set, which keeps what they learn, so one at a time may use it. By PyDLL they
+# keep the lock of the interpreter. Those that decide something about a path have no argtypes, so that nothing converts their
+# arguments, which are bytes and numbers of ctypes: so an empty call takes a third of the time.
+_using = _loaded(ctypes.PyDLL(_path_of_library()), keeps_lock=True)
+_glob_is_match = _using.wax_glob_is_match
+_glob_goes_on = _using.wax_glob_goes_on
+_set_is_match = _using.wax_set_is_match
+_set_goes_on = _using.wax_set_goes_on
+_ignore_is_ignored = _using.wax_ignore_is_ignored
+_ignore_excludes_below = _using.wax_ignore_excludes_below
 for _function in (
     _glob_is_match,
     _glob_goes_on,
@@ -374,7 +377,7 @@ class Glob(_Held):
         text, count = _bytes(path), ctypes.c_size_t()
         texts = ctypes.create_string_buffer(max(len(text), 1))
         lengths = (ctypes.c_size_t * self._most_captures)()
-        status = _library.wax_glob_captures(
+        status = _using.wax_glob_captures(
             self._handle, text, len(text), texts, len(text), lengths, self._most_captures, ctypes.byref(count)
         )
         if status < 0:
@@ -395,11 +398,11 @@ class Glob(_Held):
         Raises `MemoryError` if an allocation fails.
         """
         for chunk in _chunks(paths):
-            yield from _filtered(_library.wax_glob_filter, self._handle, self.is_match, chunk)
+            yield from _filtered(_using.wax_glob_filter, self._handle, self.is_match, chunk)
 
     def _facts(self) -> _Facts:
         facts = _Facts()
-        _library.wax_glob_facts(self._handle, ctypes.byref(facts))
+        _using.wax_glob_facts(self._handle, ctypes.byref(facts))
         return facts
 
     @property
@@ -442,7 +445,7 @@ class Glob(_Held):
         >>> Glob("a*").text is None
         True
         """
-        status, text = _written(_library.wax_glob_text, self._handle, room=self._most_captures)
+        status, text = _written(_using.wax_glob_text, self._handle, room=self._most_captures)
         return text if status else None
 
     def partition(self) -> Tuple[str, Optional[Glob]]:
@@ -461,7 +464,7 @@ class Glob(_Held):
         _Held.__init__(rest)
         rest.expression, rest._most_captures = None, self._most_captures
         out = [ctypes.byref(rest._handle)]
-        _, prefix = _written(_library.wax_glob_partition, self._handle, room=self._most_captures, out=out)
+        _, prefix = _written(_using.wax_glob_partition, self._handle, room=self._most_captures, out=out)
         return prefix, rest if rest._handle else None
 
     def _expressions(self) -> Sequence[Optional[str]]:
@@ -516,7 +519,7 @@ class GlobSet(_Held):
         """
         text, count, room = _bytes(path), ctypes.c_size_t(), len(self.expressions)
         which = (ctypes.c_size_t * room)()
-        status = _library.wax_set_matches(self._handle, text, len(text), which, room, ctypes.byref(count))
+        status = _using.wax_set_matches(self._handle, text, len(text), which, room, ctypes.byref(count))
         if status:
             _raise(-status)
         return which[: count.value]

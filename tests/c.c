@@ -201,6 +201,29 @@ static void sets(void) {
   wax_set_free(set);
 }
 
+/* A set of so many patterns decides by the program that numbers them. */
+static void large_set(void) {
+  enum { MANY = 40 };
+  char patterns[MANY * 16], path[32];
+  size_t lengths[MANY], length = 0, which, found[2], count;
+  for (int at = 0; at < MANY; at++) {
+    lengths[at] = (size_t)sprintf(patterns + length, "**/d%d/*.c", at);
+    length += lengths[at];
+  }
+  wax_span span;
+  wax_set *set = NULL;
+  CHECK(wax_set_new(patterns, length, lengths, MANY, &set, &which, &span) == 0 && which == MANY);
+  for (int at = 0; at < 6 * MANY; at++) { // the paths with numbers from MANY on don't match, and all come again
+    int number = at % (2 * MANY), matches = number < MANY;
+    size_t written = (size_t)sprintf(path, "src/d%d/a.c", number);
+    CHECK(wax_set_is_match(set, path, written) == matches);
+    CHECK(wax_set_matches(set, path, written, found, 2, &count) == 0 && count == (size_t)matches);
+    CHECK(!matches || found[0] == (size_t)number);
+    CHECK(wax_set_goes_on(set, path, written - 4) == 1);
+  }
+  wax_set_free(set);
+}
+
 static void lists(void) {
   size_t line = 7;
   wax_ignore *list = NULL;
@@ -331,7 +354,7 @@ int main(int count, char **words) {
   if (count > 1 && !strcmp(words[1], "fail")) {
     failing();
   } else {
-    expressions(), errors(), filters(), texts(), globs(), captures(), parts(), sets(), lists();
+    expressions(), errors(), filters(), texts(), globs(), captures(), parts(), sets(), large_set(), lists();
     CHECK(wax_blocks() == 0);
   }
   printf("%ld checks failed\n", failures);

@@ -55,7 +55,7 @@ mod c {
             out: *mut *mut Glob,
             span: *mut Span,
         ) -> i32;
-        pub fn wax_glob_is_match(glob: *const Glob, path: *const u8, length: usize) -> i32;
+        pub fn wax_glob_is_match(glob: *mut Glob, path: *const u8, length: usize) -> i32;
         pub fn wax_glob_captures(
             glob: *const Glob,
             path: *const u8,
@@ -91,7 +91,7 @@ mod c {
             which: *mut usize,
             span: *mut Span,
         ) -> i32;
-        pub fn wax_set_is_match(set: *const Set, path: *const u8, length: usize) -> i32;
+        pub fn wax_set_is_match(set: *mut Set, path: *const u8, length: usize) -> i32;
         pub fn wax_set_free(set: *mut Set);
     }
 }
@@ -152,7 +152,7 @@ impl<T: Free> Handle<T> {
     }
 
     /// Calls a function of the library while no other call uses the handle.
-    fn with<R>(&self, call: impl FnOnce(*const T) -> R) -> R {
+    fn with<R>(&self, call: impl FnOnce(*mut T) -> R) -> R {
         let locked = self.0.lock().unwrap_or_else(PoisonError::into_inner);
         call(locked.0.as_ptr())
     }

@@ -21,7 +21,11 @@
  *
  * - No pointer is null, except for a handle that is passed to the function that frees it.
  * - Behind each pointer are as many bytes as its length says, and what a call writes overlaps no other argument.
- * - A handle was made by the function for its type, and wasn't freed. One call at a time uses it.
+ * - A handle was made by the function for its type, and wasn't freed. One call at a time uses it, in any thread.
+ *
+ * A call whose handle isn't const keeps what it learns from a path in the handle, so that the next paths take less time. No
+ * answer depends on it. A handle keeps about 2 MiB at most, or up to 16 MiB if its expressions are long; a handle of a set
+ * keeps up to 16 MiB more. Freeing the handle frees this.
  */
 #ifndef WAX_H
 #define WAX_H
@@ -67,11 +71,11 @@ typedef struct {
 int32_t wax_glob_new(const char *expression, size_t expression_length, wax_glob **out, wax_span *span);
 
 /* Returns 1 if the glob matches the path, 0 if not. */
-int32_t wax_glob_is_match(const wax_glob *glob, const char *path, size_t path_length);
+int32_t wax_glob_is_match(wax_glob *glob, const char *path, size_t path_length);
 
 /* Returns 1 if something below the folder with this path can match, that is, if the glob matches the path of something
  * below it; 0 if not. A walk needs to open only such folders. The empty path is the folder where paths begin. */
-int32_t wax_glob_goes_on(const wax_glob *glob, const char *folder, size_t folder_length);
+int32_t wax_glob_goes_on(wax_glob *glob, const char *folder, size_t folder_length);
 
 /* Writes the lines of the input that the glob matches, as wax_filter does. */
 int32_t wax_glob_filter(const wax_glob *glob, const char *input, size_t input_length, char *output,
@@ -121,16 +125,16 @@ int32_t wax_set_new(const char *patterns, size_t patterns_length, const size_t *
                     size_t *which, wax_span *span);
 
 /* Returns 1 if one of the expressions matches the path, 0 if not. */
-int32_t wax_set_is_match(const wax_set *set, const char *path, size_t path_length);
+int32_t wax_set_is_match(wax_set *set, const char *path, size_t path_length);
 
 /* Writes the indexes of all expressions that match the path to the beginning of `which`, ascending, and their number to
  * `count`. After the error 21, `count` is how many there are; after others it is 0. `which` is unchanged after any
  * error. */
-int32_t wax_set_matches(const wax_set *set, const char *path, size_t path_length, size_t *which, size_t which_length,
+int32_t wax_set_matches(wax_set *set, const char *path, size_t path_length, size_t *which, size_t which_length,
                         size_t *count);
 
 /* Returns 1 if one of the expressions matches the path of something below the folder with this path, 0 if not. */
-int32_t wax_set_goes_on(const wax_set *set, const char *folder, size_t folder_length);
+int32_t wax_set_goes_on(wax_set *set, const char *folder, size_t folder_length);
 
 /* Frees a handle. Does nothing if it is null. */
 void wax_set_free(wax_set *set);
@@ -143,11 +147,11 @@ typedef struct wax_ignore wax_ignore;
  * errors 1 to 9, `line` is the number, from 1, of the first line whose glob has an error; otherwise it is 0. */
 int32_t wax_ignore_new(const char *text, size_t text_length, wax_ignore **out, size_t *line);
 
-/* Returns 1 if the list ignores the path, 0 if not. The list keeps what it learns from the path for the next ones. */
-int32_t wax_ignore_is_ignored(const wax_ignore *list, const char *path, size_t path_length);
+/* Returns 1 if the list ignores the path, 0 if not. */
+int32_t wax_ignore_is_ignored(wax_ignore *list, const char *path, size_t path_length);
 
 /* Writes the lines of the input that the list doesn't ignore, as wax_filter does. */
-int32_t wax_ignore_filter(const wax_ignore *list, const char *input, size_t input_length, char *output,
+int32_t wax_ignore_filter(wax_ignore *list, const char *input, size_t input_length, char *output,
                           size_t output_length, size_t *written);
 
 /* Returns 1 if the list ignores everything below the folder with this path, so that a walk needn't open it; 0 if

@@ -10,7 +10,7 @@ use denote.RawPtr.{Ptr, null_ptr}
 
 -- the memory of a glob, with the right to free it
 abbrev pub glob_at : Global → Ptr → GlobView → Fml
-glob_at alloc p g = box_owns (ghosts.dealloc_token alloc) the_row p (record { glob = g })
+glob_at alloc p g = box_owns (ghosts.dealloc_token alloc) the_row p (record { matcher = g })
 
 -- a glob, or nothing
 abbrev pub owned_glob_at : Global → Ptr → Option GlobView → Fml

@@ -10,7 +10,7 @@ use denote.RawPtr.{Ptr, null_ptr}
 
 -- the memory of a set, with the right to free it
 abbrev pub set_at : Global → Ptr → Tree Span → Fml
-set_at alloc p t = box_owns (ghosts.dealloc_token alloc) the_row p (record { set = t })
+set_at alloc p t = box_owns (ghosts.dealloc_token alloc) the_row p (record { matcher = t })
 
 -- a set, or nothing
 abbrev pub owned_set_at : Global → Ptr → Option (Tree Span) → Fml

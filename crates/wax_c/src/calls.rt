@@ -5,7 +5,7 @@ ghost use Rattle.wax_c.specs.Outcomes.{AreLines, Decides, Fills, IsGlobOf, IsNoG
 use crate::error::CallError;
 use crate::output::put;
 use std::alloc::Global;
-use wax::{BuildError, CandidatePath, Counted, Glob, Program, filter_lines};
+use wax::{BuildError, CandidatePath, Counted, Glob, OwnedGlobMatcher, Program, filter_lines};
 
 /// Builds the glob of an expression.
 ///
@@ -41,18 +41,43 @@ pub(crate) fn decide(alloc: Global, glob: &Glob<'_>, path: &[u8]) -> Result<bool
     }
 }
 
-/// Returns whether the glob matches the path of something below the folder.
+/// Returns whether the glob of the matcher matches the path.
 ///
 /// # Errors
 ///
 /// Returns the errors of `decide`.
-pub(crate) fn decide_below(alloc: Global, glob: &Glob<'_>, folder: &[u8]) -> Result<bool, CallError>
-    ensures { Decides (SaysGoesOn glob.now) folder.now result }
+pub(crate) fn decide_cached(
+    matcher: &mut OwnedGlobMatcher<'_>,
+    path: &[u8],
+) -> Result<bool, CallError>
+    ensures answer { Decides (SaysMatch matcher.old) path.now result }
+    ensures same { matcher.new ≡ matcher.old }
+{
+    let Ok(path) = str::from_utf8(path) else {
+        return Err(CallError::NotText);
+    };
+    match matcher.is_match(&CandidatePath::from(path)) {
+        Ok(answer) => Ok(answer),
+        Err(_) => Err(CallError::Build(BuildError::Memory)),
+    }
+}
+
+/// Returns whether the glob of the matcher matches the path of something below the folder.
+///
+/// # Errors
+///
+/// Returns the errors of `decide`.
+pub(crate) fn decide_below(
+    matcher: &mut OwnedGlobMatcher<'_>,
+    folder: &[u8],
+) -> Result<bool, CallError>
+    ensures answer { Decides (SaysGoesOn matcher.old) folder.now result }
+    ensures same { matcher.new ≡ matcher.old }
 {
     let Ok(folder) = str::from_utf8(folder) else {
         return Err(CallError::NotText);
     };
-    match glob.goes_on(alloc, &CandidatePath::from(folder)) {
+    match matcher.goes_on(&CandidatePath::from(folder)) {
         Ok(goes_on) => Ok(goes_on),
         Err(_) => Err(CallError::Build(BuildError::Memory)),
     }

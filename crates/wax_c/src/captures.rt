@@ -54,10 +54,10 @@ fn capture_held(
     lengths: &mut [usize],
     count: &mut usize,
 ) -> i32
-    ensures { CapturesAs held.now.glob path.now (record { bytes = texts.old; lengths = lengths.old })
+    ensures { CapturesAs held.now.matcher path.now (record { bytes = texts.old; lengths = lengths.old })
         (record { bytes = texts.new; lengths = lengths.new }) count.new result }
 {
-    answer_of(&capture(alloc, &held.glob, path, texts, lengths, count))
+    answer_of(&capture(alloc, held.matcher.glob(), path, texts, lengths, count))
 }
 
 fn capture(

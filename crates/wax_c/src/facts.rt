@@ -62,9 +62,9 @@ pub unsafe extern "C" fn wax_glob_text(
 }
 
 fn facts_held(_alloc: Global, held: &HeldGlob, facts: &mut WaxFacts) -> i32
-    ensures { AreFacts held.now.glob facts.new × (result ≡ pos 0) }
+    ensures { AreFacts held.now.matcher facts.new × (result ≡ pos 0) }
 {
-    *facts = facts_of(&held.glob);
+    *facts = facts_of(held.matcher.glob());
     0
 }
 
@@ -97,10 +97,10 @@ fn number_of_when(when: When) -> i32
 }
 
 fn text_held(alloc: Global, held: &HeldGlob, output: &mut [u8], written: &mut usize) -> i32
-    ensures { HasTextAs held.now.glob output.old
+    ensures { HasTextAs held.now.matcher output.old
         (record { bytes = output.new; written = written.new }) result }
 {
-    answer_of(&write_text(alloc, &held.glob, output, written))
+    answer_of(&write_text(alloc, held.matcher.glob(), output, written))
 }
 
 fn write_text(

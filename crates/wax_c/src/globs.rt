@@ -7,7 +7,7 @@ ghost use Rattle.wax_c.specs.Outcomes.{AreLines, DecidesAs, FillsAs, IsGlobOf, I
 ghost use Rattle.wax_c.specs.Outcomes.{SaysGoesOn, SaysMatch};
 ghost use types.Logic.{sem};
 
-use crate::calls::{build, decide, decide_below, fill};
+use crate::calls::{build, decide_below, decide_cached, fill};
 use crate::error::{CallError, answer_of, status_of};
 use crate::handle::{GlobHandle, HeldGlob};
 use crate::loose::Loose;
@@ -51,35 +51,37 @@ pub extern "C" fn wax_glob_new(
     status_of(&outcome)
 }
 
-/// Returns 1 if the glob matches the path and 0 if not.
+/// Returns 1 if the glob matches the path and 0 if not. The handle keeps what it learns from the path
+/// for the next ones.
 ///
 /// # Errors
 ///
 /// Returns -10 if allocation fails, and -20 if the path isn't UTF-8.
 #[unsafe(no_mangle)]
-pub unsafe extern "C" fn wax_glob_is_match(alloc: Global, glob: *const u8, path: &[u8]) -> i32
+pub unsafe extern "C" fn wax_glob_is_match(alloc: Global, glob: *mut u8, path: &[u8]) -> i32
     ghost held: { GlobView }
     requires* { sem 𝓛 (glob_at alloc glob held) }
     ensures* back { sem 𝓛 (glob_at alloc glob held) }
     ensures answer { DecidesAs (SaysMatch held) path.now result }
 {
-    answer_held(alloc, &*(glob as *const HeldGlob), path)
+    answer_held(alloc, &mut *(glob as *mut HeldGlob), path)
 }
 
 /// Returns 1 if something below the folder with this path can match, that is, if the glob matches
-/// the path of something below it, and 0 if not. The empty path is the folder where paths begin.
+/// the path of something below it, and 0 if not. The empty path is the folder where paths begin. The
+/// handle keeps what it learns from the path for the next ones.
 ///
 /// # Errors
 ///
 /// Returns -10 if allocation fails, and -20 if the path isn't UTF-8.
 #[unsafe(no_mangle)]
-pub unsafe extern "C" fn wax_glob_goes_on(alloc: Global, glob: *const u8, folder: &[u8]) -> i32
+pub unsafe extern "C" fn wax_glob_goes_on(alloc: Global, glob: *mut u8, folder: &[u8]) -> i32
     ghost held: { GlobView }
     requires* { sem 𝓛 (glob_at alloc glob held) }
     ensures* back { sem 𝓛 (glob_at alloc glob held) }
     ensures answer { DecidesAs (SaysGoesOn held) folder.now result }
 {
-    answer_below(alloc, &*(glob as *const HeldGlob), folder)
+    answer_below(alloc, &mut *(glob as *mut HeldGlob), folder)
 }
 
 /// Writes the lines of the input that the glob matches to the beginning of the output, as
@@ -133,13 +135,15 @@ fn open(alloc: Global, expression: &[u8]) -> Opening
 }
 
 fn boxed(alloc: Global, expression: &[u8]) -> Result<Box<HeldGlob>, CallError>
-    ensures { MatchResult result (λ made. IsGlobOf expression.now made.value.glob) (IsNoGlob expression.now) }
+    ensures { MatchResult result (λ made. IsGlobOf expression.now made.value.matcher)
+        (IsNoGlob expression.now) }
 {
     let glob = build(alloc, expression)?;
     let Ok(glob) = glob.into_owned(alloc) else {
         return Err(CallError::Build(BuildError::Memory));
     };
-    match Box::new(alloc, HeldGlob { glob }) {
+    let matcher = glob.into_matcher(alloc);
+    match Box::new(alloc, HeldGlob { matcher }) {
         Ok(made) => Ok(made),
         Err(_) => Err(CallError::Build(BuildError::Memory)),
     }
@@ -161,16 +165,18 @@ pub(crate) fn place_of(outcome: &Result<(), CallError>) -> WaxSpan
     }
 }
 
-fn answer_held(alloc: Global, held: &HeldGlob, path: &[u8]) -> i32
-    ensures { DecidesAs (SaysMatch held.now.glob) path.now result }
+fn answer_held(_alloc: Global, held: &mut HeldGlob, path: &[u8]) -> i32
+    ensures { DecidesAs (SaysMatch held.old.matcher) path.now result × (held.new ≡ held.old) }
 {
-    answer_of(&decide(alloc, &held.glob, path))
+    let outcome = decide_cached(&mut held.matcher, path);
+    answer_of(&outcome)
 }
 
-fn answer_below(alloc: Global, held: &HeldGlob, folder: &[u8]) -> i32
-    ensures { DecidesAs (SaysGoesOn held.now.glob) folder.now result }
+fn answer_below(_alloc: Global, held: &mut HeldGlob, folder: &[u8]) -> i32
+    ensures { DecidesAs (SaysGoesOn held.old.matcher) folder.now result × (held.new ≡ held.old) }
 {
-    answer_of(&decide_below(alloc, &held.glob, folder))
+    let outcome = decide_below(&mut held.matcher, folder);
+    answer_of(&outcome)
 }
 
 fn fill_held(
@@ -180,10 +186,10 @@ fn fill_held(
     output: &mut [u8],
     written: &mut usize,
 ) -> i32
-    ensures { FillsAs (AreLines held.now.glob input.now) output.old
+    ensures { FillsAs (AreLines held.now.matcher input.now) output.old
         (record { bytes = output.new; written = written.new }) result }
 {
-    status_of(&fill(alloc, &held.glob, input, output, written))
+    status_of(&fill(alloc, held.matcher.glob(), input, output, written))
 }
 
 fn drop_glob(_held: Box<HeldGlob>) {}

@@ -7,12 +7,12 @@ ghost use denote.RawPtr.{null_ptr};
 use crate::loose::Loose;
 use std::alloc::Global;
 use std::marker::Model;
-use wax::Glob;
+use wax::OwnedGlobMatcher;
 
-/// What a handle points to.
+/// What a handle points to: a glob with what calls learned from paths.
 #[derive(Drop)]
 pub struct HeldGlob {
-    pub glob: Glob<'static>,
+    pub matcher: OwnedGlobMatcher<'static>,
 }
 
 /// A handle: a pointer to a glob that it owns, or a pointer that owns nothing.
@@ -33,7 +33,7 @@ impl Model for GlobHandle {
 impl GlobHandle {
     /// Converts what a box held into a handle.
     pub(crate) fn of(loose: Loose<HeldGlob, Global>) -> GlobHandle
-        ensures { result.held ≡ Some loose.value.glob }
+        ensures { result.held ≡ Some loose.value.matcher }
     {
         let Loose { at, alloc } = loose;
         GlobHandle {

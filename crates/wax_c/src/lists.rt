@@ -55,7 +55,7 @@ pub extern "C" fn wax_ignore_new(
 ///
 /// Returns -10 if allocation fails, and -20 if the path isn't UTF-8.
 #[unsafe(no_mangle)]
-pub unsafe extern "C" fn wax_ignore_is_ignored(alloc: Global, list: *const u8, path: &[u8]) -> i32
+pub unsafe extern "C" fn wax_ignore_is_ignored(alloc: Global, list: *mut u8, path: &[u8]) -> i32
     ghost held: { IgnoreList }
     requires* { sem 𝓛 (list_at alloc list held) }
     ensures* back { sem 𝓛 (list_at alloc list held) }
@@ -73,7 +73,7 @@ pub unsafe extern "C" fn wax_ignore_is_ignored(alloc: Global, list: *const u8, p
 #[unsafe(no_mangle)]
 pub unsafe extern "C" fn wax_ignore_filter(
     alloc: Global,
-    list: *const u8,
+    list: *mut u8,
     input: &[u8],
     output: &mut [u8],
     written: &mut usize,

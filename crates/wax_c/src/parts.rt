@@ -47,10 +47,10 @@ fn partition_held(
     written: &mut usize,
     rest: &mut GlobHandle,
 ) -> i32
-    ensures { IsPartitioned held.now.glob prefix.old
+    ensures { IsPartitioned held.now.matcher prefix.old
         (record { bytes = prefix.new; written = written.new }) rest.new result }
 {
-    let Splitting { outcome, handle } = split(alloc, &held.glob, prefix, written);
+    let Splitting { outcome, handle } = split(alloc, held.matcher.glob(), prefix, written);
     *rest = handle;
     status_of(&outcome)
 }
@@ -95,7 +95,7 @@ struct Parts {
 
 fn parts_of(alloc: Global, glob: &Glob<'_>) -> Result<Parts, CallError>
     ensures ok { IfOk result (λ parts. HasParts glob.now (chars (string_bytes parts.front))
-        (option_map (λ held. held.value.glob) parts.rest)) }
+        (option_map (λ held. held.value.matcher) parts.rest)) }
     ensures err { IfErr result (λ error. error ≡ CallError.Build BuildError.Memory) }
 {
     let Ok(copy) = glob.to_owned(alloc) else {
@@ -107,7 +107,8 @@ fn parts_of(alloc: Global, glob: &Glob<'_>) -> Result<Parts, CallError>
     let Some(glob) = rest else {
         return Ok(Parts { front, rest: None });
     };
-    match Box::new(alloc, HeldGlob { glob }) {
+    let matcher = glob.into_matcher(alloc);
+    match Box::new(alloc, HeldGlob { matcher }) {
         Ok(held) => Ok(Parts {
             front,
             rest: Some(held),
@@ -117,7 +118,7 @@ fn parts_of(alloc: Global, glob: &Glob<'_>) -> Result<Parts, CallError>
 }
 
 fn handle_of(alloc: Global, rest: Option<Box<HeldGlob>>) -> GlobHandle
-    ensures held { result.held ≡ option_map (λ held. held.value.glob) rest }
+    ensures held { result.held ≡ option_map (λ held. held.value.matcher) rest }
     ensures empty { IsNullIfEmpty result }
 {
     match rest {

@@ -8,12 +8,12 @@ ghost use denote.RawPtr.{null_ptr};
 use crate::loose::Loose;
 use std::alloc::Global;
 use std::marker::Model;
-use wax::Any;
+use wax::OwnedAnyMatcher;
 
-/// What a handle points to.
+/// What a handle points to: a set with what calls learned from paths.
 #[derive(Drop)]
 pub struct HeldSet {
-    pub set: Any<'static>,
+    pub matcher: OwnedAnyMatcher<'static>,
 }
 
 /// A handle: a pointer to a set that it owns, or a pointer that owns nothing.
@@ -34,7 +34,7 @@ impl Model for SetHandle {
 impl SetHandle {
     /// Converts what a box held into a handle.
     pub(crate) fn of(loose: Loose<HeldSet, Global>) -> SetHandle
-        ensures { result.held ≡ Some loose.value.set }
+        ensures { result.held ≡ Some loose.value.matcher }
     {
         let Loose { at, alloc } = loose;
         SetHandle {

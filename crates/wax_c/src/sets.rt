@@ -15,7 +15,7 @@ use crate::loose::Loose;
 use crate::output::write_over;
 use crate::set_handle::{HeldSet, SetHandle};
 use std::alloc::Global;
-use wax::{Any, BuildError, CandidatePath, Glob, Program, any};
+use wax::{BuildError, CandidatePath, Glob, OwnedAnyMatcher, any};
 
 // The result of a call that builds a handle. `which` is the index of the pattern with an error, or the
 // number of patterns.
@@ -57,39 +57,42 @@ pub extern "C" fn wax_set_new(
     status_of(&outcome)
 }
 
-/// Returns 1 if one of the patterns matches the path and 0 if not.
+/// Returns 1 if one of the patterns matches the path and 0 if not. The handle keeps what it learns from
+/// the path for the next ones.
 ///
 /// # Errors
 ///
 /// Returns -10 if allocation fails, and -20 if the path isn't UTF-8.
 #[unsafe(no_mangle)]
-pub unsafe extern "C" fn wax_set_is_match(alloc: Global, set: *const u8, path: &[u8]) -> i32
+pub unsafe extern "C" fn wax_set_is_match(alloc: Global, set: *mut u8, path: &[u8]) -> i32
     ghost held: { Tree Span }
     requires* { sem 𝓛 (set_at alloc set held) }
     ensures* back { sem 𝓛 (set_at alloc set held) }
     ensures answer { DecidesAs (SaysSetMatch held) path.now result }
 {
-    answer_held(alloc, &*(set as *const HeldSet), path)
+    answer_held(alloc, &mut *(set as *mut HeldSet), path)
 }
 
 /// Returns 1 if one of the patterns matches the path of something below the folder with this path, and
-/// 0 if none does. The empty path is the folder where paths begin.
+/// 0 if none does. The empty path is the folder where paths begin. The handle keeps what it learns from
+/// the path for the next ones.
 ///
 /// # Errors
 ///
 /// Returns -10 if allocation fails, and -20 if the path isn't UTF-8.
 #[unsafe(no_mangle)]
-pub unsafe extern "C" fn wax_set_goes_on(alloc: Global, set: *const u8, folder: &[u8]) -> i32
+pub unsafe extern "C" fn wax_set_goes_on(alloc: Global, set: *mut u8, folder: &[u8]) -> i32
     ghost held: { Tree Span }
     requires* { sem 𝓛 (set_at alloc set held) }
     ensures* back { sem 𝓛 (set_at alloc set held) }
     ensures answer { DecidesAs (SaysSetGoesOn held) folder.now result }
 {
-    answer_below(alloc, &*(set as *const HeldSet), folder)
+    answer_below(alloc, &mut *(set as *mut HeldSet), folder)
 }
 
 /// Writes the indexes of all patterns that match the path, ascending, to the beginning of `which`,
-/// and their number to `count`. Returns 0.
+/// and their number to `count`. Returns 0. The handle keeps what it learns from the path for the next
+/// ones.
 ///
 /// # Errors
 ///
@@ -98,7 +101,7 @@ pub unsafe extern "C" fn wax_set_goes_on(alloc: Global, set: *const u8, folder: 
 #[unsafe(no_mangle)]
 pub unsafe extern "C" fn wax_set_matches(
     alloc: Global,
-    set: *const u8,
+    set: *mut u8,
     path: &[u8],
     which: &mut [usize],
     count: &mut usize,
@@ -108,7 +111,7 @@ pub unsafe extern "C" fn wax_set_matches(
     ensures* back { sem 𝓛 (set_at alloc set held) }
     ensures lists { ListsMatchesAs held path.now which.old which.new count.new result }
 {
-    list_held(alloc, &*(set as *const HeldSet), path, which, count)
+    list_held(alloc, &mut *(set as *mut HeldSet), path, which, count)
 }
 
 /// Frees what the handle points to. A null handle is ignored.
@@ -146,7 +149,7 @@ fn boxed_set(
     patterns: &[u8],
     lengths: &[usize],
 ) -> Result<Box<HeldSet>, (CallError, usize)>
-    ensures { MatchResult result (λ made. IsSetOf (cut_each patterns.now lengths.now) made.value.set)
+    ensures { MatchResult result (λ made. IsSetOf (cut_each patterns.now lengths.now) made.value.matcher)
         (λ error. IsNoSet (cut_each patterns.now lengths.now) error.1 error.0) }
 {
     let globs = match globs_of(alloc, patterns, lengths) {
@@ -157,7 +160,8 @@ fn boxed_set(
         Ok(set) => set,
         Err(error) => return Err((CallError::Build(error), lengths.len())),
     };
-    match Box::new(alloc, HeldSet { set }) {
+    let matcher = set.into_matcher(alloc);
+    match Box::new(alloc, HeldSet { matcher }) {
         Ok(made) => Ok(made),
         Err(_) => Err((CallError::Build(BuildError::Memory), lengths.len())),
     }
@@ -190,68 +194,74 @@ fn globs_of<'e>(
     Ok(globs)
 }
 
-fn answer_held(alloc: Global, held: &HeldSet, path: &[u8]) -> i32
-    ensures { DecidesAs (SaysSetMatch held.now.set) path.now result }
+fn answer_held(_alloc: Global, held: &mut HeldSet, path: &[u8]) -> i32
+    ensures { DecidesAs (SaysSetMatch held.old.matcher) path.now result × (held.new ≡ held.old) }
 {
-    answer_of(&is_match(alloc, &held.set, path))
+    let outcome = is_match(&mut held.matcher, path);
+    answer_of(&outcome)
 }
 
-fn is_match(alloc: Global, set: &Any<'_>, path: &[u8]) -> Result<bool, CallError>
-    ensures { Decides (SaysSetMatch set.now) path.now result }
+fn is_match(matcher: &mut OwnedAnyMatcher<'_>, path: &[u8]) -> Result<bool, CallError>
+    ensures answer { Decides (SaysSetMatch matcher.old) path.now result }
+    ensures same { matcher.new ≡ matcher.old }
 {
     let Ok(path) = str::from_utf8(path) else {
         return Err(CallError::NotText);
     };
-    match set.is_match(alloc, &CandidatePath::from(path)) {
+    match matcher.is_match(&CandidatePath::from(path)) {
         Ok(answer) => Ok(answer),
         Err(_) => Err(CallError::Build(BuildError::Memory)),
     }
 }
 
-fn answer_below(alloc: Global, held: &HeldSet, folder: &[u8]) -> i32
-    ensures { DecidesAs (SaysSetGoesOn held.now.set) folder.now result }
+fn answer_below(_alloc: Global, held: &mut HeldSet, folder: &[u8]) -> i32
+    ensures { DecidesAs (SaysSetGoesOn held.old.matcher) folder.now result × (held.new ≡ held.old) }
 {
-    answer_of(&goes_on(alloc, &held.set, folder))
+    let outcome = goes_on(&mut held.matcher, folder);
+    answer_of(&outcome)
 }
 
-fn goes_on(alloc: Global, set: &Any<'_>, folder: &[u8]) -> Result<bool, CallError>
-    ensures { Decides (SaysSetGoesOn set.now) folder.now result }
+fn goes_on(matcher: &mut OwnedAnyMatcher<'_>, folder: &[u8]) -> Result<bool, CallError>
+    ensures answer { Decides (SaysSetGoesOn matcher.old) folder.now result }
+    ensures same { matcher.new ≡ matcher.old }
 {
     let Ok(folder) = str::from_utf8(folder) else {
         return Err(CallError::NotText);
     };
-    match set.goes_on(alloc, &CandidatePath::from(folder)) {
+    match matcher.goes_on(&CandidatePath::from(folder)) {
         Ok(goes_on) => Ok(goes_on),
         Err(_) => Err(CallError::Build(BuildError::Memory)),
     }
 }
 
 fn list_held(
-    alloc: Global,
-    held: &HeldSet,
+    _alloc: Global,
+    held: &mut HeldSet,
     path: &[u8],
     which: &mut [usize],
     count: &mut usize,
 ) -> i32
-    ensures { ListsMatchesAs held.now.set path.now which.old which.new count.new result }
+    ensures { ListsMatchesAs held.old.matcher path.now which.old which.new count.new result
+        × (held.new ≡ held.old) }
 {
-    status_of(&list(alloc, &held.set, path, which, count))
+    let outcome = list(&mut held.matcher, path, which, count);
+    status_of(&outcome)
 }
 
 fn list(
-    alloc: Global,
-    set: &Any<'_>,
+    matcher: &mut OwnedAnyMatcher<'_>,
     path: &[u8],
     which: &mut [usize],
     count: &mut usize,
 ) -> Result<(), CallError>
-    ensures { ListsMatches set.now path.now which.old which.new count.new result }
+    ensures lists { ListsMatches matcher.old path.now which.old which.new count.new result }
+    ensures same { matcher.new ≡ matcher.old }
 {
     *count = 0;
     let Ok(path) = str::from_utf8(path) else {
         return Err(CallError::NotText);
     };
-    let Ok(indexes) = set.matches(alloc, &CandidatePath::from(path)) else {
+    let Ok(indexes) = matcher.matches(&CandidatePath::from(path)) else {
         return Err(CallError::Build(BuildError::Memory));
     };
     *count = indexes.len();

@@ -63,7 +63,7 @@ wax_glob_facts_spec 𝓤 𝓛 𝓜 𝓡 wired =
     f.Key.name code.function (code.unfolded 𝓤 𝓛.H 𝓜 𝓡 wired)
     (λ κs. (told, (rawptr_vals, (mut_vals, tt))))
     (λ κs. (heap_laws.the_told.tells, (rawptr_Tells, (mut_Tells (named 0) κs.0 Facts, tt)))) (λ κs qs bounds a g are.
-    let held : R.Denot = record { glob = g } in let tok = ghosts.dealloc_token a.0 in
+    let held : R.Denot = record { matcher = g } in let tok = ghosts.dealloc_token a.0 in
     let w = a.1.1.0 in let κ₀ : Lft = κs.0 in
     let y : Ptr → W.Ghost = λ p. ((κs, qs, bounds, (a.0, (p, (w, tt))), (told a.0, (rawptr_vals p, (mut_vals w, tt)))), g) in
     let toks : Item 𝓤 = ‵ (flft κ₀ qs.0) ⊛ ‵ ftrue in

@@ -74,7 +74,7 @@ wax_glob_filter_spec 𝓤 𝓛 𝓜 𝓡 wired =
     f.Key.name code.function (code.unfolded 𝓤 𝓛.H 𝓜 𝓡 wired)
     (λ κs. (told, (rawptr_vals, (shr_slice_vals, (mut_slice_vals, (mut_vals, tt))))))
     (λ κs. (heap_laws.the_told.tells, (rawptr_Tells, (shr_slice_Tells (named 0) κs.0 u8, (mut_slice_Tells (named 1) κs.1.0 u8, (mut_Tells (named 2) κs.1.1.0 usize, tt)))))) (λ κs qs bounds a g are.
-    let held : R.Denot = record { glob = g } in let tok = ghosts.dealloc_token a.0 in
+    let held : R.Denot = record { matcher = g } in let tok = ghosts.dealloc_token a.0 in
     let t = a.1.1.0 in let m = a.1.1.1.0 in let w = a.1.1.1.1.0 in let κ₀ : Lft = κs.0 in let κ₁ : Lft = κs.1.0 in let κ₂ : Lft = κs.1.1.0 in
     let y : Ptr → W.Ghost = λ p. ((κs, qs, bounds, (a.0, (p, (t, (m, (w, tt))))), (told a.0, (rawptr_vals p, (shr_slice_vals t, (mut_slice_vals m, (mut_vals w, tt)))))), g) in
     let toks : Item 𝓤 = ‵ (flft κ₀ qs.0) ⊛ ‵ (flft κ₁ qs.1.0) ⊛ ‵ (flft κ₂ qs.1.1.0) ⊛ ‵ ftrue in

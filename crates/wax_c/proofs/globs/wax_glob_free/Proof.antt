@@ -88,7 +88,7 @@ dd = impl ("wax_c::Destruct++none::drop" ∷ []) (tcons (layout ZA) tnil) dnil
 module _ {M : Type 1} {𝓤 : Ura M} (𝓛 : Logic 𝓤) where
   -- it may be compared with null
   tested : (x : Z.Denot) (p : Ptr) (g : GlobView) → ent 𝓤 (sem 𝓛 (glob_at x p g)) (guard 𝓤 (Testable p) (sem 𝓛 (glob_at x p g)))
-  tested x p g = fact_use 𝓤 (Testable p) (via 𝓤 _ (snd∗ 𝓤 (sem 𝓛 (lies_at R full_share p (record { glob = g }))) (sem 𝓛 (ghosts.dealloc_token x (bare (lone R.mir)) p))) (dealloc_token-Testable 𝓛 x (bare (lone R.mir)) p)) (guard_i 𝓤 (Testable p) (sem 𝓛 (glob_at x p g)))
+  tested x p g = fact_use 𝓤 (Testable p) (via 𝓤 _ (snd∗ 𝓤 (sem 𝓛 (lies_at R full_share p (record { matcher = g }))) (sem 𝓛 (ghosts.dealloc_token x (bare (lone R.mir)) p))) (dealloc_token-Testable 𝓛 x (bare (lone R.mir)) p)) (guard_i 𝓤 (Testable p) (sem 𝓛 (glob_at x p g)))
 
 module _ {M : Type 1} {𝓤 : Ura M} (𝓛 : Logic 𝓤) (𝓜 : Model 𝓤 𝓛.H) (𝓡 : Running 𝓤 𝓛.H 𝓜) (wired : Wired 𝓡.env code.code)
     (x : Z.Denot) (fits : T (has_ty (layout Z) (heap_laws.the_told.val x)) × WT (heap_laws.the_told.val x)) where
@@ -119,9 +119,9 @@ module _ {M : Type 1} {𝓤 : Ura M} (𝓛 : Logic 𝓤) (𝓜 : Model 𝓤 𝓛
       (λ wrong. absurd wrong)))
   at_each p (Some g) = let 𝓣 = tables 𝓤 𝓛.H 𝓜 𝓡 𝓡.env in let tok = ghosts.dealloc_token x in
       qed 𝓛 (‵ (owns (Z ∷ RawPtr ∷ []) (x, (p, tt)) (told x, (rawptr_vals p, tt))) ∷ ‵ (glob_at x p g) ∷ []) ∵ fsplit ! $ move ! (1 ∷ []) $ drop ! $ move ! (1 ∷ []) $
-      in_a_block ! p (λ q. box_owns tok R q (record { glob = g })) (fst∗ 𝓤 (never 𝓤) (sem 𝓛 (tok (bare (lone R.mir)) null_ptr))) (λ b o e.
+      in_a_block ! p (λ q. box_owns tok R q (record { matcher = g })) (fst∗ 𝓤 (never 𝓤) (sem 𝓛 (tok (bare (lone R.mir)) null_ptr))) (λ b o e.
       regoal ! (λ q. prop (Runs q (Some g))) e refl $
-      use1 𝓛 (given (Testable (block_ptr b o)) (‵ (box_owns tok R (block_ptr b o) (record { glob = g })))) (tested 𝓛 x (block_ptr b o) g) $ learn ! (λ may.
+      use1 𝓛 (given (Testable (block_ptr b o)) (‵ (box_owns tok R (block_ptr b o) (record { matcher = g })))) (tested 𝓛 x (block_ptr b o) g) $ learn ! (λ may.
       -- [what lies there, and the right to free it; the allocator]
       enter ! _ _ _ _ _ $ alloc_all ! (λ l. pass_all ! refl (fits, ((tt, tt), tt)) $
       sets ! (bin ! (get ! refl) (lit ! tt) (tests_null (block_ptr b o) may)) refl (tt, tt) $
@@ -132,7 +132,7 @@ module _ {M : Type 1} {𝓤 : Ura M} (𝓛 : Logic 𝓤) (𝓜 : Model 𝓤 𝓛
       lft_new ! tt (λ α. lft_new ! tt (λ β.
       let κ : Lft = α ∷ [] in let μ : Lft = β ∷ [] in let toks : Item 𝓤 = ‵ (flft κ full_share) ⊛ ‵ (flft μ full_share) ⊛ ‵ ftrue in
       let k = triple_of 𝓛 (from.signature RA ZA ghosts dict dd) (from.spec RA ZA ghosts dict dd 𝓛 𝓜.mem 𝓡.returns) in
-      let z : k.Ghost = (((κ, (μ, tt)), (full_share, (full_share, tt)), tt, (x, (block_ptr b o, tt)), (told x, (vptr b o ∷ [], tt))), record { glob = g }) in
+      let z : k.Ghost = (((κ, (μ, tt)), (full_share, (full_share, tt)), tt, (x, (block_ptr b o, tt)), (told x, (vptr b o ∷ [], tt))), record { matcher = g }) in
       nothing ! $ move ! (1 ∷ 0 ∷ []) $ join ! $ move ! (1 ∷ 0 ∷ []) $ join ! $ move ! (1 ∷ []) $
       use0 𝓛 (raw (fact 𝓤 (μ ⊑ Z.lives))) (fact_i 𝓤 (μ ⊑ Z.lives) (emp 𝓤) (⊑_static μ)) $ join ! $
       use0 𝓛 (raw (fact 𝓤 (κ ⊑ R.lives))) (fact_i 𝓤 (κ ⊑ R.lives) (emp 𝓤) (⊑_static κ)) $ join ! $
@@ -143,7 +143,7 @@ module _ {M : Type 1} {𝓤 : Ura M} (𝓛 : Logic 𝓤) (𝓜 : Model 𝓤 𝓛
       (alloc_met.passed 𝓡.env (code.calls-std_heap::GlobalAllocator::allocate 𝓡.env wired) (code.calls-std_heap::GlobalAllocator::deallocate 𝓡.env wired) (code.calls-std_heap::GlobalAllocator::grow 𝓡.env wired) (code.calls-std_heap::GlobalAllocator::shrink 𝓡.env wired) M 𝓤 𝓛 𝓜 𝓡)
       (no_drop.glues "wax_c::Destruct++none::drop" 𝓡.env (code.calls-wax_c::Destruct++none::drop 𝓡.env wired) ZA ZA_laws M 𝓤 𝓛 𝓜 𝓡)) z
       (and_then ! (get ! refl) (and_then ! (get ! refl) (no_more !))) (λ u.
-      use1 𝓛 (later (some (λ (r : B.Denot). (toks ⊛ ‵ (B.own_val r (u ∷ []))) ⊛ raw (ensured 𝓛 (from.ended RA ZA ghosts dict dd) (from.clauses RA ZA ghosts dict dd 𝓛 𝓜.mem 𝓡.returns) z.0.0 z.0.3 (record { glob = g }) r)))) (id⊢ 𝓤 (k.post z u)) $
+      use1 𝓛 (later (some (λ (r : B.Denot). (toks ⊛ ‵ (B.own_val r (u ∷ []))) ⊛ raw (ensured 𝓛 (from.ended RA ZA ghosts dict dd) (from.clauses RA ZA ghosts dict dd 𝓛 𝓜.mem 𝓡.returns) z.0.0 z.0.3 (record { matcher = g }) r)))) (id⊢ 𝓤 (k.post z u)) $
       await ! tt $ pick ! (λ r. split ! $ move ! (1 ∷ []) $ drop ! $ split ! $ drop ! $
       peeks ! B (Is B) (shows 𝓛 B) r (u ∷ []) (λ is. lands_as ! refl refl (((box_laws.the_row_laws R Z ghosts R_laws heap_laws.the_row_laws).lawful 𝓛).typed r _ is).0 $
       -- drop_glob(..)

@@ -1,29 +1,28 @@
--- What lies at the handle is lent to `list_held` for a lifetime of its own, and comes back once that is over. The
--- output and the count are handed on for good.
-use Rattle.std.proofs.Common.{List, [], ◌∷◌, ◌++◌, refl, w32, Bor, ℤ}
+-- What lies at the handle is lent to `list_held` for a lifetime of its own, and comes back as it was once that is
+-- over. The output and the count are handed on for good.
+use Rattle.std.proofs.Common.{◌≡◌, List, [], ◌∷◌, ◌++◌, refl, w32, ℤ}
 use Rattle.std.proofs.raw_atomic.Walks.{proved}
 use Rattle.std.specs.Box.Ownership.{box_owns}
 use Rattle.std.specs.contracts.alloc.Global as heap
 use Rattle.std.proofs.alloc.Global.TheLaws as heap_laws
 use Rattle.std.specs.contracts.impls.GlobalAllocator.TheImpl.{ghosts}
 use Rattle.wax_c.specs.contracts.set_handle.HeldSet.{the_row as R}
-use Rattle.wax_c.proofs.set_handle.HeldSet.TheLaws.{the_row_laws as R_laws}
 use Rattle.wax_c.specs.contracts.sets.list_held as of
 use Rattle.wax_c.proofs.sets.list_held.Met as of_met
 use Rattle.wax_c.specs.Sets.{ListsMatchesAs}
 use base.Fraction.{full_share}
 use base.Logic.{id⊢, never, fst∗}
-use base.Fml.{Lft, ftrue, flft, flent, Incl-refl}
+use base.Fml.{Lft, GName, ftrue, flft, flent, fres}
 use mir.Syntax.{named}
 use mir.Raw.{raw as bare}
 use mir.Val.{Val, vptr}
 use prog.Wp.{WpFn}
-use contract.BorrowLft.{⊑_static}
 use contract.Monad.{fact}
 use contract.Running.{tables}
 use types.Logic.{sem}
-use types.Kit.{Item, feq_l, ‵, raw, prop, ◌⊛◌, some, later, ◌$◌, ◌∵◌, !, qed, move, drop, use1, use2, split, join, pick, fsplit, fjoin, regoal, suffices, frame, group, await, done}
-use types.Tokens.{lft_new, lft_end, lent_back}
+use types.Kit.{Item, feq_l, ‵, raw, prop, ◌⊛◌, some, later, ◌$◌, ◌∵◌, !, qed, move, drop, use1, use2, use3, rewrite, split, join, pick, fsplit, fjoin, regoal, suffices, frame, group, await, done}
+use types.Tokens.{lft_new, lft_end}
+use types.SemTy.{Body}
 use types.Run.{and_then, no_more, addr, stop, fld, hop, from, of_opd, returns, enter}
 use types.Part.{agg, sub, whole}
 use types.ByLocal.{get_in, look_in_at, alloc_all, pass_all, free_all, look_at, get, through, sets, lands_as}
@@ -32,11 +31,11 @@ use denote.Signature.{plain}
 use denote.Builtin.{u8, i32, usize, RawPtr, SliceRefOf}
 use denote.Exit.{yes}
 use denote.Laws.{Is, shows}
-use denote.Lend.{lends_shr}
-use denote.Memory.{part_at, lone}
+use denote.Lend.{lends_ref, ref_back}
+use denote.Memory.{mem, part_at, lone}
 use denote.Signed.{sint_Lawful}
 use denote.RawPtr.{Ptr, block_ptr, null_ptr, rawptr_vals, rawptr_Tells, in_a_block}
-use denote.Ref.{ShrRef, MutRef, mut_vals, mut_Tells}
+use denote.Ref.{MutBor, MutRef, mut_vals, mut_Tells}
 use denote.Slice.{MutSlice, mut_slice_vals, mut_slice_Tells, mut_slice_Lawful, shr_slice_vals, shr_slice_Tells, shr_slice_Lawful, ShrSlice}
 use denote.Steps.{nothing, heard, peeks}
 use denote.Triple.Call.{calls_at}
@@ -74,7 +73,7 @@ wax_set_matches_spec 𝓤 𝓛 𝓜 𝓡 wired =
     f.Key.name code.function (code.unfolded 𝓤 𝓛.H 𝓜 𝓡 wired)
     (λ κs. (told, (rawptr_vals, (shr_slice_vals, (mut_slice_vals, (mut_vals, tt))))))
     (λ κs. (heap_laws.the_told.tells, (rawptr_Tells, (shr_slice_Tells (named 0) κs.0 u8, (mut_slice_Tells (named 1) κs.1.0 usize, (mut_Tells (named 2) κs.1.1.0 usize, tt)))))) (λ κs qs bounds a g are.
-    let held : R.Denot = record { set = g } in let tok = ghosts.dealloc_token a.0 in
+    let held : R.Denot = record { matcher = g } in let tok = ghosts.dealloc_token a.0 in
     let t = a.1.1.0 in let m = a.1.1.1.0 in let w = a.1.1.1.1.0 in let κ₀ : Lft = κs.0 in let κ₁ : Lft = κs.1.0 in let κ₂ : Lft = κs.1.1.0 in
     let y : Ptr → W.Ghost = λ p. ((κs, qs, bounds, (a.0, (p, (t, (m, (w, tt))))), (told a.0, (rawptr_vals p, (shr_slice_vals t, (mut_slice_vals m, (mut_vals w, tt)))))), g) in
     let toks : Item 𝓤 = ‵ (flft κ₀ qs.0) ⊛ ‵ (flft κ₁ qs.1.0) ⊛ ‵ (flft κ₂ qs.1.1.0) ⊛ ‵ ftrue in
@@ -91,11 +90,11 @@ wax_set_matches_spec 𝓤 𝓛 𝓜 𝓡 wired =
     sets ! (addr ! (from ! (fld ! refl (hop ! (look_in_at ! 4 (sub ! 0 refl (whole !))) (stop !))))) refl (tt, tt) $
     sets ! (agg ! (and_then ! (get ! refl) (and_then ! (get_in ! (fld ! refl (stop !)) (sub ! 1 refl (whole !))) (no_more !)))) refl room $
     sets ! (addr ! (through ! refl (stop !))) refl (tt, tt) $
-    lft_new ! tt (λ α. let κ : Lft = α ∷ [] in move ! (1 ∷ 0 ∷ []) $
-    use2 𝓛 (later ((‵ ((ShrRef (named 0) κ R).own_val (record { ref_ptr = (b, o); now = held }) (vptr b o ∷ [])) ⊛ ‵ (flent κ (part_at R full_share held b o))) ⊛ ‵ (flft κ full_share)))
-    (lends_shr 𝓛 R (named 0) κ full_share held b o R.lives (R_laws.shares 𝓛 held) ((κ, full_share) ∷ []) (⊑_static κ) (Incl-refl κ)) $ await ! tt $ split ! $ split ! $
+    lft_new ! tt (λ α. let κ : Lft = α ∷ [] in move ! (1 ∷ []) $
+    use1 𝓛 (later (some (λ (γ : GName). ‵ ((MutRef (named 0) κ R).own_val (record { ref_ptr = (b, o); ghost_name = γ; now = held }) (vptr b o ∷ [])) ⊛ ‵ (flent κ (Body (mem R) b o γ)))))
+    (lends_ref 𝓛 R (named 0) κ held b o) $ await ! tt $ pick ! (λ γ. split ! $
     -- [the reference; the right to what lies there; its token; the right to free; the path; the rest; the allocator; the tokens]
-    let s : Bor R.Denot = record { ref_ptr = (b, o); now = held } in
+    let s : MutBor R.Denot = record { ref_ptr = (b, o); ghost_name = γ; now = held } in
     let G = triple_of 𝓛 of.signature (of.spec 𝓛 𝓜.mem 𝓡.returns) in
     let z : G.Ghost = (((κ, (κ₀, (κ₁, (κ₂, tt)))), (full_share, (qs.0, (qs.1.0, (qs.1.1.0, tt)))), tt, (a.0, (s, (t, (m, (w, tt))))), (told a.0, (vptr b o ∷ [], (shr_slice_vals t, (mut_slice_vals m, (mut_vals w, tt)))))), tt) in
     move ! (4 ∷ 5 ∷ []) $ fjoin ! $ move ! (1 ∷ 0 ∷ []) $ fjoin ! $ move ! (4 ∷ 0 ∷ []) $ fjoin ! $
@@ -103,17 +102,20 @@ wax_set_matches_spec 𝓤 𝓛 𝓜 𝓡 wired =
     calls_at ! (framed 𝓤 𝓛.H 𝓜 𝓣) G (of_met.met 𝓤 𝓛 𝓜 𝓡 (code.calls-wax_c::sets::list_held 𝓡.env wired)) z
     (and_then ! (get ! refl) (and_then ! (get ! refl) (and_then ! (get ! refl) (and_then ! (get ! refl) (and_then ! (get ! refl) (no_more !)))))) (λ v.
     use1 𝓛 (later (some (λ (r : ℤ). ((‵ (flft κ full_share) ⊛ toks) ⊛ ‵ (i32.own_val r (v ∷ []))) ⊛ some (λ (ws : Lasts of.ended z.0.0 z.0.3). ‵ (lasts of.ended z.0.0 z.0.3 ws) ⊛
-    raw (fact 𝓤 (ListsMatchesAs g t.now m.now ws.1.1.1.0 ws.1.1.1.1.0 r)))))) (id⊢ 𝓤 _) $
+    raw (fact 𝓤 (ListsMatchesAs g t.now m.now ws.1.1.1.0 ws.1.1.1.1.0 r × (ws.1.0 ≡ held))))))) (id⊢ 𝓤 _) $
     await ! tt $ pick ! (λ r. split ! $ move ! (1 ∷ []) $ pick ! (λ ws. split ! $ move ! (1 ∷ []) $ heard ! _ (λ told_so.
-    -- the output and the count at the end
-    fsplit ! $ drop ! $ fsplit ! $ drop ! $ fsplit ! $ drop ! $ fsplit ! $ fsplit ! $ fsplit ! $ move ! (1 ∷ []) $ feq_l ! (λ same. fjoin ! $
+    -- the set's last value, which is its first; then the output and the count at the end
+    fsplit ! $ drop ! $ fsplit ! $ fsplit ! $ move ! (1 ∷ []) $ drop ! $
+    rewrite ! 0 (λ (u : R.Denot). ‵ (fres γ (R.coded.code u))) told_so.1 refl $
+    move ! (1 ∷ []) $ fsplit ! $ drop ! $ fsplit ! $ fsplit ! $ fsplit ! $ move ! (1 ∷ []) $ feq_l ! (λ same. fjoin ! $
     move ! (1 ∷ []) $ fsplit ! $ move ! (1 ∷ []) $ drop ! $
     nothing ! $ move ! (1 ∷ 0 ∷ []) $ join ! $ move ! (1 ∷ 0 ∷ []) $ join ! $ nothing ! $ join ! $ nothing ! $ join ! $ nothing ! $ join ! $
-    -- [the parameters; the tokens and the answer; the right to what lies there; the right to free]
-    move ! (1 ∷ []) $ split ! $ split ! $ lft_end ! tt $ move ! (0 ∷ 4 ∷ []) $ lent_back ! tt $
+    -- [the parameters; the set's value; the tokens and the answer; the right to what lies there; the right to free]
+    move ! (2 ∷ []) $ split ! $ split ! $ lft_end ! tt $ move ! (0 ∷ 5 ∷ 4 ∷ []) $
+    use3 𝓛 (later (‵ (part_at R full_share held b o))) (ref_back 𝓛 R κ γ held b o) $ await ! tt $
     -- [what lies there; the tokens; the answer; the parameters; the right to free]
     move ! (2 ∷ []) $ peeks ! i32 (Is i32) (shows 𝓛 i32) r (v ∷ []) (λ is. lands_as ! refl refl ((sint_Lawful 𝓛 w32).typed r _ is).0 $
     returns ! (look_at ! 0 refl) $ free_all ! refl $
     suffices ! _ (ends_at 𝓛 f.ended stayed c (y (block_ptr b o)) v r (tt, (tt, (tt, (ws.1.1.1.0, (ws.1.1.1.1.0, tt))))) (tt, (tt, (tt, (same, (tt, tt)))))) $
     -- [the answer; what lies there; the tokens; the parameters; the right to free]
-    move ! (2 ∷ 3 ∷ 0 ∷ []) $ group ! 3 $ frame ! $ says ! told_so $ fjoin ! $ done !))))))))))
+    move ! (2 ∷ 3 ∷ 0 ∷ []) $ group ! 3 $ frame ! $ says ! told_so.0 $ fjoin ! $ done !)))))))))))
