@@ -27,7 +27,8 @@ excludes_pattern inner outer SpellsTree rule is seen =
 
 module _ {D C : Type 0} (law : Law D C) (inner outer : WalkView D) where
   -- the tree that is spelled is the only one
-  pub comes_excluding_pattern : (SpellsTree : Tree Span → Type 0) (rule : Candidate → Mark) → IsExclusionOf SpellsTree rule
+  pub comes_excluding_pattern : (SpellsTree : Tree Span → Type 0) (rule : Candidate → Mark)
+      → IsExclusionOf SpellsTree rule
       → IsSeenAs (ruled_view inner rule false) outer
       → (t : Tree Span) → SpellsTree t → ComesExcluding law (not_meant t) inner outer
   comes_excluding_pattern SpellsTree rule left seen t spells =
@@ -35,7 +36,8 @@ module _ {D C : Type 0} (law : Law D C) (inner outer : WalkView D) where
       comes_excluding law (not_meant t) rule inner outer
       (λ c. ap (λ r. r c) (left.2 ∙ ap not_mark (sym same))) seen
 
-  pub comes_ignoring : (held : List IgnoreLine) → IsSeenAs (ruled_view inner (λ c. listed_mark held c) false) outer
+  pub comes_ignoring : (held : List IgnoreLine)
+      → IsSeenAs (ruled_view inner (λ c. listed_mark held c) false) outer
       → (lines : List (Line Span)) → HasLines held lines → ComesExcluding law (not_ignored lines) inner outer
   comes_ignoring held seen lines has =
       comes_excluding law (not_ignored lines) (λ c. listed_mark held c) inner outer

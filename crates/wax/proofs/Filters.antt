@@ -1,5 +1,6 @@
 -- Several patterns as one filter.
-use Rattle.std.proofs.Common.{◌≡◌, ◌↔◌, ◌++◌, ◌∷◌, ℕ, Bool, IfOk, IsTrue, List, Result, [], inr, map, refl, sym, ap, true, ◌∙◌}
+use Rattle.std.proofs.Common.{◌≡◌, ◌↔◌, ◌++◌, ◌∷◌, ℕ, Bool, IfOk, IsTrue, List, Result, [], inr, map, refl}
+use Rattle.std.proofs.Common.{sym, ap, true, ◌∙◌}
 use Rattle.std.proofs.lemmas.List.{append_assoc}
 use Rattle.std.specs.List.{AllZip}
 use Rattle.wax_token.specs.Reads.{Span}
@@ -30,7 +31,8 @@ module _ {P E : Type 0} (S : P → Tree Span → Type 0) (rule : E → Candidate
   abbrev pub Excluded : List P → List E → Type 0
   Excluded ps es = AllZip (λ p e. IsExclusionOf (S p) (rule e)) ps es
 
-  pub one_more_excluded : (ps : List P) (es : List E) (p : P) (e : E) → Excluded ps es → IsExclusionOf (S p) (rule e) →
+  pub one_more_excluded : (ps : List P) (es : List E) (p : P) (e : E) → Excluded ps es
+      → IsExclusionOf (S p) (rule e) →
       Excluded (ps ++ p ∷ []) (es ++ e ∷ [])
   one_more_excluded [] [] p e h k = (k, tt)
   one_more_excluded [] (f ∷ es) p e h k = absurd h
@@ -39,7 +41,8 @@ module _ {P E : Type 0} (S : P → Tree Span → Type 0) (rule : E → Candidate
 
   -- the trees of their patterns
   abbrev Trees : List P → List E → Type 0
-  Trees ps es = (ts : List (Tree Span)) × SpellEach (λ p. FitsAlone (S p)) ps ts × (map rule es ≡ map not_mark ts)
+  Trees ps es = (ts : List (Tree Span)) × SpellEach (λ p. FitsAlone (S p)) ps ts
+      × (map rule es ≡ map not_mark ts)
 
   trees_of : (ps : List P) (es : List E) → Excluded ps es → Trees ps es
   trees_of [] [] h = ([], tt, refl)
@@ -47,16 +50,22 @@ module _ {P E : Type 0} (S : P → Tree Span → Type 0) (rule : E → Candidate
   trees_of (p ∷ ps) [] h = absurd h
   trees_of (p ∷ ps) (e ∷ es) h =
       let rest = trees_of ps es h.1 in
-      let (t, fits, same) = h.0 in
-      (t ∷ rest.0, ((fits, λ u k. fits.only.1 u k.only.0), rest.1), ap (λ r. r ∷ map rule es) same ∙ ap (λ rs. not_mark t ∷ rs) rest.2)
+      let (t, fits, same) = h.0 in (
+        t ∷ rest.0,
+        ((fits, λ u k. fits.only.1 u k.only.0), rest.1),
+        ap (λ r. r ∷ map rule es) same ∙ ap (λ rs. not_mark t ∷ rs) rest.2,
+      )
 
-  pub any_excluded : (ps : List P) (es : List E) (any : Candidate → Mark) → Excluded ps es → any ≡ any_mark (map rule es) →
+  pub any_excluded : (ps : List P) (es : List E) (any : Candidate → Mark) → Excluded ps es
+      → any ≡ any_mark (map rule es) →
       IsAnyExclusionOf S ps any
   any_excluded ps es any h same =
       let found = trees_of ps es h in (found.0, found.1, same ∙ ap any_mark found.2)
 
-  pub first_refused : (R : P → BuildError → Type 0) (all before : List P) (es : List E) (p : P) (left after : List P)
-      (e : BuildError) → Excluded before es → before ++ left ≡ all → left ≡ p ∷ after → NoExclusion (S p) (R p) e →
+  pub first_refused : (R : P → BuildError → Type 0) (all before : List P) (es : List E) (p : P)
+      (left after : List P)
+      (e : BuildError) → Excluded before es → before ++ left ≡ all → left ≡ p ∷ after
+      → NoExclusion (S p) (R p) e →
       NoAnyExclusion S R all e
   first_refused R all before es p left after e h joined taken refused =
       let found = trees_of before es h in
@@ -71,7 +80,8 @@ module _ {P E : Type 0} (S : P → Tree Span → Type 0) (rule : E → Candidate
       })
 
 -- what a rule says of a folder, for each filter whose rule it is
-module _ {E : Type 0} (r : Result Bool E) (said rule : Candidate → Mark) (same : said ≡ rule) (folder : List ℕ)
+module _ {E : Type 0} (r : Result Bool E) (said rule : Candidate → Mark)
+    (same : said ≡ rule) (folder : List ℕ)
     (says : IfOk r (λ answer. IsTrue answer ↔ (said (folder_at folder) ≡ with_tree))) where
   pub filter_covers : IfOk r (λ answer. (x : Filter Span) → IsRuleOf x rule
       → IsTrue answer ↔ ExcludesBelow x (folder_at folder))

@@ -7,7 +7,8 @@ use Rattle.wax_token.specs.Reads.{Span}
 use Rattle.wax_token.specs.Syntax.{Tree, Trees}
 use Rattle.wax_token.specs.Words.{members}
 
-members_in : (t : Tree Span) (folder : List ℕ) → ((text : List ℕ) → MeansEach (members t) false false text ↔ IsInFolder folder text)
+members_in : (t : Tree Span) (folder : List ℕ)
+    → ((text : List ℕ) → MeansEach (members t) false false text ↔ IsInFolder folder text)
     → (text : List ℕ) → Means t false false text ↔ IsInFolder folder text
 members_in t folder h text = (
   λ meant. (h text).0 (as_members t false false text meant),
@@ -16,8 +17,10 @@ members_in t folder h text = (
 
 -- what the tokens of a glob match, the glob matches
 pub folder_meant : (t : Tree Span) (ts : Trees Span) (known : Option (Bor (List ℕ))) → ts ≡ members t
-    → IfSome known (λ folder. (text : List ℕ) → MeansEach ts false false text ↔ IsInFolder (chars folder.now) text)
+    → IfSome known
+    (λ folder. (text : List ℕ) → MeansEach ts false false text ↔ IsInFolder (chars folder.now) text)
     → IfSome known (λ folder. (text : List ℕ) → Means t false false text ↔ IsInFolder (chars folder.now) text)
 folder_meant t ts None e h = h
 folder_meant t ts (Some folder) e h =
-    members_in t (chars folder.now) (subst (λ us. (text : List ℕ) → MeansEach us false false text ↔ IsInFolder (chars folder.now) text) e h)
+    members_in t (chars folder.now) (subst
+    (λ us. (text : List ℕ) → MeansEach us false false text ↔ IsInFolder (chars folder.now) text) e h)

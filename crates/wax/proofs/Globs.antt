@@ -1,5 +1,6 @@
 -- The globs of the empty expression and of `**`.
-use Rattle.std.proofs.Common.{◌≡◌, ◌==◌, ◌↔◌, ◌∙◌, ℕ, Bool, false, List, [], ◌∷◌, length, codes, IsTrue, IsUtf8}
+use Rattle.std.proofs.Common.{◌≡◌, ◌==◌, ◌↔◌, ◌∙◌, ℕ, Bool, false, List, [], ◌∷◌, length, codes, IsTrue}
+use Rattle.std.proofs.Common.{IsUtf8}
 use Rattle.std.proofs.Common.{ap, arith, inl, inr, refl, rules, sym, subst}
 use Rattle.std.proofs.lemmas.Str.{chars-nil, encodes-chars}
 use Rattle.std.specs.Str.{chars}
@@ -35,13 +36,18 @@ tree_spelled = (
   at_end,
   (
     unlike,
-    (at_end, (start (codes "**"), no_flags, (refl, at_end, (refl, refl), inr (refl, refl)), (refl, refl)), refl),
+    (
+      at_end,
+      (start (codes "**"), no_flags, (refl, at_end, (refl, refl), inr (refl, refl)), (refl, refl)),
+      refl,
+    ),
     (refl, refl),
     refl,
   ),
 )
 
-pub is_tree_glob : (g : GlobView) → g.expression ≡ codes "**" → ((t : Tree Span) → Reads (codes "**") t → t ≡ g.tree) → IsTreeGlob g
+pub is_tree_glob : (g : GlobView) → g.expression ≡ codes "**"
+    → ((t : Tree Span) → Reads (codes "**") t → t ≡ g.tree) → IsTreeGlob g
 is_tree_glob g e only = record {
   expression = e;
   tree = sym (only tree_alone tree_spelled);
@@ -49,11 +55,13 @@ is_tree_glob g e only = record {
 }
 
 -- a literal without characters is the tree of the empty expression
-pub leaf_empty : (t : Tree Span) → IsKept t → (a : Span) (b : Bool) (x : List ℕ) → t ≡ leaf a (literal b x) → x ≡ [] → t ≡ empty_tree
+pub leaf_empty : (t : Tree Span) → IsKept t → (a : Span) (b : Bool) (x : List ℕ) → t ≡ leaf a (literal b x)
+    → x ≡ [] → t ≡ empty_tree
 leaf_empty t (inl o) a b x e n = absurd ((subst Worded e o.2).0 n)
 leaf_empty t (inr q) a b x e n = q
 
-pub empty_leaf : (t : Tree Span) (a : Span) (b : Bool) (x : List ℕ) → t ≡ leaf a (literal b x) → t ≡ empty_tree → x ≡ []
+pub empty_leaf : (t : Tree Span) (a : Span) (b : Bool) (x : List ℕ) → t ≡ leaf a (literal b x)
+    → t ≡ empty_tree → x ≡ []
 empty_leaf t a b x e q = cc
 
 -- ---- texts

@@ -1,5 +1,6 @@
 -- A glob's walk may go to its prefix, and no deeper than its texts.
-use Rattle.std.proofs.Common.{◌≡◌, ◌==◌, ◌||◌, ℕ, Bool, true, false, List, [], ◌∷◌, map, inl, inr, refl, sym, subst, ap, chars}
+use Rattle.std.proofs.Common.{◌≡◌, ◌==◌, ◌||◌, ℕ, Bool, true, false, List, [], ◌∷◌, map, inl, inr, refl, sym}
+use Rattle.std.proofs.Common.{subst, ap, chars}
 use Rattle.std.specs.List.{list_any}
 use Rattle.std.proofs.lemmas.Bool.{or_parts}
 use Rattle.wax_facts.specs.Orderly.{Worded, WordedEach, WordedLeaf}
@@ -12,7 +13,8 @@ use Rattle.wax_query.specs.Ranges.{AtMost, Bounds}
 use Rattle.wax_token.specs.Meaning.{HasNoSlash, Means}
 use Rattle.wax_token.specs.Reads.{Span, is_one_of}
 use Rattle.wax_token.specs.Spelled.{AllHaveNoSlash, LeafHasNoSlash, LiteralsHaveNoSlash}
-use Rattle.wax_token.specs.Syntax.{Leaf, literal, class, separator, one, zero_or_more, tree, Tree, Trees, leaf, alternation, concatenation, repetition, none, more}
+use Rattle.wax_token.specs.Syntax.{Leaf, literal, class, separator, one, zero_or_more, tree, Tree, Trees}
+use Rattle.wax_token.specs.Syntax.{leaf, alternation, concatenation, repetition, none, more}
 use Rattle.wax_tree.specs.Prefix.{ArePlain}
 use Rattle.wax_tree.specs.declared.steps.DepthRange.{DepthRange}
 use Rattle.wax_exclude.specs.Wanted.{Filter}
@@ -26,7 +28,8 @@ use Rattle.wax.specs.GlobWalks.{Beginning, wants, origin_from, within}
 has_no_slash : (t : List ℕ) → list_any (is_one_of (47 ∷ 92 ∷ [])) t ≡ false → HasNoSlash t
 has_no_slash [] e = tt
 has_no_slash (c ∷ t) e =
-    let k : ((47 == c) || ((92 == c) || false) ≡ false) × (list_any (is_one_of (47 ∷ 92 ∷ [])) t ≡ false) = or_parts (is_one_of (47 ∷ 92 ∷ []) c) (list_any (is_one_of (47 ∷ 92 ∷ [])) t) e in
+    let k : ((47 == c) || ((92 == c) || false) ≡ false) × (list_any (is_one_of (47 ∷ 92 ∷ [])) t ≡ false) =
+    or_parts (is_one_of (47 ∷ 92 ∷ []) c) (list_any (is_one_of (47 ∷ 92 ∷ [])) t) e in
     let n : (47 == c) ≡ false = (or_parts (47 == c) ((92 == c) || false) k.0).0 in
     ((λ f. (let g : (47 == c) ≡ true = ap (λ z. 47 == z) f in cc)), has_no_slash t k.1)
 
@@ -55,8 +58,10 @@ kept_slashless t (inr e) = subst LiteralsHaveNoSlash (sym e) tt
 
 -- ---- what a walk of a glob may do
 
-pub can_walk : (t : Tree Span) → IsKept t → (depth : Bounds) → ((s : List ℕ) → Means t false false s → AtMost (component_total s) depth.1) →
-    (start : List ℕ) (asked : DepthRange) (b : Beginning t) (filters : List (Filter Span)) → ArePlain b.names →
+pub can_walk : (t : Tree Span) → IsKept t → (depth : Bounds)
+    → ((s : List ℕ) → Means t false false s → AtMost (component_total s) depth.1) →
+    (start : List ℕ) (asked : DepthRange) (b : Beginning t) (filters : List (Filter Span)) → ArePlain b.names
+    →
     CanWalk (wants t b filters) asked (within asked depth) (origin_from start b.rooted b.names)
 can_walk t kept depth bound start asked b filters plain =
     let k = b.names_are in
@@ -67,9 +72,11 @@ can_walk t kept depth bound start asked b filters plain =
       least = refl;
       greatest = greatest_at t b.rooted asked.max depth.1 bound;
       candidate = candidate_is start b.rooted b.names;
-      begins = subst (λ ns. BeginsWith b.rooted t (map chars ns)) same (begins_with t b.taken k.text b.rooted b.names k.encoded prefix k.split);
+      begins = subst (λ ns. BeginsWith b.rooted t (map chars ns)) same
+          (begins_with t b.taken k.text b.rooted b.names k.encoded prefix k.split);
       plain = subst ArePlain same plain;
     }
 
-pub none_match : (t : Tree Span) → IsKept t → (taken : ℕ) (prefix : List ℕ) → Prefix t taken prefix → HasEmptyName prefix → (rooted : Bool) → IsUnmeant rooted t
+pub none_match : (t : Tree Span) → IsKept t → (taken : ℕ) (prefix : List ℕ) → Prefix t taken prefix
+    → HasEmptyName prefix → (rooted : Bool) → IsUnmeant rooted t
 none_match t kept taken prefix p empty = beginnings.none_match t taken prefix p empty

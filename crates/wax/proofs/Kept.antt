@@ -1,8 +1,11 @@
--- What is kept of a glob's walk, whatever the directory shows, and where two `/` stand side by side in the prefix.
-use Rattle.std.proofs.Common.{◌≡◌, ◌∙◌, ℕ, ◌+◌, ◌≤◌, false, List, [], ◌∷◌, ◌++◌, filter, refl, ap, subst, arith, inl, inr}
+-- What is kept of a glob's walk, whatever the directory shows, and where two `/` stand
+-- side by side in the prefix.
+use Rattle.std.proofs.Common.{◌≡◌, ◌∙◌, ℕ, ◌+◌, ◌≤◌, false, List, [], ◌∷◌, ◌++◌, filter, refl, ap, subst}
+use Rattle.std.proofs.Common.{arith, inl, inr}
 use Rattle.wax_directory.specs.Counting.{grown}
 use Rattle.wax_directory.specs.Law.{Law}
-use Rattle.wax_walk.specs.Collected.{Yielded, whole, lacks_memory, over_budget, Took, all_fault_counts, all_items_lost, count_to_open}
+use Rattle.wax_walk.specs.Collected.{Yielded, whole, lacks_memory, over_budget, Took, all_fault_counts}
+use Rattle.wax_walk.specs.Collected.{all_items_lost, count_to_open}
 use Rattle.wax_walk.specs.Forest.{nothing, pending}
 use Rattle.wax_walk.specs.Candidates.{Candidate}
 use Rattle.wax_walk.specs.Given.{Mark, Given, is_kept, no_memory}
@@ -16,14 +19,16 @@ use Rattle.wax_token.specs.Syntax.{Tree}
 use Rattle.wax_tree.specs.declared.steps.DepthRange.{DepthRange}
 use Rattle.wax_tree.proofs.Reaching.{errors_passed}
 use Rattle.wax_exclude.specs.Pruned.{Pruning}
-use Rattle.wax.specs.GlobWalks.{BeginsBy, BeginsGlob, FailsAtFolders, GaveBy, KeepsNothing, none_kept, memory_alone}
+use Rattle.wax.specs.GlobWalks.{BeginsBy, BeginsGlob, FailsAtFolders, GaveBy, KeepsNothing, none_kept}
+use Rattle.wax.specs.GlobWalks.{memory_alone}
 
 pub gave_within : (pruning : Pruning) {D C : Type 0} (t : Tree Span) (law : Law D C) (d : D) (start : List ℕ)
     (asked : DepthRange) (v : WalkView D) (rule : Candidate → Mark) (new : D) (xs : List Given)
     → BeginsBy pruning t law d start asked v → Took law (ruled_view v rule false) new xs
     → GaveBy pruning t law d asked new xs
 gave_within pruning t law d start asked v rule new xs begins took = let over = begins.directory in record {
-  counts = subst (λ w. CountsFaults (all_fault_counts xs) (all_items_lost xs) (law.tally w) (law.tally new)) over
+  counts =
+      subst (λ w. CountsFaults (all_fault_counts xs) (all_items_lost xs) (law.tally w) (law.tally new)) over
       took.counts;
   taken = took.taken;
   counted = took.counted ∙ ap (λ w. grown took.taken (law.tally w).items) over;
@@ -45,7 +50,8 @@ gave_within pruning t law d start asked v rule new xs begins took = let over = b
       elim e.2 [
         | inl l ↦ inl (begins.depth, begins.depth_is, l)
         | inr t ↦ inr (lacks_given (ruled_view v rule false) took.told xs
-            (lacks_ruled v (ruled_view v rule false) rule (seen_itself (ruled_view v rule false)) t) took.course)
+            (lacks_ruled v (ruled_view v rule false) rule (seen_itself (ruled_view v rule false)) t)
+            took.course)
       ],
     )
   ];
@@ -87,11 +93,13 @@ all_listed : (listed : List (List ℕ)) → listed ++ [] ≡ listed
 all_listed [] = refl
 all_listed (x ∷ listed) = ap (λ l. x ∷ l) (all_listed listed)
 
-pub keeps_nothing : (tells : List (List ℕ) → Type 0) (budget : ℕ) (listed : List (List ℕ)) (xs ys : List Given)
+pub keeps_nothing : (tells : List (List ℕ) → Type 0) (budget : ℕ)
+    (listed : List (List ℕ)) (xs ys : List Given)
     → Yielded tells (budget + 1) (pending nothing nothing listed 0) xs → ys ≡ filter is_kept xs
     → KeepsNothing tells listed ys
 keeps_nothing tells budget listed xs ys (whole e told) same =
     none_kept (same ∙ ap (filter is_kept) e) (subst tells (all_listed listed) told)
 keeps_nothing tells budget listed xs ys (lacks_memory (before, rest, e, all)) same =
-    memory_alone (same ∙ ap (filter is_kept) (e ∙ ap (λ b. b ++ no_memory ∷ []) (front_empty before rest all)))
+    memory_alone
+    (same ∙ ap (filter is_kept) (e ∙ ap (λ b. b ++ no_memory ∷ []) (front_empty before rest all)))
 keeps_nothing tells budget listed xs ys (over_budget path depth few at cut) same = absurd (omega arith)

@@ -1,9 +1,11 @@
 -- What is to come of a glob's walk that opens only folders below which something is matched.
-use Rattle.std.proofs.Common.{◌≡◌, ◌∙◌, ◌≤◌, ◌<◌, ◌+◌, ◌&&◌, ℕ, Bool, false, List, [], length, refl, sym, ap, subst, inl, inr, arith}
+use Rattle.std.proofs.Common.{◌≡◌, ◌∙◌, ◌≤◌, ◌<◌, ◌+◌, ◌&&◌, ℕ, Bool, false, List, [], length, refl, sym, ap}
+use Rattle.std.proofs.Common.{subst, inl, inr, arith}
 use Rattle.wax_prefilter.specs.Below.{goes_test}
 use Rattle.wax_components.specs.Depth.{Depth}
 use Rattle.wax_directory.specs.Law.{Law}
-use Rattle.wax_exclude.proofs.BeginsLeast.{begins_least, fails_ended, lacks_selected, least_beyond, least_shown}
+use Rattle.wax_exclude.proofs.BeginsLeast.{begins_least, fails_ended, lacks_selected, least_beyond}
+use Rattle.wax_exclude.proofs.BeginsLeast.{least_shown}
 use Rattle.wax_exclude.specs.BeginsRequest.{BeginsRequest}
 use Rattle.wax_exclude.specs.Premises.{CanWalk, IsUnmeant}
 use Rattle.wax_exclude.specs.Prefix.{HasEmptyName, PrefixSplitsInto}
@@ -25,7 +27,8 @@ use Rattle.wax_exclude.proofs.Origins.{names_are}
 use Rattle.wax_exclude.proofs.SplitPrefixes.{same_split}
 use Rattle.wax.proofs.GlobWalks.{ComesBeyond, ComesShown, decides}
 use Rattle.wax.specs.GlobView.{GlobView}
-use Rattle.wax.specs.GlobWalks.{Beginning, BeginsBy, LeadsNowhere, has_empty_name, is_too_deep, origin_from, request_by, walked_by}
+use Rattle.wax.specs.GlobWalks.{Beginning, BeginsBy, LeadsNowhere, has_empty_name, is_too_deep, origin_from}
+use Rattle.wax.specs.GlobWalks.{request_by, walked_by}
 use Rattle.wax.specs.GlobWalks.{wants, within}
 
 abbrev pub goes : GlobView → List ℕ → Bool
@@ -35,7 +38,8 @@ goes g s = goes_test g.tree s
 pub can_least : (t : Tree Span) (start : List ℕ) (asked : DepthRange) (depth : Bounds) (b : Beginning t)
     (filters : List (Filter Span))
     → CanWalk (wants t b filters) asked (within asked depth) (origin_from start b.rooted b.names)
-    → CanWalkLeast (wants t b filters) asked (walked_by by_matches asked depth) (origin_from start b.rooted b.names)
+    → CanWalkLeast (wants t b filters) asked (walked_by by_matches asked depth)
+    (origin_from start b.rooted b.names)
 can_least t start asked depth b filters can = record {
   least = refl;
   greatest = can.greatest;
@@ -48,24 +52,29 @@ pub seen_from : {D : Type 0} (g : GlobView) (inner view : WalkView D) (least oth
     → IsSeenAs (selected_view inner (matches_from decides g least) (matches_below goes g) false) view
     → IsSeenAs (selected_view inner (matches_from decides g other) (matches_below goes g) false) view
 seen_from g inner view least other e h =
-    subst (λ n. IsSeenAs (selected_view inner (matches_from decides g n) (matches_below goes g) false) view) e h
+    subst (λ n. IsSeenAs (selected_view inner (matches_from decides g n) (matches_below goes g) false) view) e
+    h
 
 -- ---- what is to come
 
-module _ {D C : Type 0} (g : GlobView) (law : Law D C) (d : D) (start : List ℕ) (asked : DepthRange) (depth : Bounds)
+module _ {D C : Type 0} (g : GlobView) (law : Law D C) (d : D) (start : List ℕ)
+    (asked : DepthRange) (depth : Bounds)
     (depth_is : Depth g.tree depth)
     (can : (b : Beginning g.tree) (filters : List (Filter Span)) → ArePlain b.names
     → CanWalk (wants g.tree b filters) asked (within asked depth) (origin_from start b.rooted b.names))
     (none_match : (taken : ℕ) (prefix : List ℕ) → Prefix g.tree taken prefix → HasEmptyName prefix
     → (rooted : Bool) → IsUnmeant rooted g.tree)
-    (is : (taken : ℕ) × (prefix : List ℕ) × Prefix g.tree taken prefix) (view : WalkView D) (inner : WalkView D)
-    (seen : IsSeenAs (selected_view inner (matches_from decides g asked.min) (matches_below goes g) false) view)
+    (is : (taken : ℕ) × (prefix : List ℕ) × Prefix g.tree taken prefix)
+    (view : WalkView D) (inner : WalkView D)
+    (seen :
+    IsSeenAs (selected_view inner (matches_from decides g asked.min) (matches_below goes g) false) view)
   where
     abbrev walked : DepthRange
     walked = walked_by by_matches asked depth
 
     module _ (range : DepthRange) (same_range : range ≡ walked) (rooted : Bool) (names : List (List ℕ))
-        (plan : (taken : ℕ) (prefix : List ℕ) → Prefix g.tree taken prefix → PrefixSplitsInto prefix rooted names)
+        (plan : (taken : ℕ) (prefix : List ℕ) → Prefix g.tree taken prefix
+        → PrefixSplitsInto prefix rooted names)
         (b : BeginsAt law d (origin_from start rooted names) range inner) where
       same_beginning : (a : Beginning g.tree) → (rooted ≡ a.rooted) × (names ≡ a.names)
       same_beginning a =
@@ -84,14 +93,17 @@ module _ {D C : Type 0} (g : GlobView) (law : Law D C) (d : D) (start : List ℕ
       begin : (a : Beginning g.tree) → BeginsRequest law d (request_by by_matches start asked depth a []) view
       begin a = begins_least g.tree law d start asked depth inner view seen a.rooted a.names (begins_so a)
 
-      shown_along : (a : Beginning g.tree) → ArePlain a.names → ComesShown law d start asked depth view a by_matches
+      shown_along : (a : Beginning g.tree) → ArePlain a.names
+          → ComesShown law d start asked depth view a by_matches
       shown_along a plain s listed h told fits =
           least_shown g.tree law d start asked depth inner view seen a.rooted a.names (begins_so a)
-          (subst ArePlain (same_names a) plain) s listed h told (subst (λ ns. length ns ≤ walked.max) (same_names a) fits)
+          (subst ArePlain (same_names a) plain) s listed h told
+          (subst (λ ns. length ns ≤ walked.max) (same_names a) fits)
 
       beyond_along : (a : Beginning g.tree) → ComesBeyond law d start asked depth view a by_matches
       beyond_along a s listed h told less =
-          least_beyond g.tree law d start asked depth inner view seen a.rooted a.names (begins_so a) s listed h told
+          least_beyond g.tree law d start asked depth inner view seen a.rooted a.names
+          (begins_so a) s listed h told
           (subst (λ ns. walked.max < length ns) (same_names a) less)
 
       idle_along : LeadsNowhere g.tree (within asked depth) → view.is_idle
@@ -127,7 +139,8 @@ module _ {D C : Type 0} (g : GlobView) (law : Law D C) (d : D) (start : List ℕ
         comes = λ a plain. (begin a).comes (subst ArePlain (same_names a) plain);
         listings = seen.listings_left ∙ b.listings ∙ ap (λ r. r.budget + 1) same_range;
         names = λ a. subst (λ ns. view.names_left ≤ length ns) (sym (same_names a)) (begin a).names;
-        fails = λ a. subst (λ ns. FailsFrom 0 (origin_from start a.rooted a.names).path ns view) (sym (same_names a)) (begin a).fails;
+        fails = λ a. subst (λ ns. FailsFrom 0 (origin_from start a.rooted a.names).path ns view)
+            (sym (same_names a)) (begin a).fails;
         none_listed = seen.listings_open ∙ b.none_listed;
         begun = elim b.begun [
           | inl e ↦ inl (seen.to_begin ∙ e)
@@ -136,13 +149,15 @@ module _ {D C : Type 0} (g : GlobView) (law : Law D C) (d : D) (start : List ℕ
             seen.to_begin ∙ e.1,
             elim e.2 [
               | inl l ↦ inl (too_deep l)
-              | inr t ↦ inr (lacks_selected inner view (matches_from decides g asked.min) (matches_below goes g) seen t)
+              | inr t ↦ inr
+                  (lacks_selected inner view (matches_from decides g asked.min) (matches_below goes g) seen t)
             ],
           )
         ];
         none_to_open = seen.to_open ∙ b.none_to_open;
         yields_from = seen.yields_from ∙ b.yields_from ∙ ap (λ r. r.min) same_range;
-        may_open = seen.may_open ∙ ap (λ (o : Facts → Bool). λ f. o f && opens_where (goes_test g.tree) f) b.may_open
+        may_open =
+            seen.may_open ∙ ap (λ (o : Facts → Bool). λ f. o f && opens_where (goes_test g.tree) f) b.may_open
             ∙ ap (λ (r : DepthRange). λ f. is_above r.max f && opens_where (goes_test g.tree) f) same_range;
         directory = seen.directory ∙ b.directory;
       }
@@ -157,7 +172,8 @@ module _ {D C : Type 0} (g : GlobView) (law : Law D C) (d : D) (start : List ℕ
       begins = inr (inl (is.0, is.1, is.2, known is.0 is.1 is.2));
       can = λ a filters plain. can_least g.tree start asked depth a filters (can a filters plain);
       none_match = none_match;
-      shown = λ a s listed h told plain fits. absurd (a.names_are.unbroken (known a.taken a.prefix a.prefix_is));
+      shown =
+          λ a s listed h told plain fits. absurd (a.names_are.unbroken (known a.taken a.prefix a.prefix_is));
       beyond = λ a s listed h told less. absurd (a.names_are.unbroken (known a.taken a.prefix a.prefix_is));
       unmeant = λ taken prefix p e path s listed h told. seen.to_come (pending nothing nothing listed 0) (
         pending nothing nothing listed 0,
@@ -168,7 +184,8 @@ module _ {D C : Type 0} (g : GlobView) (law : Law D C) (d : D) (start : List ℕ
       comes = λ a plain. absurd (a.names_are.unbroken (known a.taken a.prefix a.prefix_is));
       listings = seen.listings_left ∙ b.listings ∙ ap (λ r. r.budget + 1) same;
       names = λ a. omega (arith, seen.names_left, b.names);
-      fails = λ a. fails_ended inner view (matches_from decides g asked.min) (matches_below goes g) seen 0 (origin_from start a.rooted a.names).path a.names b.fails;
+      fails = λ a. fails_ended inner view (matches_from decides g asked.min) (matches_below goes g) seen 0
+          (origin_from start a.rooted a.names).path a.names b.fails;
       none_listed = seen.listings_open ∙ b.none_listed;
       begun = inr (
         seen.idles (inr b.idle),
@@ -177,7 +194,8 @@ module _ {D C : Type 0} (g : GlobView) (law : Law D C) (d : D) (start : List ℕ
       );
       none_to_open = seen.to_open ∙ b.none_to_open;
       yields_from = seen.yields_from ∙ b.yields_from ∙ ap (λ r. r.min) same;
-      may_open = seen.may_open ∙ ap (λ (o : Facts → Bool). λ f. o f && opens_where (goes_test g.tree) f) b.may_open
+      may_open =
+          seen.may_open ∙ ap (λ (o : Facts → Bool). λ f. o f && opens_where (goes_test g.tree) f) b.may_open
           ∙ ap (λ (r : DepthRange). λ f. is_above r.max f && opens_where (goes_test g.tree) f) same;
       directory = seen.directory ∙ b.directory;
     }

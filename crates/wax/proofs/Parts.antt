@@ -1,5 +1,6 @@
 -- What is known of a glob in two.
-use Rattle.std.proofs.Common.{◌≡◌, ◌≤◌, ℕ, false, List, [], ◌∷◌, Option, Some, None, MatchOption, inl, inr, ap, refl, subst, sym, ◌∙◌}
+use Rattle.std.proofs.Common.{◌≡◌, ◌≤◌, ℕ, false, List, [], ◌∷◌, Option, Some, None, MatchOption, inl, inr}
+use Rattle.std.proofs.Common.{ap, refl, subst, sym, ◌∙◌}
 use Rattle.std.proofs.lemmas.Bool.{false≢true}
 use Rattle.wax_query.specs.declared.query.when.When.TheVariants.{Never, Always}
 use Rattle.wax_token.specs.Cost.{program_length}
@@ -14,7 +15,8 @@ use Rattle.wax_facts.specs.Rest.{left}
 use Rattle.wax_facts.proofs.BuiltOrderly.{built_orderly}
 use Rattle.wax_facts.proofs.Seams.{prefix_seam}
 use Rattle.wax_partition.specs.Partition.{IsPartition, rest_glob, spelled_rest}
-use Rattle.wax_partition.proofs.RestKnown.{parts_branch, parts_fits, parts_orderly, parts_rest, parts_split, parts_whole}
+use Rattle.wax_partition.proofs.RestKnown.{parts_branch, parts_fits, parts_orderly, parts_rest, parts_split}
+use Rattle.wax_partition.proofs.RestKnown.{parts_whole}
 use Rattle.wax.specs.GlobView.{IsKept, empty_tree}
 use Rattle.wax.specs.Partition.{HasParts, IsRest, MeansAlone, as_glob}
 
@@ -54,16 +56,19 @@ module _ (e : List ℕ) (t : Tree Span) (p : List ℕ) (kept : IsKept t) where
   orderly u k = elim kept [ inl o ↦ o | inr q ↦ absurd (none_left q) ]
     where
       none_left : t ≡ empty_tree → ⊥
-      none_left q = let f : spelled_rest (Some u) ≡ None = empty_rest e p (spelled_rest (Some u)) (subst (λ z. IsPartition e z p (spelled_rest (Some u))) q k) in cc
+      none_left q = let f : spelled_rest (Some u) ≡ None = empty_rest e p (spelled_rest (Some u))
+          (subst (λ z. IsPartition e z p (spelled_rest (Some u))) q k) in cc
 
   pub rest_kept : (u : Tokenized Span) → IsPartition e t p (spelled_rest (Some u)) → IsKept u.token
   rest_kept u k = inl (parts_orderly e t p (Some u) k (orderly u k))
 
-  pub rest_fits : (u : Tokenized Span) → IsPartition e t p (spelled_rest (Some u)) → program_length u.token ≤ program_length t
+  pub rest_fits : (u : Tokenized Span) → IsPartition e t p (spelled_rest (Some u))
+      → program_length u.token ≤ program_length t
   rest_fits u k = parts_fits e t p (Some u) k (flat t kept)
 
   rest_tells : (o : Option (Tokenized Span)) → IsPartition e t p (spelled_rest o) →
-      MatchOption (as_glob (spelled_rest o)) (MeansAlone (record { expression = e; tree = t }) p) (IsRest (record { expression = e; tree = t }) p)
+      MatchOption (as_glob (spelled_rest o)) (MeansAlone (record { expression = e; tree = t }) p)
+      (IsRest (record { expression = e; tree = t }) p)
   rest_tells None k = parts_whole e t p None k (full t kept) (flat t kept)
   rest_tells (Some u) k = record {
     after = parts_rest e t p (Some u) k (orderly u k);
@@ -72,7 +77,8 @@ module _ (e : List ℕ) (t : Tree Span) (p : List ℕ) (kept : IsKept t) where
     costs = rest_fits u k;
   }
 
-  pub has_parts : (o : Option (Tokenized Span)) → IsPartition e t p (spelled_rest o) → HasParts (record { expression = e; tree = t }) p (as_glob (spelled_rest o))
+  pub has_parts : (o : Option (Tokenized Span)) → IsPartition e t p (spelled_rest o)
+      → HasParts (record { expression = e; tree = t }) p (as_glob (spelled_rest o))
   has_parts o k = record {
     taken = k.0;
     prefix = k.1;

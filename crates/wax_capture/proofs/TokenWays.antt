@@ -1,5 +1,6 @@
 -- The forms of the ways of one token.
-use Rattle.std.proofs.Common.{◌≡◌, ℕ, zero, suc, ◌<◌, ◌↔◌, Bool, true, false, List, [], ◌∷◌, map, Err, refl, sym, subst, arith, true≢false}
+use Rattle.std.proofs.Common.{◌≡◌, ℕ, zero, suc, ◌<◌, ◌↔◌, Bool, true, false, List, [], ◌∷◌, map, Err, refl}
+use Rattle.std.proofs.Common.{sym, subst, arith, true≢false}
 use Rattle.std.proofs.lemmas.Option.{slice_get_within}
 use Rattle.unicode.specs.CaseFolding.{simple_fold}
 use Rattle.wax_query.specs.Outcome.{MatchBuild}
@@ -7,7 +8,8 @@ use Rattle.wax_query.specs.declared.diagnostics.Refusal.{Refusal}
 use Rattle.wax_query.specs.declared.diagnostics.Refusal.TheVariants.{Refused, Memory}
 use Rattle.wax_token.specs.Cost.{cost}
 use Rattle.wax_token.specs.Meaning.{Means, SameFold, SameText, TreeMeans}
-use Rattle.wax_token.specs.Syntax.{literal, class, separator, one, zero_or_more, tree, Tree, leaf, alternation, concatenation, repetition}
+use Rattle.wax_token.specs.Syntax.{literal, class, separator, one, zero_or_more, tree, Tree, leaf}
+use Rattle.wax_token.specs.Syntax.{alternation, concatenation, repetition}
 use Rattle.wax_capture.specs.Captures.{First, LeafWay, MeansByWay, tree_capture}
 use Rattle.wax_capture.specs.inner.Ways.{IsTreeToken, is_single}
 use Rattle.wax_capture.specs.Pieces.{WayIn}
@@ -15,7 +17,8 @@ use Rattle.wax_lengths.specs.Forms.{SpelledBy, TakenBy}
 use Rattle.wax_lengths.specs.declared.form.Form.{Form}
 use Rattle.wax_lengths.proofs.Lists.{some_same}
 
-pub refused_more : {T U E : Type 0} (e : Refusal E) (P : T → Type 0) (Q : U → Type 0) (M N : Type 0) → (M → N) → MatchBuild {T = T} (Err e) P (λ _. M) → MatchBuild {T = U} (Err e) Q (λ _. N)
+pub refused_more : {T U E : Type 0} (e : Refusal E) (P : T → Type 0) (Q : U → Type 0) (M N : Type 0) → (M → N)
+    → MatchBuild {T = T} (Err e) P (λ _. M) → MatchBuild {T = U} (Err e) Q (λ _. N)
 refused_more (Refused e) P Q M N f h = f h
 refused_more Memory P Q M N f h = tt
 
@@ -38,7 +41,8 @@ spelled_folded (c ∷ t) (d ∷ x) =
     ((λ h. (h.0, r.0 h.1)), (λ h. (h.0, r.1 h.1)))
 
 -- ---- ways
-pub first_way : (form : Form) (M : List ℕ → Type 0) → ((x : List ℕ) → TakenBy form x ↔ M x) → (k : ℕ) (x : List ℕ) → First (M x) k ↔ WayIn (form ∷ []) k x
+pub first_way : (form : Form) (M : List ℕ → Type 0) → ((x : List ℕ) → TakenBy form x ↔ M x)
+    → (k : ℕ) (x : List ℕ) → First (M x) k ↔ WayIn (form ∷ []) k x
 first_way form M h zero x = (
   (λ m. (form, refl, (h x).1 m)),
   (λ w. (h x).0 (subst (λ f. TakenBy f x) (some_same (sym w.1)) w.2)),
@@ -51,17 +55,21 @@ first_way form M h (suc k) x = (
     past : suc k < 1 → ⊥
     past lt = omega (arith, lt)
 
-pub tree_two_ways : (rooted before after : Bool) (p q : Form) → ((x : List ℕ) → TakenBy p x ↔ (TreeMeans before after rooted x × (tree_capture before rooted x ≡ []))) →
-    ((x : List ℕ) → TakenBy q x ↔ TreeMeans before after rooted x) → (k : ℕ) (x : List ℕ) → LeafWay (tree rooted) k before after x ↔ WayIn (p ∷ q ∷ []) k x
+pub tree_two_ways : (rooted before after : Bool) (p q : Form)
+    → ((x : List ℕ) → TakenBy p x ↔ (TreeMeans before after rooted x × (tree_capture before rooted x ≡ []))) →
+    ((x : List ℕ) → TakenBy q x ↔ TreeMeans before after rooted x) → (k : ℕ) (x : List ℕ)
+    → LeafWay (tree rooted) k before after x ↔ WayIn (p ∷ q ∷ []) k x
 tree_two_ways rooted before after p q f g zero x = (
   (λ m. (p, refl, (f x).1 m)),
   (λ w. (f x).0 (subst (λ z. TakenBy z x) (some_same (sym w.1)) w.2)),
 )
 tree_two_ways rooted before after p q f g (suc k) x = first_way q (TreeMeans before after rooted) g k x
 
-pub tree_token_ways : {A : Type 0} (t : Tree A) (rooted before after : Bool) (forms : List Form) → IsTreeToken t rooted → ((k : ℕ) (x : List ℕ) → LeafWay (tree rooted) k before after x ↔ WayIn forms k x) →
+pub tree_token_ways : {A : Type 0} (t : Tree A) (rooted before after : Bool) (forms : List Form) → IsTreeToken
+    t rooted → ((k : ℕ) (x : List ℕ) → LeafWay (tree rooted) k before after x ↔ WayIn forms k x) →
     (k : ℕ) (x : List ℕ) → MeansByWay t k before after x ↔ WayIn forms k x
-tree_token_ways (leaf a (tree r)) rooted before after forms is f k x = subst (λ z. LeafWay (tree z) k before after x ↔ WayIn forms k x) (sym is) (f k x)
+tree_token_ways (leaf a (tree r)) rooted before after forms is f k x =
+    subst (λ z. LeafWay (tree z) k before after x ↔ WayIn forms k x) (sym is) (f k x)
 tree_token_ways (leaf a (literal i t)) rooted before after forms is f k x = absurd is
 tree_token_ways (leaf a (class n xs)) rooted before after forms is f k x = absurd is
 tree_token_ways (leaf a separator) rooted before after forms is f k x = absurd is
@@ -75,7 +83,8 @@ same_first : (M : Type 0) (k : ℕ) → First M k ↔ First M k
 same_first M k = ((λ h. h), (λ h. h))
 
 -- a token of one way
-pub single_way : {A : Type 0} (t : Tree A) → is_single t ≡ true → (k : ℕ) (before after : Bool) (x : List ℕ) → MeansByWay t k before after x ↔ First (Means t before after x) k
+pub single_way : {A : Type 0} (t : Tree A) → is_single t ≡ true → (k : ℕ) (before after : Bool) (x : List ℕ)
+    → MeansByWay t k before after x ↔ First (Means t before after x) k
 single_way (leaf a (tree r)) e k before after x = absurd (true≢false (sym e))
 single_way (leaf a (literal i t)) e k before after x = same_first _ k
 single_way (leaf a (class n xs)) e k before after x = same_first _ k

@@ -1,5 +1,7 @@
 -- What was tried of a text, from left to right.
-use Rattle.std.proofs.Common.{◌≡◌, Bool, true, ℕ, zero, suc, ◌+◌, ◌<◌, ◌≤◌, List, [], ◌∷◌, ◌++◌, length, get_or, take, drop, drop-cons, Some, slice_get, refl, sym, ◌∙◌, ap, subst, inl, inr, arith, length-drop}
+use Rattle.std.proofs.Common.{◌≡◌, Bool, true, ℕ, zero, suc, ◌+◌, ◌<◌, ◌≤◌, List, [], ◌∷◌, ◌++◌, length}
+use Rattle.std.proofs.Common.{get_or, take, drop, drop-cons, Some, slice_get, refl, sym, ◌∙◌, ap, subst, inl}
+use Rattle.std.proofs.Common.{inr, arith, length-drop}
 use Rattle.std.proofs.lemmas.Bool.{cases_lt}
 use Rattle.std.proofs.lemmas.List.{drop-drop, drop_all, length_push}
 use Rattle.wax_lengths.specs.Prefers.{Prefers}
@@ -8,7 +10,8 @@ use Rattle.wax_lengths.specs.Forms.{TakenBy}
 use Rattle.wax_lengths.specs.Spans.{InSpan, IsNarrowed, IsPicked, looks}
 use Rattle.wax_capture.specs.inner.Letters.{ArePassed}
 use Rattle.wax_capture.specs.inner.Splits.{AreChosen, FitsBy, IsChosenBy, Splits}
-use Rattle.wax_capture.specs.inner.Trials.{AreLeft, HasRoom, HasTaken, IsOpen, Trail, lengths_of, characters_taken}
+use Rattle.wax_capture.specs.inner.Trials.{AreLeft, HasRoom, HasTaken, IsOpen, Trail, lengths_of}
+use Rattle.wax_capture.specs.inner.Trials.{characters_taken}
 use Rattle.wax_lengths.specs.declared.form.Form.{Form}
 use Rattle.wax_capture.specs.declared.piece.Piece.{Piece}
 use Rattle.wax_capture.specs.declared.trial.Frame.{Frame}
@@ -30,7 +33,8 @@ module _ (p : Piece) (ps : List Piece) (s : List ℕ) where
       past k e = omega (arith, e, none)
 
   -- a length was taken of those that were left
-  pub open_takes : (old new : Frame) → new.opened ≡ old.opened → IsOpen p ps s old → IsPicked old.span new.span s p.is_lazy new.n → IsNarrowed old.span new.span s → HasTaken p ps s new
+  pub open_takes : (old new : Frame) → new.opened ≡ old.opened → IsOpen p ps s old
+      → IsPicked old.span new.span s p.is_lazy new.n → IsNarrowed old.span new.span s → HasTaken p ps s new
   open_takes old new same o picked narrowed = by_way old.opened refl
     where
       some : (w : ℕ) → w + 1 ≡ old.opened → HasTaken p ps s new
@@ -100,7 +104,9 @@ module _ (p : Piece) (ps : List Piece) (s : List ℕ) where
   ]
 
   -- one more is opened
-  pub opens_next : (is_last : Bool) → (is_last ≡ true → ps ≡ []) → (f : Frame) (k : ℕ) (form : Form) → f.opened ≡ k + 1 → NoneTo k → slice_get (forms_of p.ways) k ≡ Some form → AreLeft form is_last s f.span → IsOpen p ps s f
+  pub opens_next : (is_last : Bool) → (is_last ≡ true → ps ≡ []) → (f : Frame) (k : ℕ) (form : Form)
+      → f.opened ≡ k + 1 → NoneTo k → slice_get (forms_of p.ways) k ≡ Some form
+      → AreLeft form is_last s f.span → IsOpen p ps s f
   opens_next is_last end f k form count none is lengths = record {
     fresh = λ e. absurd (omega (arith, e, count));
     earlier = λ j m lt. none j m (omega (arith, lt, count));
@@ -120,14 +126,21 @@ module _ (p : Piece) (ps : List Piece) (s : List ℕ) where
 
 -- ---- the pieces that have taken a part
 module _ (text : List ℕ) (most : ℕ) where
-  pub trail_push : (ps rest : List Piece) (p : Piece) (at : ℕ) (fs : List Frame) (f : Frame) → drop (length fs) ps ≡ p ∷ rest → f.at ≡ at + characters_taken fs → HasTaken p rest (drop f.at text) f → HasRoom text most f →
+  pub trail_push : (ps rest : List Piece) (p : Piece) (at : ℕ) (fs : List Frame) (f : Frame)
+      → drop (length fs) ps ≡ p ∷ rest → f.at ≡ at + characters_taken fs → HasTaken p rest (drop f.at text) f
+      → HasRoom text most f →
       Trail ps text most at fs → Trail ps text most at (fs ++ f ∷ [])
   trail_push [] rest p at [] f e is t room h = absurd (cc)
   trail_push (q ∷ ps) rest p at [] f e is t room h =
       let at_same : f.at ≡ at = omega (arith, is) in
       let head : p ≡ q = cc in
-      let tail : rest ≡ ps = cc in
-      (at_same, subst (λ k. HasTaken q ps (drop k text) f) at_same (subst (λ z. HasTaken z ps (drop f.at text) f) head (subst (λ z. HasTaken p z (drop f.at text) f) tail t)), room, tt)
+      let tail : rest ≡ ps = cc in (
+        at_same,
+        subst (λ k. HasTaken q ps (drop k text) f) at_same (subst (λ z. HasTaken z ps (drop f.at text) f) head
+            (subst (λ z. HasTaken p z (drop f.at text) f) tail t)),
+        room,
+        tt,
+      )
   trail_push [] rest p at (g ∷ fs) f e is t room h = absurd h
   trail_push (q ∷ ps) rest p at (g ∷ fs) f e is t room h =
       (h.0, h.1, h.2, trail_push ps rest p (at + g.n) fs f e (omega (arith, is)) t room h.3)
@@ -141,7 +154,8 @@ module _ (text : List ℕ) (most : ℕ) where
     pub takes : HasTaken piece rest (drop f.at text) f
     pub room : HasRoom text most f
 
-  pub trail_pop : (ps : List Piece) (at : ℕ) (fs : List Frame) (f : Frame) → Trail ps text most at (fs ++ f ∷ []) → Popped ps at fs f
+  pub trail_pop : (ps : List Piece) (at : ℕ) (fs : List Frame) (f : Frame)
+      → Trail ps text most at (fs ++ f ∷ []) → Popped ps at fs f
   trail_pop [] at [] f h = absurd h
   trail_pop (p ∷ ps) at [] f h = record {
     trail = tt;
@@ -155,18 +169,33 @@ module _ (text : List ℕ) (most : ℕ) where
   trail_pop [] at (g ∷ fs) f h = absurd h
   trail_pop (p ∷ ps) at (g ∷ fs) f h =
       let r : Popped ps (at + g.n) fs f = trail_pop ps (at + g.n) fs f h.3 in
-      record { trail = (h.0, h.1, h.2, r.trail); piece = r.piece; rest = r.rest; is = r.is; place = omega (arith, r.place); takes = r.takes; room = r.room }
+      record {
+        trail = (h.0, h.1, h.2, r.trail);
+        piece = r.piece;
+        rest = r.rest;
+        is = r.is;
+        place = omega (arith, r.place);
+        takes = r.takes;
+        room = r.room;
+      }
 
   -- all of them took the whole text
-  pub trail_done : (ps : List Piece) (at : ℕ) (fs : List Frame) → length ps ≡ length fs → drop (at + characters_taken fs) text ≡ [] → Trail ps text most at fs → AreChosen ps (drop at text) (lengths_of fs)
+  pub trail_done : (ps : List Piece) (at : ℕ) (fs : List Frame) → length ps ≡ length fs
+      → drop (at + characters_taken fs) text ≡ [] → Trail ps text most at fs
+      → AreChosen ps (drop at text) (lengths_of fs)
   trail_done [] at [] count end h = let e : at + 0 ≡ at = omega arith in ap (λ k. drop k text) (sym e) ∙ end
   trail_done [] at (f ∷ fs) count end h = absurd h
   trail_done (p ∷ ps) at [] count end h = absurd (omega (arith, count))
   trail_done (p ∷ ps) at (f ∷ fs) count end h =
       let e : at + f.n + characters_taken fs ≡ at + (f.n + characters_taken fs) = omega arith in
-      let later : AreChosen ps (drop (at + f.n) text) (lengths_of fs) = trail_done ps (at + f.n) fs (omega (arith, count)) (ap (λ k. drop k text) e ∙ end) h.3 in
-      let rest : AreChosen ps (drop f.n (drop at text)) (lengths_of fs) = subst (λ z. AreChosen ps z (lengths_of fs)) (sym (drop-drop f.n at text)) later in
-      (taken_chosen p ps (drop at text) f h.1 (chosen_splits ps (drop f.n (drop at text)) (lengths_of fs) rest), rest)
+      let later : AreChosen ps (drop (at + f.n) text) (lengths_of fs) =
+      trail_done ps (at + f.n) fs (omega (arith, count)) (ap (λ k. drop k text) e ∙ end) h.3 in
+      let rest : AreChosen ps (drop f.n (drop at text)) (lengths_of fs) =
+      subst (λ z. AreChosen ps z (lengths_of fs)) (sym (drop-drop f.n at text)) later in (
+        taken_chosen p ps (drop at text) f h.1
+            (chosen_splits ps (drop f.n (drop at text)) (lengths_of fs) rest),
+        rest,
+      )
 
 pub taken_push : (fs : List Frame) (f : Frame) → characters_taken (fs ++ f ∷ []) ≡ characters_taken fs + f.n
 taken_push [] f = omega arith
@@ -180,20 +209,24 @@ pub length-lengths : (fs : List Frame) → length (lengths_of fs) ≡ length fs
 length-lengths [] = refl
 length-lengths (f ∷ fs) = ap (λ n. suc n) (length-lengths fs)
 
-pub lengths_at : (fs : List Frame) (i : ℕ) (f : Frame) → i < length fs → (get_or fs i f).n ≡ get_or (lengths_of fs) i (get_or fs i f).n
+pub lengths_at : (fs : List Frame) (i : ℕ) (f : Frame) → i < length fs
+    → (get_or fs i f).n ≡ get_or (lengths_of fs) i (get_or fs i f).n
 lengths_at [] i f lt = absurd (omega (arith, lt))
 lengths_at (g ∷ fs) zero f lt = refl
 lengths_at (g ∷ fs) (suc i) f lt = lengths_at fs i f (omega (arith, lt))
 
 -- ---- the piece that is tried
-pub at_piece : (ps : List Piece) (fs : List Frame) (i : ℕ) (p : Piece) → i ≡ length fs → i < length ps → p ≡ get_or ps i p → drop (length fs) ps ≡ p ∷ drop (length fs + 1) ps
+pub at_piece : (ps : List Piece) (fs : List Frame) (i : ℕ) (p : Piece) → i ≡ length fs → i < length ps
+    → p ≡ get_or ps i p → drop (length fs) ps ≡ p ∷ drop (length fs + 1) ps
 at_piece ps fs i p same lt e =
     let m : suc i ≡ i + 1 = omega arith in
-    let here : drop i ps ≡ p ∷ drop (i + 1) ps = drop-cons ps i p lt ∙ ap (λ z. z ∷ drop (suc i) ps) (sym e) ∙ ap (λ k. p ∷ drop k ps) m in
+    let here : drop i ps ≡ p ∷ drop (i + 1) ps = drop-cons ps i p lt ∙ ap (λ z. z ∷ drop (suc i) ps) (sym e)
+    ∙ ap (λ k. p ∷ drop k ps) m in
     subst (λ k. drop k ps ≡ p ∷ drop (k + 1) ps) same here
 
 -- only one piece stands there
-open_only : (ps : List Piece) (k : ℕ) (p : Piece) (rest : List Piece) (s : List ℕ) (f : Frame) → drop k ps ≡ p ∷ rest → IsOpen p rest s f →
+open_only : (ps : List Piece) (k : ℕ) (p : Piece) (rest : List Piece) (s : List ℕ) (f : Frame)
+    → drop k ps ≡ p ∷ rest → IsOpen p rest s f →
     (q : Piece) (qs : List Piece) → drop k ps ≡ q ∷ qs → IsOpen q qs s f
 open_only ps k p rest s f is starts q qs e =
     let all : p ∷ rest ≡ q ∷ qs = sym is ∙ e in
@@ -206,42 +239,52 @@ module _ (text : List ℕ) (most : ℕ) (ps : List Piece) where
   pub record Stands (fs : List Frame) (f : Frame) : Type 0 where
     pub trail : Trail ps text most 0 fs
     pub place : f.at ≡ characters_taken fs
-    pub tried : (p : Piece) (rest : List Piece) → drop (length fs) ps ≡ p ∷ rest → IsOpen p rest (drop f.at text) f
+    pub tried : (p : Piece) (rest : List Piece) → drop (length fs) ps ≡ p ∷ rest
+        → IsOpen p rest (drop f.at text) f
     pub room : HasRoom text most f
 
   -- the next one has taken a part as well
   pub record Took (fs : List Frame) (f : Frame) : Type 0 where
     pub trail : Trail ps text most 0 fs
     pub place : f.at ≡ characters_taken fs
-    pub is : (p : Piece) × (drop (length fs) ps ≡ p ∷ drop (length fs + 1) ps) × HasTaken p (drop (length fs + 1) ps) (drop f.at text) f
+    pub is : (p : Piece) × (drop (length fs) ps ≡ p ∷ drop (length fs + 1) ps)
+        × HasTaken p (drop (length fs + 1) ps) (drop f.at text) f
     pub room : HasRoom text most f
 
   pub took_within : (fs : List Frame) (f : Frame) → Took fs f → f.at + f.n ≤ length text
   took_within fs f t = omega (arith, t.is.2.within, length-drop f.at text, t.room.within)
 
   -- it doesn't take any: the piece before it has to take another
-  pub stands_pop : (below fs : List Frame) (f : Frame) (at : ℕ) (p : Piece) (rest : List Piece) → below ≡ fs ++ f ∷ [] → Trail ps text most 0 below → at ≡ characters_taken below → drop (length below) ps ≡ p ∷ rest →
+  pub stands_pop : (below fs : List Frame) (f : Frame) (at : ℕ) (p : Piece) (rest : List Piece)
+      → below ≡ fs ++ f ∷ [] → Trail ps text most 0 below → at ≡ characters_taken below
+      → drop (length below) ps ≡ p ∷ rest →
       (Splits (p ∷ rest) (drop at text) → ⊥) → Stands fs f
   stands_pop below fs f at p rest same trail place is fails =
-      let r : Popped text most ps 0 fs f = trail_pop text most ps 0 fs f (subst (Trail ps text most 0) same trail) in
+      let r : Popped text most ps 0 fs f =
+      trail_pop text most ps 0 fs f (subst (Trail ps text most 0) same trail) in
       let len : length below ≡ length fs + 1 = omega (arith, ap length same, length_push fs f) in
-      let next : r.rest ≡ p ∷ rest = ap (drop 1) (sym r.is) ∙ drop-drop 1 (length fs) ps ∙ ap (λ k. drop k ps) (sym len) ∙ is in
+      let next : r.rest ≡ p ∷ rest = ap (drop 1) (sym r.is) ∙ drop-drop 1 (length fs) ps
+      ∙ ap (λ k. drop k ps) (sym len) ∙ is in
       let end : f.at + f.n ≡ at = omega (arith, place, ap characters_taken same, taken_push fs f, r.place) in
       let none : Splits r.rest (drop f.n (drop f.at text)) → ⊥ = λ h.
-      let g : Splits (p ∷ rest) (drop f.n (drop f.at text)) = subst (λ z. Splits z (drop f.n (drop f.at text))) next h in
+      let g : Splits (p ∷ rest) (drop f.n (drop f.at text)) =
+      subst (λ z. Splits z (drop f.n (drop f.at text))) next h in
       fails (subst (Splits (p ∷ rest)) (drop-drop f.n f.at text ∙ ap (λ k. drop k text) end) g) in
       record {
         trail = r.trail;
         place = omega (arith, r.place);
-        tried = open_only ps (length fs) r.piece r.rest (drop f.at text) f r.is (taken_opens r.piece r.rest (drop f.at text) f r.takes none);
+        tried = open_only ps (length fs) r.piece r.rest (drop f.at text) f r.is
+            (taken_opens r.piece r.rest (drop f.at text) f r.takes none);
         room = r.room;
       }
 
   took_trail : (fs : List Frame) (f : Frame) → Took fs f → Trail ps text most 0 (fs ++ f ∷ [])
-  took_trail fs f t = trail_push text most ps (drop (length fs + 1) ps) t.is.0 0 fs f t.is.1 (omega (arith, t.place)) t.is.2 t.room t.trail
+  took_trail fs f t = trail_push text most ps (drop (length fs + 1) ps) t.is.0 0 fs f t.is.1
+      (omega (arith, t.place)) t.is.2 t.room t.trail
 
   -- a further piece is tried
-  pub stands_push : (fs : List Frame) (f new : Frame) → Took fs f → new.at ≡ f.at + f.n → new.opened ≡ 0 → new.span.end ≡ 0 → looks new.span ≡ 0 → Stands (fs ++ f ∷ []) new
+  pub stands_push : (fs : List Frame) (f new : Frame) → Took fs f → new.at ≡ f.at + f.n → new.opened ≡ 0
+      → new.span.end ≡ 0 → looks new.span ≡ 0 → Stands (fs ++ f ∷ []) new
   stands_push fs f new t at opened end none = record {
     trail = took_trail fs f t;
     place = omega (arith, at, t.place, taken_push fs f);
@@ -254,35 +297,50 @@ module _ (text : List ℕ) (most : ℕ) (ps : List Piece) where
   }
 
   -- the further pieces don't take the rest
-  pub stands_here : (fs : List Frame) (f : Frame) → Took fs f → (Splits (drop (length fs + 1) ps) (drop f.n (drop f.at text)) → ⊥) → Stands fs f
+  pub stands_here : (fs : List Frame) (f : Frame) → Took fs f
+      → (Splits (drop (length fs + 1) ps) (drop f.n (drop f.at text)) → ⊥) → Stands fs f
   stands_here fs f t none =
       let rest : List Piece = drop (length fs + 1) ps in
       record {
         trail = t.trail;
         place = t.place;
-        tried = open_only ps (length fs) t.is.0 rest (drop f.at text) f t.is.1 (taken_opens t.is.0 rest (drop f.at text) f t.is.2 none);
+        tried = open_only ps (length fs) t.is.0 rest (drop f.at text) f t.is.1
+            (taken_opens t.is.0 rest (drop f.at text) f t.is.2 none);
         room = t.room;
       }
 
   -- there is none, and the text isn't at its end
-  pub stands_last : (fs : List Frame) (f : Frame) → Took fs f → length ps ≤ length fs + 1 → (f.at + f.n ≡ length text → ⊥) → Stands fs f
+  pub stands_last : (fs : List Frame) (f : Frame) → Took fs f → length ps ≤ length fs + 1
+      → (f.at + f.n ≡ length text → ⊥) → Stands fs f
   stands_last fs f t last before = stands_here fs f t none
     where
       none : Splits (drop (length fs + 1) ps) (drop f.n (drop f.at text)) → ⊥
       none h =
           let nothing : drop (length fs + 1) ps ≡ [] = drop_all (length fs + 1) ps last in
-          let g : drop f.n (drop f.at text) ≡ [] = subst (λ z. Splits z (drop f.n (drop f.at text))) nothing h in
-          before (omega (arith, ap length g, length-drop f.n (drop f.at text), length-drop f.at text, took_within fs f t))
+          let g : drop f.n (drop f.at text) ≡ [] =
+          subst (λ z. Splits z (drop f.n (drop f.at text))) nothing h in
+          before (omega (
+            arith,
+            ap length g,
+            length-drop f.n (drop f.at text),
+            length-drop f.at text,
+            took_within fs f t,
+          ))
 
   -- and it is
-  pub took_all : (fs : List Frame) (f : Frame) → Took fs f → length ps ≡ length fs + 1 → f.at + f.n ≡ length text → AreChosen ps text (lengths_of fs ++ f.n ∷ [])
+  pub took_all : (fs : List Frame) (f : Frame) → Took fs f → length ps ≡ length fs + 1
+      → f.at + f.n ≡ length text → AreChosen ps text (lengths_of fs ++ f.n ∷ [])
   took_all fs f t count end =
-      let e : 0 + characters_taken (fs ++ f ∷ []) ≡ length text = omega (arith, taken_push fs f, t.place, end) in
-      let nothing : drop (0 + characters_taken (fs ++ f ∷ [])) text ≡ [] = ap (λ k. drop k text) e ∙ drop_all (length text) text (omega arith) in
-      subst (AreChosen ps text) (lengths_push fs f) (trail_done text most ps 0 (fs ++ f ∷ []) (omega (arith, count, length_push fs f)) nothing (took_trail fs f t))
+      let e : 0 + characters_taken (fs ++ f ∷ []) ≡ length text =
+      omega (arith, taken_push fs f, t.place, end) in
+      let nothing : drop (0 + characters_taken (fs ++ f ∷ [])) text ≡ [] =
+      ap (λ k. drop k text) e ∙ drop_all (length text) text (omega arith) in
+      subst (AreChosen ps text) (lengths_push fs f) (trail_done text most ps 0 (fs ++ f ∷ [])
+      (omega (arith, count, length_push fs f)) nothing (took_trail fs f t))
 
 -- the first piece doesn't take any
-pub none_first : (text : List ℕ) (ps : List Piece) (fs : List Frame) (at : ℕ) (p : Piece) (rest : List Piece) → fs ≡ [] → at ≡ characters_taken fs → drop (length fs) ps ≡ p ∷ rest →
+pub none_first : (text : List ℕ) (ps : List Piece) (fs : List Frame) (at : ℕ) (p : Piece) (rest : List Piece)
+    → fs ≡ [] → at ≡ characters_taken fs → drop (length fs) ps ≡ p ∷ rest →
     (Splits (p ∷ rest) (drop at text) → ⊥) → Splits ps text → ⊥
 none_first text ps fs at p rest none place is fails h =
     let zero_len : length fs ≡ 0 = ap length none in
@@ -292,10 +350,15 @@ none_first text ps fs at p rest none place is fails h =
     fails (subst (λ k. Splits (p ∷ rest) (drop k text)) (sym start) g)
 
 -- no piece is after the last one
-pub after_last : (ps : List Piece) (fs : List Frame) (i : ℕ) → i ≡ length fs → i + 1 ≡ length ps → drop (length fs + 1) ps ≡ []
+pub after_last : (ps : List Piece) (fs : List Frame) (i : ℕ) → i ≡ length fs → i + 1 ≡ length ps
+    → drop (length fs + 1) ps ≡ []
 after_last ps fs i count last = drop_all (length fs + 1) ps (omega (arith, count, last))
 
-pub at_next : (ps : List Piece) (fs : List Frame) (i : ℕ) (q : Piece) → i ≡ length fs → i + 1 < length ps → q ≡ get_or ps (i + 1) q → (qs : List Piece) × (drop (length fs + 1) ps ≡ q ∷ qs)
+pub at_next : (ps : List Piece) (fs : List Frame) (i : ℕ) (q : Piece) → i ≡ length fs → i + 1 < length ps
+    → q ≡ get_or ps (i + 1) q → (qs : List Piece) × (drop (length fs + 1) ps ≡ q ∷ qs)
 at_next ps fs i q count lt is =
-    let same : i + 1 ≡ length fs + 1 = omega (arith, count) in
-    (drop (suc (i + 1)) ps, subst (λ k. drop k ps ≡ q ∷ drop (suc (i + 1)) ps) same (drop-cons ps (i + 1) q lt ∙ ap (λ z. z ∷ drop (suc (i + 1)) ps) (sym is)))
+    let same : i + 1 ≡ length fs + 1 = omega (arith, count) in (
+      drop (suc (i + 1)) ps,
+      subst (λ k. drop k ps ≡ q ∷ drop (suc (i + 1)) ps) same
+          (drop-cons ps (i + 1) q lt ∙ ap (λ z. z ∷ drop (suc (i + 1)) ps) (sym is)),
+    )

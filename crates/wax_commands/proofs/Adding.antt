@@ -26,23 +26,30 @@ module _ {X : Type 0} (rule : X → Candidate → Mark) (old new : List X) (x : 
   rule_added = ap (map rule) e ∙ map-append rule old (x ∷ [])
 
   pub pattern_added : (word : List ℕ) → IsNotRule (Spells (chars word)) (rule x)
-      → (t : Tree Span) × (rules : List (Candidate → Mark)) × IsNotOf word t × AreRulesOf (not_meant t ∷ []) rules × (map rule new ≡ map rule old ++ rules)
+      → (t : Tree Span) × (rules : List (Candidate → Mark)) × IsNotOf word t
+      × AreRulesOf (not_meant t ∷ []) rules × (map rule new ≡ map rule old ++ rules)
   pattern_added word left = (left.0, rule x ∷ [], left.1, (left.2, tt), rule_added)
 
-  pub list_added : {Z : Type 0} (answers : FileAnswers Z) (file : List ℕ) (lines : List (Line Span)) → IsListIn answers file lines → IsRuleOf (not_ignored lines) (rule x)
-      → (lines : List (Line Span)) × (rules : List (Candidate → Mark)) × IsListIn answers file lines × AreRulesOf (not_ignored lines ∷ []) rules × (map rule new ≡ map rule old ++ rules)
+  pub list_added : {Z : Type 0} (answers : FileAnswers Z) (file : List ℕ) (lines : List (Line Span))
+      → IsListIn answers file lines → IsRuleOf (not_ignored lines) (rule x)
+      → (lines : List (Line Span)) × (rules : List (Candidate → Mark)) × IsListIn answers file lines
+      × AreRulesOf (not_ignored lines ∷ []) rules × (map rule new ≡ map rule old ++ rules)
   list_added answers file lines read is = (lines, rule x ∷ [], read, (is, tt), rule_added)
 
 -- ---- what was asked for
 
-module _ {Z A E : Type 0} (answers : FileAnswers Z) (word : List ℕ) (P : List (Candidate → Mark) → Type 0) (r : Result A E) where
+module _ {Z A E : Type 0} (answers : FileAnswers Z) (word : List ℕ) (P : List (Candidate → Mark) → Type 0)
+    (r : Result A E) where
   abbrev Adds : WalkOption → Type 0
-  Adds o = (xs : List (Filter Span)) × (rules : List (Candidate → Mark)) × AreAskedBy answers o xs × AreRulesOf xs rules × P rules
+  Adds o = (xs : List (Filter Span)) × (rules : List (Candidate → Mark)) × AreAskedBy answers o xs
+      × AreRulesOf xs rules × P rules
 
-  pub pattern_asked : OnOk r ((t : Tree Span) × (rules : List (Candidate → Mark)) × IsNotOf word t × AreRulesOf (not_meant t ∷ []) rules × P rules)
+  pub pattern_asked : OnOk r ((t : Tree Span) × (rules : List (Candidate → Mark)) × IsNotOf word t
+      × AreRulesOf (not_meant t ∷ []) rules × P rules)
       → OnOk r (Adds (excluding word))
   pattern_asked added = map_on_ok (λ h. (not_meant h.0 ∷ [], h.1, h.2, h.3, h.4)) r added
 
-  pub list_asked : OnOk r ((lines : List (Line Span)) × (rules : List (Candidate → Mark)) × IsListIn answers word lines × AreRulesOf (not_ignored lines ∷ []) rules × P rules)
+  pub list_asked : OnOk r ((lines : List (Line Span)) × (rules : List (Candidate → Mark))
+      × IsListIn answers word lines × AreRulesOf (not_ignored lines ∷ []) rules × P rules)
       → OnOk r (Adds (ignoring word))
   list_asked added = map_on_ok (λ h. (not_ignored h.0 ∷ [], h.1, h.2, h.3, h.4)) r added

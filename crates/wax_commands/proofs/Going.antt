@@ -25,16 +25,19 @@ use Rattle.wax_commands.specs.Refused.{IsRefused}
 use Rattle.wax_commands.specs.Walked.{KeepsAllWanted}
 use Rattle.wax.specs.Walks.{any_mark}
 use Rattle.wax.proofs.Kept.{gave_within}
-use Rattle.wax_commands.specs.Walked.{AreAskedByAll, AreBuilt, Environment, HasRefused, OnWalk, WalkEnds, WalkGlobs, done, faulty, no_filter, no_glob}
+use Rattle.wax_commands.specs.Walked.{AreAskedByAll, AreBuilt, Environment, HasRefused, OnWalk, WalkEnds}
+use Rattle.wax_commands.specs.Walked.{WalkGlobs, done, faulty, no_filter, no_glob}
 use Rattle.wax_commands.specs.Walked.{range_in, refused, stopped}
 use Rattle.wax_command_line.specs.declared.walk_words.WalkWords.{WalkWords}
 use Rattle.wax_command_line.specs.Wanted.{OnRequests, WroteFirst, WroteWanted}
 use Rattle.wax_command_line.specs.WalkWords.{IsRead}
 
-module _ {D C : Type 0} (law : Law D C) (d : D) (asked : WalkRequest) (globs : WalkGlobs) (view : WalkView D) where
+module _ {D C : Type 0} (law : Law D C) (d : D) (asked : WalkRequest) (globs : WalkGlobs)
+    (view : WalkView D) where
   -- what holds of all requests that the walk may be of holds of the walk
   pub on_walk : (rules : List (Candidate → Mark)) (P : GlobRequest → Shown → List (List ℕ) → Type 0)
-      → BeginsBy by_matches globs.glob.tree law d asked.start (range_in asked.options) view → AreRulesOf globs.filters rules
+      → BeginsBy by_matches globs.glob.tree law d asked.start (range_in asked.options) view
+      → AreRulesOf globs.filters rules
       → OnRequests law view rules P → OnWalk law d asked globs P
   on_walk rules P h are on = (
     h.depth,
@@ -45,40 +48,52 @@ module _ {D C : Type 0} (law : Law D C) (d : D) (asked : WalkRequest) (globs : W
   )
 
   -- the walk begins at the requested start
-  pub begins_so : (start : List ℕ) (b : WalkBehavior) → start ≡ asked.start → behavior_range b ≡ range_in asked.options
-      → BeginsBy by_matches globs.glob.tree law d start (behavior_range b) view → BeginsBy by_matches globs.glob.tree law d asked.start (range_in asked.options) view
+  pub begins_so : (start : List ℕ) (b : WalkBehavior) → start ≡ asked.start
+      → behavior_range b ≡ range_in asked.options
+      → BeginsBy by_matches globs.glob.tree law d start (behavior_range b) view
+      → BeginsBy by_matches globs.glob.tree law d asked.start (range_in asked.options) view
   begins_so start b e f h =
-      subst (λ r. BeginsBy by_matches globs.glob.tree law d asked.start r view) f (subst (λ v. BeginsBy by_matches globs.glob.tree law d v (behavior_range b) view) e h)
+      subst (λ r. BeginsBy by_matches globs.glob.tree law d asked.start r view) f
+      (subst (λ v. BeginsBy by_matches globs.glob.tree law d v (behavior_range b) view) e h)
 
 -- ---- from what was read on
 
-range_read : (walk : WalkWords) (asked : WalkRequest) (b : WalkBehavior) → IsRead walk asked → b ≡ behavior_at walk.depth → behavior_range b ≡ range_in asked.options
+range_read : (walk : WalkWords) (asked : WalkRequest) (b : WalkBehavior) → IsRead walk asked
+    → b ≡ behavior_at walk.depth → behavior_range b ≡ range_in asked.options
 range_read walk asked b read e =
-    ap behavior_range e ∙ (λ i. record { min = read.lower i; max = or_greatest (read.upper i); budget = 2 ^ 32 - 1 })
+    ap behavior_range e
+    ∙ (λ i. record { min = read.lower i; max = or_greatest (read.upper i); budget = 2 ^ 32 - 1 })
 
 abbrev pub environment : {D C Z : Type 0} → Law D C → D → FileAnswers Z → Environment D C Z
 environment law d answers = record { law = law; directory = d; answers = answers }
 
-module _ {D C Z : Type 0} (over : Environment D C Z) (walk : WalkWords) (asked : WalkRequest) (read : IsRead walk asked) where
+module _ {D C Z : Type 0} (over : Environment D C Z) (walk : WalkWords) (asked : WalkRequest)
+    (read : IsRead walk asked) where
   -- the rules are those of the filters that the options request
   abbrev pub AreLeftOut : List (Candidate → Mark) → Type 0
   AreLeftOut rules = (os : List WalkOption) → SayEach walk.options.now os
       → (xs : List (Filter Span)) × AreAskedByAll over.answers os xs × AreRulesOf xs rules
 
   -- nothing is written if the glob or a filter can't be built
-  pub ends_no_glob : (held : Option (List ℕ)) → IsRefused walk.expression.now → WalkEnds over asked held held 1
+  pub ends_no_glob : (held : Option (List ℕ)) → IsRefused walk.expression.now
+      → WalkEnds over asked held held 1
   ends_no_glob held h = refused (no_glob (subst IsRefused read.expression h)) refl refl
 
   module _ (g : GlobView) (glob : IsGlob (chars walk.expression.now) g) where
     abbrev glob_asked : IsGlob (chars asked.expression) g
     glob_asked = subst (λ e. IsGlob (chars e) g) read.expression glob
 
-    pub ends_no_filter : (held : Option (List ℕ)) → ((os : List WalkOption) → SayEach walk.options.now os → HasRefused over.answers os) → WalkEnds over asked held held 1
+    pub ends_no_filter : (held : Option (List ℕ))
+        → ((os : List WalkOption) → SayEach walk.options.now os → HasRefused over.answers os)
+        → WalkEnds over asked held held 1
     ends_no_filter held h = refused (no_filter g glob_asked (h asked.options read.options)) refl refl
 
-    module _ (rules : List (Candidate → Mark)) (left : AreLeftOut rules) (b : WalkBehavior) (is : b ≡ behavior_at walk.depth) (view : WalkView D)
-        (begins : BeginsBy by_matches g.tree over.law over.directory walk.start.now (behavior_range b) view) (held held' : Option (List ℕ)) where
-      abbrev built : (xs : List (Filter Span)) × AreAskedByAll over.answers asked.options xs × AreRulesOf xs rules
+    module _ (rules : List (Candidate → Mark)) (left : AreLeftOut rules) (b : WalkBehavior)
+        (is : b ≡ behavior_at walk.depth) (view : WalkView D)
+        (begins : BeginsBy by_matches g.tree over.law over.directory walk.start.now (behavior_range b) view)
+        (held held' : Option (List ℕ)) where
+      abbrev built : (xs : List (Filter Span)) × AreAskedByAll over.answers asked.options xs
+          × AreRulesOf xs rules
       built = left asked.options read.options
 
       abbrev globs : WalkGlobs
@@ -88,29 +103,34 @@ module _ {D C Z : Type 0} (over : Environment D C Z) (walk : WalkWords) (asked :
       all_built = record { glob = glob_asked; filters = built.1 }
 
       begun : BeginsBy by_matches g.tree over.law over.directory asked.start (range_in asked.options) view
-      begun = begins_so over.law over.directory asked globs view walk.start.now b read.start (range_read walk asked b read is) begins
+      begun = begins_so over.law over.directory asked globs view walk.start.now b read.start
+          (range_read walk asked b read is) begins
 
       all_kept : (has : Bool) → (w : WroteWanted over.law view rules held held' has)
           → KeepsAllWanted over.law over.directory asked globs w.items
       all_kept has w = record {
         new = w.directory;
         wanted = on_walk over.law over.directory asked globs view rules
-            (λ request s listed. KeepsWanted (over.law.tells w.directory) request s listed w.items) begun built.2 w.wanted;
+            (λ request s listed. KeepsWanted (over.law.tells w.directory) request s listed w.items)
+            begun built.2 w.wanted;
         answered = (
           begun.depth,
           begun.depth_is,
           λ b plain.
               answered_before over.law _ _ w.directory _ begun.directory
-              (w.answered over.directory (request_by by_matches asked.start (range_in asked.options) begun.depth b []) built.0
+              (w.answered over.directory
+              (request_by by_matches asked.start (range_in asked.options) begun.depth b []) built.0
               (begun.comes b plain) built.2 (goes (begun.can b built.0 plain))),
         );
         given = w.given;
-        within = gave_within by_matches g.tree over.law over.directory asked.start (range_in asked.options) view (any_mark rules)
+        within = gave_within by_matches g.tree over.law over.directory asked.start
+            (range_in asked.options) view (any_mark rules)
             w.directory w.given begun w.took;
         kept = w.kept;
       }
 
-      on : (P : GlobRequest → Shown → List (List ℕ) → Type 0) → OnRequests over.law view rules P → OnWalk over.law over.directory asked globs P
+      on : (P : GlobRequest → Shown → List (List ℕ) → Type 0) → OnRequests over.law view rules P
+          → OnWalk over.law over.directory asked globs P
       on P h = on_walk over.law over.directory asked globs view rules P begun built.2 h
 
       pub ends_done : WroteWanted over.law view rules held held' false → WalkEnds over asked held held' 0
@@ -121,4 +141,5 @@ module _ {D C Z : Type 0} (over : Environment D C Z) (walk : WalkWords) (asked :
 
       pub ends_stopped : WroteFirst over.law view rules held held' → WalkEnds over asked held held' 1
       ends_stopped w = stopped globs w.0 all_built w.1
-          (on (λ request s _. (rest : List ℕ) × (w.0 ++ rest ≡ candidate_lines (preorder (request_walk request s)))) w.2) refl
+          (on (λ request s _. (rest : List ℕ)
+          × (w.0 ++ rest ≡ candidate_lines (preorder (request_walk request s)))) w.2) refl

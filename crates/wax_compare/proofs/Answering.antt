@@ -15,11 +15,22 @@ module _ (texts : Texts) (A B P Q : List ℕ → Type 0)
 
   wanted_as : (wanted : Wanted) (s : List ℕ) → IsWanted wanted texts A B s ↔ IsWanted wanted texts P Q s
   wanted_as wanted s = (
-    (λ w. record { scalars = w.scalars; among = w.among; first = (first s).0 w.first; second = (asked_as wanted s).0 w.second }),
-    (λ w. record { scalars = w.scalars; among = w.among; first = (first s).1 w.first; second = (asked_as wanted s).1 w.second }),
+    (λ w. record {
+      scalars = w.scalars;
+      among = w.among;
+      first = (first s).0 w.first;
+      second = (asked_as wanted s).0 w.second;
+    }),
+    (λ w. record {
+      scalars = w.scalars;
+      among = w.among;
+      first = (first s).1 w.first;
+      second = (asked_as wanted s).1 w.second;
+    }),
   )
 
-  pub answer_as : (wanted : Wanted) (found : Comparison) → IsAnswer (IsWanted wanted texts A B) found → IsAnswer (IsWanted wanted texts P Q) found
+  pub answer_as : (wanted : Wanted) (found : Comparison) → IsAnswer (IsWanted wanted texts A B) found
+      → IsAnswer (IsWanted wanted texts P Q) found
   answer_as wanted Nothing none = λ s w. none s ((wanted_as wanted s).1 w)
   answer_as wanted (Text t) is = ((wanted_as wanted _).0 is.0, (λ s w. is.1 s ((wanted_as wanted s).1 w)))
   answer_as wanted Unknown is = tt

@@ -1,5 +1,7 @@
 -- Letters that instructions distinguish.
-use Rattle.std.proofs.Common.{◌≡◌, ◌≢◌, ◌+◌, ◌<◌, ◌≤◌, ◌↔◌, ◌⊎◌, ℕ, zero, suc, Bool, true, false, IsTrue, List, [], ◌∷◌, ◌++◌, Some, Contains, length, set, length-append, slice_get, slice_index, replicate, refl, sym, ◌∙◌, ap, subst, inl, inr, arith}
+use Rattle.std.proofs.Common.{◌≡◌, ◌≢◌, ◌+◌, ◌<◌, ◌≤◌, ◌↔◌, ◌⊎◌, ℕ, zero, suc, Bool, true, false, IsTrue}
+use Rattle.std.proofs.Common.{List, [], ◌∷◌, ◌++◌, Some, Contains, length, set, length-append, slice_get}
+use Rattle.std.proofs.Common.{slice_index, replicate, refl, sym, ◌∙◌, ap, subst, inl, inr, arith}
 use Rattle.std.proofs.Math.Bool.{beq}
 use Rattle.std.proofs.lemmas.Bool.{cases_lt}
 use Rattle.std.proofs.lemmas.List.{get_or_default}
@@ -11,7 +13,9 @@ use Rattle.wax_program.specs.declared.instruction.Instruction.TheVariants.{Jump,
 use Rattle.wax_program.specs.Steady.{Alike}
 use Rattle.wax_program.specs.Threads.{AnyAmong}
 use Rattle.wax_compare.specs.declared.distinctions.Exceptions.{Exceptions}
-use Rattle.wax_compare.specs.inner.Distinctions.{AreExceptions, AreExceptionsOf, AreExceptionsUpTo, AreMarkedAt, IsClosure, IsUnmarked, KeepsMarks, LeadAlike, MarksOthers, TakesCharacter}
+use Rattle.wax_compare.specs.inner.Distinctions.{AreExceptions, AreExceptionsOf, AreExceptionsUpTo}
+use Rattle.wax_compare.specs.inner.Distinctions.{AreMarkedAt, IsClosure, IsUnmarked, KeepsMarks, LeadAlike}
+use Rattle.wax_compare.specs.inner.Distinctions.{MarksOthers, TakesCharacter}
 use Rattle.wax_compare.proofs.Blocks.{no_mark}
 use Rattle.wax_compare.proofs.Closures.{closed_at, replaced_among}
 
@@ -19,7 +23,8 @@ swapped : {P Q R : Type 0} → P ↔ R → Q ↔ R → P ↔ Q
 swapped f g = ((λ p. g.1 (f.0 p)), (λ q. f.1 (g.0 q)))
 
 -- an instruction that takes both characters or neither does the same by both
-takes_alike : (i : Instruction) (c d : ℕ) → c < 1114112 → d < 1114112 → TakesCharacter i c ↔ TakesCharacter i d → Alike i c d
+takes_alike : (i : Instruction) (c d : ℕ) → c < 1114112 → d < 1114112
+    → TakesCharacter i c ↔ TakesCharacter i d → Alike i c d
 takes_alike (Check t) c d small other h = h
 takes_alike (Repeat t) c d small other h = h
 takes_alike Components c d small other h = h
@@ -29,27 +34,36 @@ takes_alike (Back n) c d small other h = tt
 takes_alike (End low high) c d small other h = λ number. (no_mark c d number small, no_mark d c number other)
 
 -- what of two letters that aren't marked is known, where all that is read was marked
-module _ (code : List Instruction) (letters places listed : List ℕ) (rows : List Exceptions) (marked : List Bool)
-    (long : length rows ≡ length code) (of : AreExceptionsOf code letters rows) (closure : IsClosure code places listed)
+module _ (code : List Instruction) (letters places listed : List ℕ)
+    (rows : List Exceptions) (marked : List Bool)
+    (long : length rows ≡ length code) (of : AreExceptionsOf code letters rows)
+    (closure : IsClosure code places listed)
     (told : (j : ℕ) → j < length listed → AreMarkedAt rows marked (slice_index listed j)) where
   told_at : (k : ℕ) → Contains listed k → AreMarkedAt rows marked k
-  told_at k has = subst (AreMarkedAt rows marked) (get_or_default listed has.0 0 k has.1 ∙ has.2) (told has.0 has.1)
+  told_at k has =
+      subst (AreMarkedAt rows marked) (get_or_default listed has.0 0 k has.1 ∙ has.2) (told has.0 has.1)
 
   like : (n m : ℕ) → n < length letters → m < length letters → IsUnmarked marked n → IsUnmarked marked m
-      → (k : ℕ) (i : Instruction) → Contains listed k → slice_get code k ≡ Some i → Alike i (slice_index letters n) (slice_index letters m)
+      → (k : ℕ) (i : Instruction) → Contains listed k → slice_get code k ≡ Some i
+      → Alike i (slice_index letters n) (slice_index letters m)
   like n m ltn ltm un um k i has is = elim (slice_get_cases rows k).1 [
-    | inl found ↦ of k i found.0 is found.2 n m ltn ltm (λ h. told_at k has found.0 n found.2 h un) (λ h. told_at k has found.0 m found.2 h um)
-    | inr none ↦ (let within : k < length code = slice_get_within code k i is in let no : ⊥ = omega (arith, within, long, none.0) in absurd no)
+    | inl found ↦ of k i found.0 is found.2 n m ltn ltm (λ h. told_at k has found.0 n found.2 h un)
+        (λ h. told_at k has found.0 m found.2 h um)
+    | inr none ↦ (let within : k < length code = slice_get_within code k i is in
+        let no : ⊥ = omega (arith, within, long, none.0) in absurd no)
   ]
 
   pub marks_others : MarksOthers code letters places marked
   marks_others n m ltn ltm un um s = (
-    replaced_among code listed (slice_index letters n) (slice_index letters m) (closed_at code places listed closure) (like n m ltn ltm un um) places s closure.begins,
-    replaced_among code listed (slice_index letters m) (slice_index letters n) (closed_at code places listed closure) (like m n ltm ltn um un) places s closure.begins,
+    replaced_among code listed (slice_index letters n) (slice_index letters m)
+        (closed_at code places listed closure) (like n m ltn ltm un um) places s closure.begins,
+    replaced_among code listed (slice_index letters m) (slice_index letters n)
+        (closed_at code places listed closure) (like m n ltm ltn um un) places s closure.begins,
   )
 
 -- where every letter is marked, nothing is said
-pub marks_all : (code : List Instruction) (letters places : List ℕ) (marked : List Bool) → ((n : ℕ) → IsUnmarked marked n → ⊥) → MarksOthers code letters places marked
+pub marks_all : (code : List Instruction) (letters places : List ℕ) (marked : List Bool)
+    → ((n : ℕ) → IsUnmarked marked n → ⊥) → MarksOthers code letters places marked
 marks_all code letters places marked none n m ltn ltm un um s = absurd (none n un)
 
 -- ---- marks
@@ -61,15 +75,19 @@ get_replicate zero b k a e = cc
 get_replicate (suc n) b zero a e = some_bools e
 get_replicate (suc n) b (suc k) a e = get_replicate n b k a e
 
-pub all_marked : (n : ℕ) (marked : List Bool) (b : Bool) → b ≡ true → marked ≡ replicate n b → (k : ℕ) → IsUnmarked marked k → ⊥
-all_marked n marked b set is k h = let e : b ≡ false = get_replicate n b k false (subst (λ l. slice_get l k ≡ Some false) is h) in cc
+pub all_marked : (n : ℕ) (marked : List Bool) (b : Bool) → b ≡ true → marked ≡ replicate n b → (k : ℕ)
+    → IsUnmarked marked k → ⊥
+all_marked n marked b set is k h = let e : b ≡ false =
+    get_replicate n b k false (subst (λ l. slice_get l k ≡ Some false) is h) in cc
 
-set_true : (xs : List Bool) (j k : ℕ) → slice_get (set xs j true) k ≡ Some false → (j ≢ k) × (slice_get xs k ≡ Some false)
+set_true : (xs : List Bool) (j k : ℕ) → slice_get (set xs j true) k ≡ Some false
+    → (j ≢ k) × (slice_get xs k ≡ Some false)
 set_true [] j k e = cc
 set_true (x ∷ xs) zero zero e = let no : true ≡ false = some_bools e in cc
 set_true (x ∷ xs) zero (suc k) e = ((λ z. cc), e)
 set_true (x ∷ xs) (suc j) zero e = ((λ z. cc), e)
-set_true (x ∷ xs) (suc j) (suc k) e = let h = set_true xs j k e in ((λ z. h.0 (let same : j ≡ k = omega (arith, z) in same)), h.1)
+set_true (x ∷ xs) (suc j) (suc k) e = let h = set_true xs j k e in
+    ((λ z. h.0 (let same : j ≡ k = omega (arith, z) in same)), h.1)
 
 pub keeps_marks_same : (xs : List Bool) → KeepsMarks xs xs
 keeps_marks_same xs n h = h
@@ -83,48 +101,61 @@ keeps_set xs ys j e n h = (set_true xs j n (subst (λ l. slice_get l n ≡ Some 
 pub marked_set : (xs ys : List Bool) (j : ℕ) → ys ≡ set xs j true → IsUnmarked ys j → ⊥
 marked_set xs ys j e h = (set_true xs j j (subst (λ l. slice_get l j ≡ Some false) e h)).0 refl
 
-pub marked_kept : (rows : List Exceptions) (old new : List Bool) (k : ℕ) → KeepsMarks old new → AreMarkedAt rows old k → AreMarkedAt rows new k
+pub marked_kept : (rows : List Exceptions) (old new : List Bool) (k : ℕ) → KeepsMarks old new
+    → AreMarkedAt rows old k → AreMarkedAt rows new k
 marked_kept rows old new k keeps h e n is has un = h e n is has (keeps n un)
 
 -- ---- the first letters of a row are marked
 abbrev pub MarkedUpTo : List ℕ → List Bool → ℕ → Type 0
 MarkedUpTo letters marked end = (j : ℕ) → j < end → IsUnmarked marked (slice_index letters j) → ⊥
 
-pub marked_more : (letters : List ℕ) (old new : List Bool) (end at : ℕ) → at ≡ slice_index letters end → KeepsMarks old new → MarkedUpTo letters old end → (IsUnmarked new at → ⊥) → MarkedUpTo letters new (end + 1)
+pub marked_more : (letters : List ℕ) (old new : List Bool) (end at : ℕ) → at ≡ slice_index letters end
+    → KeepsMarks old new → MarkedUpTo letters old end → (IsUnmarked new at → ⊥)
+    → MarkedUpTo letters new (end + 1)
 marked_more letters old new end at is keeps before now j lt h = elim (cases_lt j end) [
   | inl less ↦ before j less (keeps (slice_index letters j) h)
-  | inr past ↦ (let same : j ≡ end = omega (arith, lt, past) in now (subst (IsUnmarked new) (ap (slice_index letters) same ∙ sym is) h))
+  | inr past ↦ (let same : j ≡ end = omega (arith, lt, past) in
+      now (subst (IsUnmarked new) (ap (slice_index letters) same ∙ sym is) h))
 ]
 
-pub marked_all : (rows : List Exceptions) (row : Exceptions) (marked : List Bool) (k end : ℕ) → slice_get rows k ≡ Some row → length row.letters.items ≤ end → MarkedUpTo row.letters.items marked end → AreMarkedAt rows marked k
+pub marked_all : (rows : List Exceptions) (row : Exceptions) (marked : List Bool) (k end : ℕ)
+    → slice_get rows k ≡ Some row → length row.letters.items ≤ end → MarkedUpTo row.letters.items marked end
+    → AreMarkedAt rows marked k
 marked_all rows row marked k end at le h e n is has un =
     let same : row ≡ e = some_row (sym at ∙ is) in
     let has' : Contains row.letters.items n = subst (λ r. Contains r.letters.items n) (sym same) has in
-    h has'.0 (omega (arith, has'.1, le)) (subst (IsUnmarked marked) (sym (get_or_default row.letters.items has'.0 0 n has'.1 ∙ has'.2)) un)
+    h has'.0 (omega (arith, has'.1, le))
+    (subst (IsUnmarked marked) (sym (get_or_default row.letters.items has'.0 0 n has'.1 ∙ has'.2)) un)
   where
     some_row : {a b : Exceptions} → Some a ≡ Some b → a ≡ b
     some_row e = cc
 
 -- a letter that no row can mark, since there are fewer
 pub past_marks : (marked : List Bool) (n : ℕ) → length marked ≤ n → IsUnmarked marked n → ⊥
-past_marks marked n le h = let lt : n < length marked = slice_get_within marked n false h in omega (arith, lt, le)
+past_marks marked n le h = let lt : n < length marked = slice_get_within marked n false h in
+    omega (arith, lt, le)
 
 -- ---- what one instruction takes
-pub upto_more : (letters : List ℕ) (i : Instruction) (takes_others : Bool) (old new : List ℕ) (end : ℕ) → ((n : ℕ) → Contains old n → Contains new n) → AreExceptionsUpTo letters i takes_others old end
-    → Contains new end ⊎ ((slice_index letters end < 1114112) × (TakesCharacter i (slice_index letters end) ↔ IsTrue takes_others)) → AreExceptionsUpTo letters i takes_others new (end + 1)
+pub upto_more : (letters : List ℕ) (i : Instruction) (takes_others : Bool) (old new : List ℕ) (end : ℕ)
+    → ((n : ℕ) → Contains old n → Contains new n) → AreExceptionsUpTo letters i takes_others old end
+    → Contains new end ⊎ ((slice_index letters end < 1114112) × (TakesCharacter i (slice_index letters end)
+    ↔ IsTrue takes_others)) → AreExceptionsUpTo letters i takes_others new (end + 1)
 upto_more letters i takes_others old new end kept before now n lt = elim (cases_lt n end) [
   | inl less ↦ elim (before n less) [
     | inl has ↦ inl (kept n has)
     | inr takes ↦ inr takes
   ]
-  | inr past ↦ (let e : end ≡ n = omega (arith, lt, past) in subst (λ k. Contains new k ⊎ ((slice_index letters k < 1114112) × (TakesCharacter i (slice_index letters k) ↔ IsTrue takes_others))) e now)
+  | inr past ↦ (let e : end ≡ n = omega (arith, lt, past) in subst (λ k. Contains new k ⊎ ((slice_index
+      letters k < 1114112) × (TakesCharacter i (slice_index letters k) ↔ IsTrue takes_others))) e now)
 ]
 
 unlisted : {P : Type 0} (listed : List ℕ) (n : ℕ) → Contains listed n ⊎ P → (Contains listed n → ⊥) → P
 unlisted listed n (inl h) out = absurd (out h)
 unlisted listed n (inr h) out = h
 
-pub upto_all : (letters : List ℕ) (i : Instruction) (takes_others : Bool) (listed : List ℕ) (end : ℕ) → length letters ≤ end → AreExceptionsUpTo letters i takes_others listed end → AreExceptions letters i listed
+pub upto_all : (letters : List ℕ) (i : Instruction) (takes_others : Bool) (listed : List ℕ) (end : ℕ)
+    → length letters ≤ end → AreExceptionsUpTo letters i takes_others listed end
+    → AreExceptions letters i listed
 upto_all letters i takes_others listed end all h n m ltn ltm outn outm =
     let one = unlisted listed n (h n (omega (arith, ltn, all))) outn in
     let two = unlisted listed m (h m (omega (arith, ltm, all))) outm in
@@ -143,7 +174,8 @@ some_instructions : {a b : Instruction} → Some a ≡ Some b → a ≡ b
 some_instructions e = cc
 
 -- an entry is an old one or the last
-old_or_last : (xs : List Exceptions) (e x : Exceptions) (k : ℕ) → slice_get (xs ++ e ∷ []) k ≡ Some x → (slice_get xs k ≡ Some x) ⊎ ((k ≡ length xs) × (e ≡ x))
+old_or_last : (xs : List Exceptions) (e x : Exceptions) (k : ℕ) → slice_get (xs ++ e ∷ []) k ≡ Some x
+    → (slice_get xs k ≡ Some x) ⊎ ((k ≡ length xs) × (e ≡ x))
 old_or_last [] e x zero is = inr (refl, some_exceptions is)
 old_or_last [] e x (suc k) is = cc
 old_or_last (y ∷ xs) e x zero is = inl is
@@ -153,14 +185,18 @@ old_or_last (y ∷ xs) e x (suc k) is = elim (old_or_last xs e x k is) [
 ]
 
 -- one more row
-pub rows_more : (code : List Instruction) (letters : List ℕ) (old new : List Exceptions) (at : ℕ) (e : Exceptions) (i : Instruction) → length old ≡ at → slice_get code at ≡ Some i → new ≡ old ++ e ∷ []
-    → AreExceptions letters i e.letters.items → AreExceptionsOf code letters old → (length new ≡ at + 1) × AreExceptionsOf code letters new
+pub rows_more : (code : List Instruction) (letters : List ℕ) (old new : List Exceptions) (at : ℕ)
+    (e : Exceptions) (i : Instruction) → length old ≡ at → slice_get code at ≡ Some i → new ≡ old ++ e ∷ []
+    → AreExceptions letters i e.letters.items → AreExceptionsOf code letters old
+    → (length new ≡ at + 1) × AreExceptionsOf code letters new
 rows_more code letters old new at e i long is pushed good before = (
   omega (arith, ap length pushed, length-append old (e ∷ []), long),
   λ k j x isj isx. elim (old_or_last old e x k (subst (λ l. slice_get l k ≡ Some x) pushed isx)) [
     | inl was ↦ before k j x isj was
-    | inr last ↦ (let same : i ≡ j = some_instructions (sym is ∙ ap (slice_get code) (sym (last.0 ∙ long)) ∙ isj) in
-        subst (λ z. AreExceptions letters j z.letters.items) last.1 (subst (λ z. AreExceptions letters z e.letters.items) same good))
+    | inr last ↦ (let same : i ≡ j =
+        some_instructions (sym is ∙ ap (slice_get code) (sym (last.0 ∙ long)) ∙ isj) in
+        subst (λ z. AreExceptions letters j z.letters.items) last.1
+        (subst (λ z. AreExceptions letters z e.letters.items) same good))
   ],
 )
 
@@ -169,9 +205,12 @@ true_or_false true = inl refl
 true_or_false false = inr refl
 
 -- ---- places whose exceptions are marked
-pub places_more : (rows : List Exceptions) (places : List ℕ) (old new : List Bool) (end at : ℕ) → at ≡ slice_index places end → KeepsMarks old new → ((j : ℕ) → j < end → AreMarkedAt rows old (slice_index places j)) → AreMarkedAt rows new at
+pub places_more : (rows : List Exceptions) (places : List ℕ) (old new : List Bool) (end at : ℕ)
+    → at ≡ slice_index places end → KeepsMarks old new
+    → ((j : ℕ) → j < end → AreMarkedAt rows old (slice_index places j)) → AreMarkedAt rows new at
     → (j : ℕ) → j < end + 1 → AreMarkedAt rows new (slice_index places j)
 places_more rows places old new end at is keeps before now j lt = elim (cases_lt j end) [
   | inl less ↦ marked_kept rows old new (slice_index places j) keeps (before j less)
-  | inr past ↦ (let same : end ≡ j = omega (arith, lt, past) in subst (λ k. AreMarkedAt rows new (slice_index places k)) same (subst (AreMarkedAt rows new) is now))
+  | inr past ↦ (let same : end ≡ j = omega (arith, lt, past) in
+      subst (λ k. AreMarkedAt rows new (slice_index places k)) same (subst (AreMarkedAt rows new) is now))
 ]

@@ -1,5 +1,6 @@
 -- A pair that was followed by every letter.
-use Rattle.std.proofs.Common.{◌≡◌, ◌+◌, ◌<◌, ◌≤◌, ℕ, List, Some, length, get_or, slice_get, slice_index, sym, ◌∙◌, subst, inl, inr, arith}
+use Rattle.std.proofs.Common.{◌≡◌, ◌+◌, ◌<◌, ◌≤◌, ℕ, List, Some, length, get_or, slice_get, slice_index, sym}
+use Rattle.std.proofs.Common.{◌∙◌, subst, inl, inr, arith}
 use Rattle.std.proofs.lemmas.Bool.{cases_lt}
 use Rattle.std.proofs.lemmas.List.{get_or_default}
 use Rattle.std.proofs.lemmas.Option.{slice_get-get_or, slice_get_cases, slice_get_within}
@@ -12,23 +13,29 @@ use Rattle.wax_compare.specs.inner.Searching.{readings}
 use Rattle.wax_compare.specs.inner.Visiting.{AreShallow, Grow, IsHeld, IsSameSearch, IsVisited}
 use Rattle.wax_compare.proofs.Blocks.{scalar_first}
 
-module _ (code other : List Instruction) (s : Search) (reached : List Reached) (at : ℕ) (held : IsHeld code other s reached at)
-    (visited : (k : ℕ) → k < length s.letters.items → IsVisited (readings code other s) reached at (slice_index s.letters.items k)) where
+module _ (code other : List Instruction) (s : Search) (reached : List Reached) (at : ℕ)
+    (held : IsHeld code other s reached at)
+    (visited : (k : ℕ) → k < length s.letters.items
+    → IsVisited (readings code other s) reached at (slice_index s.letters.items k)) where
   followed_all : AreFollowed (readings code other s) reached (at + 1)
   followed_all i c t x lt is scalars h = elim (cases_lt i at) [
     | inl less ↦ held.followed i c t x less is scalars h
     | inr past ↦ (let same : i ≡ at = omega (arith, lt, past) in
         let found = held.letters c (scalar_first c t scalars) in
-        let letter : slice_index s.letters.items found.1.0 ≡ found.0 = get_or_default s.letters.items found.1.0 0 found.0 found.1.1 ∙ found.1.2 in
-        visited found.1.0 found.1.1 c t x (subst (λ n. slice_get reached n ≡ Some x) same is) (subst (λ l. StandsFor code other l c) (sym letter) found.2) h)
+        let letter : slice_index s.letters.items found.1.0 ≡ found.0 =
+        get_or_default s.letters.items found.1.0 0 found.0 found.1.1 ∙ found.1.2 in
+        visited found.1.0 found.1.1 c t x (subst (λ n. slice_get reached n ≡ Some x) same is)
+        (subst (λ l. StandsFor code other l c) (sym letter) found.2) h)
   ]
 
   shallow_next : AreShallow reached (at + 1)
   shallow_next i x y isx isy =
       let within : at + 1 < length reached = slice_get_within reached (at + 1) y isy in
-      let here : slice_get reached at ≡ Some (get_or reached at x) = slice_get-get_or reached at x (omega (arith, within)) in
+      let here : slice_get reached at ≡ Some (get_or reached at x) =
+      slice_get-get_or reached at x (omega (arith, within)) in
       let low : x.depth ≤ (get_or reached at x).depth + 1 = held.shallow i x (get_or reached at x) isx here in
-      let up : (get_or reached at x).depth ≤ y.depth = held.pairs.rises at (at + 1) (get_or reached at x) y (omega arith) here isy in
+      let up : (get_or reached at x).depth ≤ y.depth =
+      held.pairs.rises at (at + 1) (get_or reached at x) y (omega arith) here isy in
       omega (arith, low, up)
 
   pub held_next : IsHeld code other s reached (at + 1)
@@ -48,4 +55,5 @@ grown_within old new at grow lt = elim (slice_get_cases old at).1 [
 ]
 
 pub same_on : (old mid new : Search) → IsSameSearch old mid → IsSameSearch mid new → IsSameSearch old new
-same_on old mid new f g = record { wanted = g.wanted ∙ f.wanted; texts = g.texts ∙ f.texts; letters = g.letters ∙ f.letters }
+same_on old mid new f g =
+    record { wanted = g.wanted ∙ f.wanted; texts = g.texts ∙ f.texts; letters = g.letters ∙ f.letters }

@@ -1,5 +1,7 @@
 -- Letters that stand for others that pass the same tests.
-use Rattle.std.proofs.Common.{◌≡◌, ◌↔◌, ◌+◌, ◌<◌, ◌≤◌, ◌==◌, ℕ, Bool, true, false, List, ◌∷◌, [], ◌++◌, Some, IfSome, Contains, length, get_or, slice_get, slice_index, refl, sym, ◌∙◌, subst, inl, inr, arith}
+use Rattle.std.proofs.Common.{◌≡◌, ◌↔◌, ◌+◌, ◌<◌, ◌≤◌, ◌==◌, ℕ, Bool, true, false, List, ◌∷◌, [], ◌++◌, Some}
+use Rattle.std.proofs.Common.{IfSome, Contains, length, get_or, slice_get, slice_index, refl, sym, ◌∙◌, subst}
+use Rattle.std.proofs.Common.{inl, inr, arith}
 use Rattle.std.proofs.Math.Bool.{beq, not}
 use Rattle.std.proofs.lemmas.Bool.{cases_lt, eq-eqb, eqb-true}
 use Rattle.std.proofs.lemmas.List.{get_or_default}
@@ -29,7 +31,8 @@ alike_on (Jump n) c d e f g = tt
 alike_on (Back n) c d e f g = tt
 alike_on (End low high) c d e f g = λ number. both_on (f number) (g number)
 
-stands_on : (code other : List Instruction) (c d e : ℕ) → StandsFor code other d c → StandsFor code other e d → StandsFor code other e c
+stands_on : (code other : List Instruction) (c d e : ℕ) → StandsFor code other d c → StandsFor code other e d
+    → StandsFor code other e c
 stands_on code other c d e f g = record {
   first = λ k i is. alike_on i c d e (f.first k i is) (g.first k i is);
   second = λ k i is. alike_on i c d e (f.second k i is) (g.second k i is);
@@ -37,19 +40,24 @@ stands_on code other c d e f g = record {
 }
 
 -- ---- characters that pass the same tests
-agree_alike : (i : Instruction) (c d : ℕ) → c < 1114112 → d < 1114112 → (c ≡ 47) ↔ (d ≡ 47) → IfSome (test_of i) (λ t. PassesTest t c ↔ PassesTest t d) → Alike i c d
+agree_alike : (i : Instruction) (c d : ℕ) → c < 1114112 → d < 1114112 → (c ≡ 47) ↔ (d ≡ 47)
+    → IfSome (test_of i) (λ t. PassesTest t c ↔ PassesTest t d) → Alike i c d
 agree_alike (Check t) c d small other slash h = h
 agree_alike (Repeat t) c d small other slash h = h
 agree_alike Components c d small other slash h = slash
 agree_alike (Fork n) c d small other slash h = tt
 agree_alike (Jump n) c d small other slash h = tt
 agree_alike (Back n) c d small other slash h = tt
-agree_alike (End low high) c d small other slash h = λ number. (no_mark c d number small, no_mark d c number other)
+agree_alike (End low high) c d small other slash h =
+    λ number. (no_mark c d number small, no_mark d c number other)
 
-all_alike : (code : List Instruction) (c d : ℕ) → c < 1114112 → d < 1114112 → (c ≡ 47) ↔ (d ≡ 47) → AgreeBefore code (length code) c d → AreAlike code c d
-all_alike code c d small other slash h k i is = agree_alike i c d small other slash (h k (slice_get_within code k i is) i is)
+all_alike : (code : List Instruction) (c d : ℕ) → c < 1114112 → d < 1114112 → (c ≡ 47) ↔ (d ≡ 47)
+    → AgreeBefore code (length code) c d → AreAlike code c d
+all_alike code c d small other slash h k i is =
+    agree_alike i c d small other slash (h k (slice_get_within code k i is) i is)
 
-pub agree_stands : (code other : List Instruction) (c letter : ℕ) → c < 1114112 → letter < 1114112 → (c ≡ 47) ↔ (letter ≡ 47) → AgreeBefore code (length code) c letter
+pub agree_stands : (code other : List Instruction) (c letter : ℕ) → c < 1114112 → letter < 1114112
+    → (c ≡ 47) ↔ (letter ≡ 47) → AgreeBefore code (length code) c letter
     → AgreeBefore other (length other) c letter → StandsFor code other letter c
 agree_stands code other c letter small low slash f g = record {
   first = all_alike code c letter small low slash f;
@@ -57,14 +65,16 @@ agree_stands code other c letter small low slash f g = record {
   slash = slash;
 }
 
-pub agree_more : (code : List Instruction) (at c d : ℕ) → AgreeBefore code at c d → AgreeAt code at c d → AgreeBefore code (at + 1) c d
+pub agree_more : (code : List Instruction) (at c d : ℕ) → AgreeBefore code at c d → AgreeAt code at c d
+    → AgreeBefore code (at + 1) c d
 agree_more code at c d before now k lt = elim (cases_lt k at) [
   | inl less ↦ before k less
   | inr past ↦ (let same : at ≡ k = omega (arith, lt, past) in subst (λ n. AgreeAt code n c d) same now)
 ]
 
 -- ---- letters that are kept
-pub itself : (code other : List Instruction) (letters : List ℕ) (c : ℕ) → Contains letters c → HasStandIn code other letters c
+pub itself : (code other : List Instruction) (letters : List ℕ) (c : ℕ) → Contains letters c
+    → HasStandIn code other letters c
 itself code other letters c h =
     let stands : StandsFor code other c c = record {
       first = same_alike code c;
@@ -73,19 +83,23 @@ itself code other letters c h =
     } in
     (c, h, stands)
 
-pub merged_more : (code other : List Instruction) (letters : List ℕ) (n : ℕ) (old new : List ℕ) → AreKept old new → AreMerged code other letters n old → HasStandIn code other new (slice_index letters n)
+pub merged_more : (code other : List Instruction) (letters : List ℕ) (n : ℕ) (old new : List ℕ)
+    → AreKept old new → AreMerged code other letters n old → HasStandIn code other new (slice_index letters n)
     → AreMerged code other letters (n + 1) new
 merged_more code other letters n old new kept before now k lt = elim (cases_lt k n) [
   | inl less ↦ (let h = before k less in (h.0, kept h.0 h.1, h.2))
-  | inr past ↦ (let same : n ≡ k = omega (arith, lt, past) in subst (λ i. HasStandIn code other new (slice_index letters i)) same now)
+  | inr past ↦ (let same : n ≡ k = omega (arith, lt, past) in
+      subst (λ i. HasStandIn code other new (slice_index letters i)) same now)
 ]
 
-pub merged_all : (code other : List Instruction) (letters : List ℕ) (n : ℕ) (kept : List ℕ) → length letters ≤ n → AreMerged code other letters n kept → (c : ℕ) → Contains letters c → HasStandIn code other kept c
+pub merged_all : (code other : List Instruction) (letters : List ℕ) (n : ℕ) (kept : List ℕ) → length letters
+    ≤ n → AreMerged code other letters n kept → (c : ℕ) → Contains letters c → HasStandIn code other kept c
 merged_all code other letters n kept all h c has =
     let is : slice_index letters has.0 ≡ c = get_or_default letters has.0 0 c has.1 ∙ has.2 in
     subst (HasStandIn code other kept) is (h has.0 (omega (arith, has.1, all)))
 
-pub letters_merged : (code other : List Instruction) (letters kept : List ℕ) → AreLetters code other letters → ((c : ℕ) → Contains letters c → HasStandIn code other kept c) → AreLetters code other kept
+pub letters_merged : (code other : List Instruction) (letters kept : List ℕ) → AreLetters code other letters
+    → ((c : ℕ) → Contains letters c → HasStandIn code other kept c) → AreLetters code other kept
 letters_merged code other letters kept stand merged c scalar =
     let one = stand c scalar in
     let two = merged one.0 one.1 in

@@ -1,5 +1,6 @@
 -- Plain paths, read character by character.
-use Rattle.std.proofs.Common.{◌≡◌, ◌≢◌, ◌==◌, ℕ, Bool, true, false, not, IsTrue, List, [], ◌∷◌, ◌++◌, ◌↔◌, refl, sym, ◌∙◌, ap, subst, inl, inr}
+use Rattle.std.proofs.Common.{◌≡◌, ◌≢◌, ◌==◌, ℕ, Bool, true, false, not, IsTrue, List, [], ◌∷◌, ◌++◌, ◌↔◌}
+use Rattle.std.proofs.Common.{refl, sym, ◌∙◌, ap, subst, inl, inr}
 use Rattle.std.proofs.lemmas.Bool.{cases_eq, eq-eqb, eqb-true}
 use Rattle.wax_query.specs.Below.{AreNames, IsPlainPath, joined_names, slashed}
 use Rattle.wax_query.specs.Components.{Bare, BeginsWithSlash, EndsWithSlash, HasNoSlash}
@@ -25,7 +26,8 @@ named : (n rest : List ℕ) → HasNoSlash n → GoesOnInNames true rest → Goe
 named [] rest h a = a
 named (c ∷ n) rest h a = ((λ e. refl), after_other c (n ++ rest) h.0 (named n rest h.1 a))
 
-begun : (n rest : List ℕ) → ¬ (n ≡ []) → HasNoSlash n → GoesOnInNames true rest → GoesOnInNames false (n ++ rest)
+begun : (n rest : List ℕ) → ¬ (n ≡ []) → HasNoSlash n → GoesOnInNames true rest
+    → GoesOnInNames false (n ++ rest)
 begun [] rest e h a = absurd (e refl)
 begun (c ∷ n) rest e h a = ((λ is. absurd (h.0 is)), after_other c (n ++ rest) h.0 (named n rest h.1 a))
 
@@ -35,12 +37,14 @@ after_names (n ∷ names) a = ((λ e. refl), begun n (slashed names) a.0 a.1 (af
 
 pub plain_goes : (s : List ℕ) → IsPlainPath s → GoesOnInNames false s
 plain_goes s ([], a, e, is) = absurd (e refl)
-plain_goes s (n ∷ names, a, e, is) = subst (GoesOnInNames false) (sym is) (begun n (slashed names) a.0 a.1 (after_names names a.2))
+plain_goes s (n ∷ names, a, e, is) =
+    subst (GoesOnInNames false) (sym is) (begun n (slashed names) a.0 a.1 (after_names names a.2))
 
 -- ---- and back
 -- the rest of a name, and names after it
 abbrev RestOfPath : List ℕ → Type 0
-RestOfPath s = (n : List ℕ) × (names : List (List ℕ)) × HasNoSlash n × AreNames names × (s ≡ n ++ slashed names)
+RestOfPath s = (n : List ℕ) × (names : List (List ℕ)) × HasNoSlash n × AreNames names
+    × (s ≡ n ++ slashed names)
 
 with_first : (c : ℕ) (s : List ℕ) → c ≢ 47 → RestOfPath s → RestOfPath (c ∷ s)
 with_first c s n (m, names, h, a, is) = (c ∷ m, names, (n, h), a, ap (λ z. c ∷ z) is)
@@ -85,7 +89,11 @@ not_empty s h e = let no : false ≡ true = subst (GoesOnInNames false) e h in c
 pub plain_bare : (s : List ℕ) → IsPlainPath s → Bare s × (HasTwoSlashes s → ⊥)
 plain_bare s h =
     let goes = plain_goes s h in (
-      (not_empty s goes, (λ b. not_begun b.0 (subst (GoesOnInNames false) b.1 goes)), (λ e. no_end false e.0 (subst (GoesOnInNames false) e.1 goes))),
+      (
+        not_empty s goes,
+        (λ b. not_begun b.0 (subst (GoesOnInNames false) b.1 goes)),
+        (λ e. no_end false e.0 (subst (GoesOnInNames false) e.1 goes)),
+      ),
       (λ d. no_empty_name false d.0 d.1 (subst (GoesOnInNames false) d.2 goes)),
     )
 

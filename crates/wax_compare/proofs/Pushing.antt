@@ -1,5 +1,6 @@
 -- A pair that is added, and what a letter led to.
-use Rattle.std.proofs.Common.{◌≡◌, ◌+◌, ◌<◌, ◌≤◌, ◌⊎◌, ℕ, List, [], ◌∷◌, ◌++◌, Some, None, length, length-append, slice_get, sym, ◌∙◌, ap, subst, inl, inr, arith}
+use Rattle.std.proofs.Common.{◌≡◌, ◌+◌, ◌<◌, ◌≤◌, ◌⊎◌, ℕ, List, [], ◌∷◌, ◌++◌, Some, None, length}
+use Rattle.std.proofs.Common.{length-append, slice_get, sym, ◌∙◌, ap, subst, inl, inr, arith}
 use Rattle.std.proofs.lemmas.Bool.{cases_lt}
 use Rattle.std.proofs.lemmas.Option.{slice_get_within}
 use Rattle.std.specs.Char.{IsScalar}
@@ -10,14 +11,19 @@ use Rattle.wax_compare.specs.declared.search.Search.{Search}
 use Rattle.wax_compare.specs.Cuts.{AreLetters}
 use Rattle.wax_compare.specs.inner.Going.{Goes}
 use Rattle.wax_compare.specs.inner.Automata.{StatesStay, state_places}
-use Rattle.wax_compare.specs.inner.Reaching.{AreFollowed, AreReachedPairs, CameFrom, GoesAt, Reaches, Readings}
+use Rattle.wax_compare.specs.inner.Reaching.{AreFollowed, AreReachedPairs, CameFrom, GoesAt, Reaches}
+use Rattle.wax_compare.specs.inner.Reaching.{Readings}
 use Rattle.wax_compare.specs.inner.Searching.{AreAutomataOf, GoesFrom, IsNextOrNone, IsNextPair, readings}
-use Rattle.wax_compare.specs.inner.Visiting.{AreShallow, EndsAt, Grow, HasPair, IsHeld, IsSameSearch, IsVisited}
-use Rattle.wax_compare.proofs.Visiting.{Later, begin_later, followed_later, get_append, get_end, pairs_later, search_later, some_same}
+use Rattle.wax_compare.specs.inner.Visiting.{AreShallow, EndsAt, Grow, HasPair, IsHeld, IsSameSearch}
+use Rattle.wax_compare.specs.inner.Visiting.{IsVisited}
+use Rattle.wax_compare.proofs.Visiting.{Later, begin_later, followed_later, get_append, get_end, pairs_later}
+use Rattle.wax_compare.proofs.Visiting.{search_later, some_same}
 
 -- ---- a search whose automata grew
-pub held_later : (code other : List Instruction) (old new : Search) (reached : List Reached) (at : ℕ) → IsHeld code other old reached at → AreAutomataOf code other new → IsSameSearch old new
-    → StatesStay old.first.states.items new.first.states.items → StatesStay old.second.states.items new.second.states.items → IsHeld code other new reached at
+pub held_later : (code other : List Instruction) (old new : Search) (reached : List Reached) (at : ℕ)
+    → IsHeld code other old reached at → AreAutomataOf code other new → IsSameSearch old new
+    → StatesStay old.first.states.items new.first.states.items
+    → StatesStay old.second.states.items new.second.states.items → IsHeld code other new reached at
 held_later code other old new reached at held automata same one two =
     let r = readings code other old in
     let r' = readings code other new in
@@ -40,7 +46,8 @@ module _ (reached : List Reached) (new : Reached) where
   grow_push i x is = get_append reached (new ∷ []) i (slice_get_within reached i x is) ∙ is
 
   -- an entry is an old one, or the new one
-  old_or_new : (i : ℕ) (x : Reached) → slice_get more i ≡ Some x → (slice_get reached i ≡ Some x) ⊎ ((i ≡ length reached) × (x ≡ new))
+  old_or_new : (i : ℕ) (x : Reached) → slice_get more i ≡ Some x → (slice_get reached i ≡ Some x)
+      ⊎ ((i ≡ length reached) × (x ≡ new))
   old_or_new i x is = elim (cases_lt i (length reached)) [
     | inl lt ↦ inl (sym (get_append reached (new ∷ []) i lt) ∙ is)
     | inr past ↦ (let within : i < length more = slice_get_within more i x is in
@@ -50,15 +57,18 @@ module _ (reached : List Reached) (new : Reached) where
 
   module _ (r : Readings) where
     reaches_more : (s : List ℕ) (depth : ℕ) → Reaches r reached s depth → Reaches r more s depth
-    reaches_more s depth h = record { at = h.at; pair = h.pair; is = grow_push h.at h.pair h.is; near = h.near; goes = h.goes }
+    reaches_more s depth h =
+        record { at = h.at; pair = h.pair; is = grow_push h.at h.pair h.is; near = h.near; goes = h.goes }
 
-    pub visited_more : (at letter : ℕ) → at < length reached → IsVisited r reached at letter → IsVisited r more at letter
+    pub visited_more : (at letter : ℕ) → at < length reached → IsVisited r reached at letter
+        → IsVisited r more at letter
     visited_more at letter lt v c s x is stands h =
         reaches_more s (x.depth + 1) (v c s x (sym (get_append reached (new ∷ []) at lt) ∙ is) stands h)
 
     followed_more : (done : ℕ) → done ≤ length reached → AreFollowed r reached done → AreFollowed r more done
     followed_more done within f i c s x lt is scalars h =
-        reaches_more s (x.depth + 1) (f i c s x lt (sym (get_append reached (new ∷ []) i (omega (arith, lt, within))) ∙ is) scalars h)
+        reaches_more s (x.depth + 1)
+        (f i c s x lt (sym (get_append reached (new ∷ []) i (omega (arith, lt, within))) ∙ is) scalars h)
 
     came_more : (i : ℕ) (x : Reached) → CameFrom r reached x i → CameFrom r more x i
     came_more i x came = record {
@@ -70,8 +80,10 @@ module _ (reached : List Reached) (new : Reached) where
       back = came.back;
     }
 
-    module _ (from : Reached) (at : ℕ) (at_is : slice_get reached at ≡ Some from) (letter : ℕ) (scalar : IsScalar letter) (pairs : AreReachedPairs r reached) (shallow : AreShallow reached at)
-        (pair : IsNextPair r letter from.pair new.pair) (before : new.before ≡ at) (by : new.letter ≡ letter) (deeper : new.depth ≡ from.depth + 1) (unwanted : GoesFrom r new.pair [] → ⊥) where
+    module _ (from : Reached) (at : ℕ) (at_is : slice_get reached at ≡ Some from) (letter : ℕ)
+        (scalar : IsScalar letter) (pairs : AreReachedPairs r reached) (shallow : AreShallow reached at)
+        (pair : IsNextPair r letter from.pair new.pair) (before : new.before ≡ at) (by : new.letter ≡ letter)
+        (deeper : new.depth ≡ from.depth + 1) (unwanted : GoesFrom r new.pair [] → ⊥) where
       within : at < length reached
       within = slice_get_within reached at from at_is
 
@@ -95,7 +107,8 @@ module _ (reached : List Reached) (new : Reached) where
       pairs_push = record {
         placed = λ i x is. elim (old_or_new i x is) [
           | inl old ↦ pairs.placed i x old
-          | inr e ↦ subst (λ y. (y.pair.first < length r.firsts) × (y.pair.second < length r.seconds)) (sym e.1) (pair.first, pair.second)
+          | inr e ↦ subst (λ y. (y.pair.first < length r.firsts) × (y.pair.second < length r.seconds))
+              (sym e.1) (pair.first, pair.second)
         ];
         beginning = λ x is. elim (old_or_new 0 x is) [
           | inl old ↦ pairs.beginning x old
@@ -104,7 +117,8 @@ module _ (reached : List Reached) (new : Reached) where
         some = omega (arith, pairs.some, length-append reached (new ∷ []));
         came = λ i x lt is. elim (old_or_new i x is) [
           | inl old ↦ came_more i x (pairs.came i x lt old)
-          | inr e ↦ subst (λ n. CameFrom r more x n) (sym e.0) (subst (λ y. CameFrom r more y (length reached)) (sym e.1) came_new)
+          | inr e ↦ subst (λ n. CameFrom r more x n) (sym e.0)
+              (subst (λ y. CameFrom r more y (length reached)) (sym e.1) came_new)
         ];
         none = λ i x is h. elim (old_or_new i x is) [
           | inl old ↦ pairs.none i x old h
@@ -117,10 +131,12 @@ module _ (reached : List Reached) (new : Reached) where
         rises = λ i j x y le isx isy. elim (old_or_new j y isy) [
           | inl oldy ↦ elim (old_or_new i x isx) [
             | inl oldx ↦ pairs.rises i j x y le oldx oldy
-            | inr e ↦ (let lt : j < length reached = slice_get_within reached j y oldy in let no : ⊥ = omega (arith, le, e.0, lt) in absurd no)
+            | inr e ↦ (let lt : j < length reached = slice_get_within reached j y oldy in
+                let no : ⊥ = omega (arith, le, e.0, lt) in absurd no)
           ]
           | inr e ↦ (let d : y.depth ≡ new.depth = ap (λ z. z.depth) e.1 in elim (old_or_new i x isx) [
-            | inl oldx ↦ (let low : x.depth ≤ from.depth + 1 = shallow_old i x oldx in omega (arith, low, d, deeper))
+            | inl oldx ↦
+                (let low : x.depth ≤ from.depth + 1 = shallow_old i x oldx in omega (arith, low, d, deeper))
             | inr f ↦ (let same : x.depth ≡ new.depth = ap (λ z. z.depth) f.1 in omega (arith, same, d))
           ])
         ];
@@ -141,27 +157,41 @@ module _ (reached : List Reached) (new : Reached) where
       pub visited_new : IsVisited r more at letter
       visited_new c s x is stands h =
           let same : from ≡ x = some_same (sym at_is ∙ sym (get_append reached (new ∷ []) at within) ∙ is) in
-          let there : GoesFrom r new.pair s = pair.onward c s stands (subst (λ z. GoesAt r z (c ∷ s)) (sym same) h) in
-          let near : new.depth ≤ x.depth + 1 = let d : from.depth ≡ x.depth = ap (λ z. z.depth) same in omega (arith, deeper, d) in
+          let there : GoesFrom r new.pair s =
+          pair.onward c s stands (subst (λ z. GoesAt r z (c ∷ s)) (sym same) h) in
+          let near : new.depth ≤ x.depth + 1 = let d : from.depth ≡ x.depth = ap (λ z. z.depth) same in
+          omega (arith, deeper, d) in
           record { at = length reached; pair = new; is = get_end reached new; near = near; goes = there }
 
 -- ---- a letter that leads nowhere, or to a pair that was reached
-module _ (r : Readings) (reached : List Reached) (from : Reached) (at letter : ℕ) (at_is : slice_get reached at ≡ Some from) where
+module _ (r : Readings) (reached : List Reached) (from : Reached) (at letter : ℕ)
+    (at_is : slice_get reached at ≡ Some from) where
   pub visited_dead : IsNextOrNone r letter from.pair None → IsVisited r reached at letter
   visited_dead dead c s x is stands h =
       let same : x ≡ from = some_same (sym is ∙ at_is) in
       absurd (dead c s stands (subst (λ z. GoesAt r z (c ∷ s)) same h))
 
-  pub visited_known : (p : StatePair) → IsNextPair r letter from.pair p → HasPair reached p → AreShallow reached at → IsVisited r reached at letter
+  pub visited_known : (p : StatePair) → IsNextPair r letter from.pair p → HasPair reached p
+      → AreShallow reached at → IsVisited r reached at letter
   visited_known p pair has shallow c s x is stands h =
       let same : x ≡ from = some_same (sym is ∙ at_is) in
       let there : GoesFrom r p s = pair.onward c s stands (subst (λ z. GoesAt r z (c ∷ s)) same h) in
-      record { at = has.at; pair = has.entry; is = has.is; near = shallow has.at has.entry x has.is is; goes = moved s there }
+      record {
+        at = has.at;
+        pair = has.entry;
+        is = has.is;
+        near = shallow has.at has.entry x has.is is;
+        goes = moved s there;
+      }
     where
       moved : (s : List ℕ) → GoesFrom r p s → GoesAt r has.entry s
-      moved s h = subst (λ n. Goes r.task (state_places r.firsts n) (state_places r.seconds has.entry.pair.second) has.entry.pair.may_end s) (sym has.same.first)
-          (subst (λ n. Goes r.task (state_places r.firsts p.first) (state_places r.seconds n) has.entry.pair.may_end s) (sym has.same.second)
-          (subst (λ b. Goes r.task (state_places r.firsts p.first) (state_places r.seconds p.second) b s) (sym has.same.may_end) h))
+      moved s h = subst (λ n. Goes r.task (state_places r.firsts n)
+          (state_places r.seconds has.entry.pair.second) has.entry.pair.may_end s) (sym has.same.first)
+          (subst (λ n. Goes r.task (state_places r.firsts p.first)
+          (state_places r.seconds n) has.entry.pair.may_end s) (sym has.same.second)
+          (subst (λ b. Goes r.task (state_places r.firsts p.first) (state_places r.seconds p.second) b s)
+          (sym has.same.may_end) h))
 
-  pub ends_at : (p : StatePair) → IsNextPair r letter from.pair p → GoesFrom r p [] → EndsAt r reached at letter
+  pub ends_at : (p : StatePair) → IsNextPair r letter from.pair p → GoesFrom r p []
+      → EndsAt r reached at letter
   ends_at p pair h x is = subst (λ z. GoesAt r z (letter ∷ [])) (some_same (sym at_is ∙ is)) (pair.back [] h)

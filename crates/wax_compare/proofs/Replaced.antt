@@ -24,12 +24,14 @@ heads : {a b : ℕ} {s t : List ℕ} → a ∷ s ≡ b ∷ t → (a ≡ b) × (s
 heads e = (cc, cc)
 
 -- a text that is a mark stays one
-pub marked : (c d number : ℕ) (s : List ℕ) → (c ≡ mark number) ↔ (d ≡ mark number) → c ∷ s ≡ mark number ∷ [] → d ∷ s ≡ mark number ∷ []
+pub marked : (c d number : ℕ) (s : List ℕ) → (c ≡ mark number) ↔ (d ≡ mark number) → c ∷ s ≡ mark number ∷ []
+    → d ∷ s ≡ mark number ∷ []
 marked c d number s like e = let parts = heads e in let is = like.0 parts.0 in let rest = parts.1 in cc
 
 module _ (code : List Instruction) (c d : ℕ) (like : AreAlike code c d) where
   moved : (n k : ℕ) (s : List ℕ) (i : Instruction) → Alike i c d → Moves i (AcceptsIn code n) k (c ∷ s)
-      → ((x : ℕ) → AcceptsIn code n x (c ∷ s) → AcceptsIn code n x (d ∷ s)) → Moves i (AcceptsIn code n) k (d ∷ s)
+      → ((x : ℕ) → AcceptsIn code n x (c ∷ s) → AcceptsIn code n x (d ∷ s))
+      → Moves i (AcceptsIn code n) k (d ∷ s)
   moved n k s (Check t) h m again = (h.0 m.0, m.1)
   moved n k s (Repeat t) h (inl m) again = inl (again (k + 1) m)
   moved n k s (Repeat t) h (inr m) again = inr (h.0 m.0, m.1)
@@ -47,7 +49,8 @@ module _ (code : List Instruction) (c d : ℕ) (like : AreAlike code c d) where
   accepts_in : (n k : ℕ) (s : List ℕ) → AcceptsIn code n k (c ∷ s) → AcceptsIn code n k (d ∷ s)
   accepts_in zero k s h = absurd h
   accepts_in (suc n) k s (inl h) = absurd (cons_nil h.1)
-  accepts_in (suc n) k s (inr h) = inr (h.0, h.1, moved n k s h.0 (like k h.0 h.1) h.2 (λ x m. accepts_in n x s m))
+  accepts_in (suc n) k s (inr h) =
+      inr (h.0, h.1, moved n k s h.0 (like k h.0 h.1) h.2 (λ x m. accepts_in n x s m))
 
   pub replaced : (places s : List ℕ) → AnyAmong code places (c ∷ s) → AnyAmong code places (d ∷ s)
   replaced places s h = (h.0, h.1, (h.2.0, accepts_in h.2.0 h.0 s h.2.1))

@@ -1,5 +1,6 @@
 -- Pairs that are followed by letters.
-use Rattle.std.proofs.Common.{◌≡◌, ◌+◌, ◌<◌, ◌↔◌, ℕ, zero, suc, List, [], ◌∷◌, ◌++◌, Some, length, slice_get, refl, sym, ◌∙◌, ap, subst, arith}
+use Rattle.std.proofs.Common.{◌≡◌, ◌+◌, ◌<◌, ◌↔◌, ℕ, zero, suc, List, [], ◌∷◌, ◌++◌, Some, length, slice_get}
+use Rattle.std.proofs.Common.{refl, sym, ◌∙◌, ap, subst, arith}
 use Rattle.wax_program.specs.declared.instruction.Instruction.{Instruction}
 use Rattle.wax_program.specs.Machine.{Accepts}
 use Rattle.wax_program.specs.Threads.{AnyAmong}
@@ -10,7 +11,8 @@ use Rattle.wax_compare.specs.declared.search.Search.{Search}
 use Rattle.wax_compare.specs.Cuts.{StandsFor}
 use Rattle.wax_compare.specs.inner.Going.{Goes, starts}
 use Rattle.wax_compare.specs.inner.Automata.{BeginsAsProgram, StatesStay, state_places}
-use Rattle.wax_compare.specs.inner.Reaching.{AreFollowed, AreReachedPairs, BeginAsPrograms, CameFrom, GoesAt, Reaches, Readings}
+use Rattle.wax_compare.specs.inner.Reaching.{AreFollowed, AreReachedPairs, BeginAsPrograms, CameFrom, GoesAt}
+use Rattle.wax_compare.specs.inner.Reaching.{Reaches, Readings}
 use Rattle.wax_compare.specs.inner.Searching.{GoesFrom, readings}
 use Rattle.wax_compare.specs.inner.Visiting.{IsSameSearch, IsVisited}
 
@@ -36,18 +38,26 @@ pub later_same : (r : Readings) → Later r r
 later_same r = record { task = refl; firsts = λ t lt. (lt, refl, refl); seconds = λ t lt. (lt, refl, refl) }
 
 module _ (r r' : Readings) (later : Later r r') where
-  module _ (p : StatePair) (first : p.first < length r.firsts) (second : p.second < length r.seconds) (s : List ℕ) where
+  module _ (p : StatePair) (first : p.first < length r.firsts)
+      (second : p.second < length r.seconds) (s : List ℕ) where
     pub goes_later : GoesFrom r p s → GoesFrom r' p s
-    goes_later h = subst (λ t. Goes t (state_places r'.firsts p.first) (state_places r'.seconds p.second) p.may_end s) (sym later.task)
-        (subst (λ z. Goes r.task z (state_places r'.seconds p.second) p.may_end s) (sym (later.firsts p.first first).1)
-        (subst (λ z. Goes r.task (state_places r.firsts p.first) z p.may_end s) (sym (later.seconds p.second second).1) h))
+    goes_later h = subst (λ t. Goes t (state_places r'.firsts p.first)
+        (state_places r'.seconds p.second) p.may_end s) (sym later.task)
+        (subst (λ z. Goes r.task z (state_places r'.seconds p.second) p.may_end s)
+        (sym (later.firsts p.first first).1)
+        (subst (λ z. Goes r.task (state_places r.firsts p.first) z p.may_end s)
+        (sym (later.seconds p.second second).1) h))
 
     pub goes_before : GoesFrom r' p s → GoesFrom r p s
-    goes_before h = subst (λ z. Goes r.task (state_places r.firsts p.first) z p.may_end s) (later.seconds p.second second).1
-        (subst (λ z. Goes r.task z (state_places r'.seconds p.second) p.may_end s) (later.firsts p.first first).1
-        (subst (λ t. Goes t (state_places r'.firsts p.first) (state_places r'.seconds p.second) p.may_end s) later.task h))
+    goes_before h = subst (λ z. Goes r.task (state_places r.firsts p.first) z p.may_end s)
+        (later.seconds p.second second).1
+        (subst (λ z. Goes r.task z (state_places r'.seconds p.second) p.may_end s)
+        (later.firsts p.first first).1
+        (subst (λ t. Goes t (state_places r'.firsts p.first) (state_places r'.seconds p.second) p.may_end s)
+        later.task h))
 
-  begins_later : (code : List Instruction) (old new : List ProgramState) → StatesStay old new → BeginsAsProgram code old → BeginsAsProgram code new
+  begins_later : (code : List Instruction) (old new : List ProgramState) → StatesStay old new
+      → BeginsAsProgram code old → BeginsAsProgram code new
   begins_later code old new keeps b = record {
     some = (keeps 0 b.some).0;
     accepts = λ s. subst (λ z. Accepts code 0 s ↔ AnyAmong code z s) (sym (keeps 0 b.some).1) (b.accepts s);
@@ -55,28 +65,41 @@ module _ (r r' : Readings) (later : Later r r') where
 
   pub begin_later : BeginAsPrograms r → BeginAsPrograms r'
   begin_later b = record {
-    first = subst (λ t. BeginsAsProgram t.code r'.firsts) (sym later.task) (begins_later r.task.code r.firsts r'.firsts later.firsts b.first);
-    second = subst (λ t. BeginsAsProgram t.other r'.seconds) (sym later.task) (begins_later r.task.other r.seconds r'.seconds later.seconds b.second);
+    first = subst (λ t. BeginsAsProgram t.code r'.firsts) (sym later.task)
+        (begins_later r.task.code r.firsts r'.firsts later.firsts b.first);
+    second = subst (λ t. BeginsAsProgram t.other r'.seconds) (sym later.task)
+        (begins_later r.task.other r.seconds r'.seconds later.seconds b.second);
   }
 
   module _ (reached : List Reached) (pairs : AreReachedPairs r reached) where
-    at_later : (i : ℕ) (x : Reached) (s : List ℕ) → slice_get reached i ≡ Some x → GoesAt r x s → GoesAt r' x s
+    at_later : (i : ℕ) (x : Reached) (s : List ℕ) → slice_get reached i ≡ Some x
+        → GoesAt r x s → GoesAt r' x s
     at_later i x s is h = let p = pairs.placed i x is in goes_later x.pair p.0 p.1 s h
 
-    at_before : (i : ℕ) (x : Reached) (s : List ℕ) → slice_get reached i ≡ Some x → GoesAt r' x s → GoesAt r x s
+    at_before : (i : ℕ) (x : Reached) (s : List ℕ) → slice_get reached i ≡ Some x
+        → GoesAt r' x s → GoesAt r x s
     at_before i x s is h = let p = pairs.placed i x is in goes_before x.pair p.0 p.1 s h
 
     reaches_later : (s : List ℕ) (depth : ℕ) → Reaches r reached s depth → Reaches r' reached s depth
-    reaches_later s depth h = record { at = h.at; pair = h.pair; is = h.is; near = h.near; goes = at_later h.at h.pair s h.is h.goes }
+    reaches_later s depth h = record {
+      at = h.at;
+      pair = h.pair;
+      is = h.is;
+      near = h.near;
+      goes = at_later h.at h.pair s h.is h.goes;
+    }
 
     pub followed_later : (done : ℕ) → AreFollowed r reached done → AreFollowed r' reached done
-    followed_later done f i c s x lt is scalars h = reaches_later s (x.depth + 1) (f i c s x lt is scalars (at_before i x (c ∷ s) is h))
+    followed_later done f i c s x lt is scalars h =
+        reaches_later s (x.depth + 1) (f i c s x lt is scalars (at_before i x (c ∷ s) is h))
 
     pub visited_later : (at letter : ℕ) → IsVisited r reached at letter → IsVisited r' reached at letter
     visited_later at letter v c s x is stands h =
-        reaches_later s (x.depth + 1) (v c s x is (subst (λ t. StandsFor t.code t.other letter c) later.task stands) (at_before at x (c ∷ s) is h))
+        reaches_later s (x.depth + 1) (v c s x is
+        (subst (λ t. StandsFor t.code t.other letter c) later.task stands) (at_before at x (c ∷ s) is h))
 
-    came_later : (i : ℕ) (x : Reached) → slice_get reached i ≡ Some x → CameFrom r reached x i → CameFrom r' reached x i
+    came_later : (i : ℕ) (x : Reached) → slice_get reached i ≡ Some x → CameFrom r reached x i
+        → CameFrom r' reached x i
     came_later i x is came = record {
       from = came.from;
       is = came.is;
@@ -88,8 +111,10 @@ module _ (r r' : Readings) (later : Later r r') where
 
     pub pairs_later : AreReachedPairs r' reached
     pairs_later = record {
-      placed = λ i x is. (let p = pairs.placed i x is in ((later.firsts x.pair.first p.0).0, (later.seconds x.pair.second p.1).0));
-      beginning = λ x is. (let b = pairs.beginning x is in (b.0, b.1, b.2 ∙ ap (λ t. starts t.texts) (sym later.task), b.3));
+      placed = λ i x is. (let p = pairs.placed i x is in
+          ((later.firsts x.pair.first p.0).0, (later.seconds x.pair.second p.1).0));
+      beginning = λ x is. (let b = pairs.beginning x is in
+          (b.0, b.1, b.2 ∙ ap (λ t. starts t.texts) (sym later.task), b.3));
       some = pairs.some;
       came = λ i x lt is. came_later i x is (pairs.came i x lt is);
       none = λ i x is h. pairs.none i x is (at_before i x [] is h);
@@ -98,10 +123,13 @@ module _ (r r' : Readings) (later : Later r r') where
     }
 
 -- ---- a search whose automata grew
-pub search_later : (code other : List Instruction) (old new : Search) → IsSameSearch old new → StatesStay old.first.states.items new.first.states.items → StatesStay old.second.states.items new.second.states.items
+pub search_later : (code other : List Instruction) (old new : Search)
+    → IsSameSearch old new → StatesStay old.first.states.items new.first.states.items
+    → StatesStay old.second.states.items new.second.states.items
     → Later (readings code other old) (readings code other new)
 search_later code other old new same one two = record {
-  task = ap (λ w. record { code = code; other = other; wanted = w; texts = new.texts }) same.wanted ∙ ap (λ t. record { code = code; other = other; wanted = old.wanted; texts = t }) same.texts;
+  task = ap (λ w. record { code = code; other = other; wanted = w; texts = new.texts }) same.wanted
+      ∙ ap (λ t. record { code = code; other = other; wanted = old.wanted; texts = t }) same.texts;
   firsts = one;
   seconds = two;
 }

@@ -23,7 +23,8 @@ twice_same (ended x y) h = refl
 pub again_shape : (m : ℕ) (w : List ℕ) → (shape w ≡ empty → ⊥) → shape (again (suc m) w) ≡ shape w
 unfolding again
 again_shape zero w h = ap shape (append-nil w)
-again_shape (suc m) w h = shape_append w (again (suc m) w) ∙ ap (joined_shape (shape w)) (again_shape m w h) ∙ twice_same (shape w) h
+again_shape (suc m) w h = shape_append w (again (suc m) w) ∙ ap (joined_shape (shape w)) (again_shape m w h)
+    ∙ twice_same (shape w) h
 
 pub again_many : (P : List ℕ → Type 0) (k m : ℕ) (w : List ℕ) → Many P k w → Many P (m * k) (again m w)
 unfolding again
@@ -31,4 +32,5 @@ again_many P k zero w h = subst (λ z. Many P z []) (none k) refl
   where
     none : (k : ℕ) → 0 ≡ 0 * k
     none k = grind arith
-again_many P k (suc m) w h = subst (λ z. Many P z (w ++ again m w)) (sym (suc_mul m k)) (many_add P k (m * k) w (again m w) h (again_many P k m w h))
+again_many P k (suc m) w h = subst (λ z. Many P z (w ++ again m w)) (sym (suc_mul m k))
+    (many_add P k (m * k) w (again m w) h (again_many P k m w h))

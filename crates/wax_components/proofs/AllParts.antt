@@ -1,5 +1,6 @@
 -- Each part of the tokens that can't be made longer is among the components.
-use Rattle.std.proofs.Common.{◌≡◌, ◌⊎◌, ℕ, suc, ◌+◌, ◌<◌, ◌||◌, ◌&&◌, Bool, true, false, not, List, [], ◌∷◌, ◌++◌, take, length}
+use Rattle.std.proofs.Common.{◌≡◌, ◌⊎◌, ℕ, suc, ◌+◌, ◌<◌, ◌||◌, ◌&&◌, Bool, true, false, not, List, [], ◌∷◌}
+use Rattle.std.proofs.Common.{◌++◌, take, length}
 use Rattle.std.proofs.Common.{refl, sym, ◌∙◌, ap, subst, arith, inl, inr}
 use Rattle.std.proofs.lemmas.Bool.{and_parts, false≢true}
 use Rattle.std.proofs.lemmas.List.Elements.{Contains-append_left, Contains-append_right, Contains-push}
@@ -7,7 +8,8 @@ use Rattle.std.specs.List.{Contains, before_first, list_all, position_or_len}
 use Rattle.wax_token.specs.Kinds.{is_boundary, is_separator, is_tree_wildcard}
 use Rattle.wax_token.specs.Syntax.{Leaf, literal, class, separator, one, zero_or_more, tree, Tree, leaf}
 use Rattle.wax_token.specs.Syntax.{alternation, concatenation, repetition}
-use Rattle.wax_components.specs.Parts.{IsComponent, IsLongest, IsRun, IsTreeAlone, begins_with_boundary, begun, components_in}
+use Rattle.wax_components.specs.Parts.{IsComponent, IsLongest, IsRun, IsTreeAlone, begins_with_boundary}
+use Rattle.wax_components.specs.Parts.{begun, components_in}
 use Rattle.wax_components.specs.Parts.{ends_with_boundary}
 
 no_separator : {A : Type 0} (t : Tree A) → is_tree_wildcard t ≡ true → is_separator t ≡ false
@@ -54,8 +56,10 @@ module _ {A : Type 0} where
       let parts = and_parts (not (is_boundary t)) (list_all (λ u. not (is_boundary u)) run) plain in
       let kinds = no_boundary (is_separator t) (is_tree_wildcard t) parts.0 in
       let is : before_first is_boundary (run ++ after) ≡ run = run_before run after parts.1 ends in
-      Contains-append_left (begun true t (run ++ after)) (components_in (is_boundary t) (run ++ after)) (t ∷ run)
-      (rw (kinds.0, kinds.1) (subst (λ us. Contains ((t ∷ us) ∷ []) (t ∷ run)) (sym is) (Contains-push [] (t ∷ run))))
+      Contains-append_left (begun true t (run ++ after))
+      (components_in (is_boundary t) (run ++ after)) (t ∷ run)
+      (rw (kinds.0, kinds.1)
+      (subst (λ us. Contains ((t ∷ us) ∷ []) (t ∷ run)) (sym is) (Contains-push [] (t ∷ run))))
 
   -- tokens before a run, by whether the first token is at an edge
   abbrev EndsAt : Bool → List (Tree A) → Type 0

@@ -44,16 +44,23 @@ has_few_leaf (tree rooted) b a = has_few_wildcard b a rooted
 abbrev HasFewAnywhere : (Bool → Bool → List ℕ → Type 0) → ℕ → Type 0
 HasFewAnywhere P n = (b a : Bool) → HasFew (P b a) n
 
-has_few_copies : (Body : Bool → Bool → List ℕ → Type 0) (n : ℕ) → HasFewAnywhere Body n → (low : ℕ) → HasFewAnywhere (Copies low Body) (low * n)
+has_few_copies : (Body : Bool → Bool → List ℕ → Type 0) (n : ℕ) → HasFewAnywhere Body n → (low : ℕ)
+    → HasFewAnywhere (Copies low Body) (low * n)
 has_few_copies Body n f zero b a = ([], refl, omega arith)
-has_few_copies Body n f (suc zero) b a = let u : HasFew (Body b a) n = f b a in (u.0, u.1, omega (arith, u.2, suc_mul 0 n))
+has_few_copies Body n f (suc zero) b a = let u : HasFew (Body b a) n = f b a in
+    (u.0, u.1, omega (arith, u.2, suc_mul 0 n))
 has_few_copies Body n f (suc (suc low)) b a =
     let u : HasFew (Body b true) n = f b true in
-    let v : HasFew (Copies (suc low) Body true a) (suc low * n) = has_few_copies Body n f (suc low) true a in
-    (u.0 ++ v.0, (u.0, v.0, refl, u.1, v.1), omega (arith, u.2, v.2, slashes_append u.0 v.0, suc_mul (suc low) n))
+    let v : HasFew (Copies (suc low) Body true a) (suc low * n) =
+    has_few_copies Body n f (suc low) true a in (
+      u.0 ++ v.0,
+      (u.0, v.0, refl, u.1, v.1),
+      omega (arith, u.2, v.2, slashes_append u.0 v.0, suc_mul (suc low) n),
+    )
 
 -- a first copy
-one_of : (Body : Bool → Bool → List ℕ → Type 0) {C : Type 0} → ((b a : Bool) (s : List ℕ) → Body b a s → C) → (k : ℕ) (b a : Bool) (s : List ℕ) → 1 ≤ k → Copies k Body b a s → C
+one_of : (Body : Bool → Bool → List ℕ → Type 0) {C : Type 0} → ((b a : Bool) (s : List ℕ) → Body b a s → C)
+    → (k : ℕ) (b a : Bool) (s : List ℕ) → 1 ≤ k → Copies k Body b a s → C
 one_of Body f zero b a s le h = absurd (omega (arith, le))
 one_of Body f (suc zero) b a s le h = f b a s h
 one_of Body f (suc (suc k)) b a s le h = f b true h.0 h.3
@@ -68,18 +75,23 @@ wider : (P : List ℕ → Type 0) (m n : ℕ) → m ≤ n → HasFew P m → Has
 wider P m n le u = (u.0, u.1, omega (arith, le, u.2))
 
 mutual
-  pub has_few : {A : Type 0} (t : Tree A) (b a : Bool) (s : List ℕ) → Means (thinned t) b a s → HasFewAnywhere (Means (thinned t)) (cost t)
+  pub has_few : {A : Type 0} (t : Tree A) (b a : Bool) (s : List ℕ) → Means (thinned t) b a s
+      → HasFewAnywhere (Means (thinned t)) (cost t)
   has_few (leaf x l) b a s h c d = has_few_leaf l c d
-  has_few (alternation x ts) b a s h c d = wider (MeansSome (thinned_each ts) c d) (branches_cost ts) (1 + branches_cost ts) (omega arith) (has_few_some ts b a s h c d)
+  has_few (alternation x ts) b a s h c d = wider (MeansSome (thinned_each ts) c d) (branches_cost ts)
+      (1 + branches_cost ts) (omega arith) (has_few_some ts b a s h c d)
   has_few (concatenation x ts) b a s h c d = has_few_each ts b a s h c d
   has_few (repetition x t low high) b a s h c d =
-      let e : HasFew (Copies low (Means (thinned t)) c d) (low * cost t) = copies low (cost t) (λ le. one_of (Means (thinned t)) (λ b a s m. has_few t b a s m) h.0 b a s (omega (arith, le, h.1)) h.3) in
+      let e : HasFew (Copies low (Means (thinned t)) c d) (low * cost t) = copies low (cost t) (λ le.
+      one_of (Means (thinned t)) (λ b a s m. has_few t b a s m) h.0 b a s (omega (arith, le, h.1)) h.3) in
       let j : low ≤ copies_of low high (holds_tree t) = enough low h.0 high (holds_tree t) h.1 h.2 in
       let k : low * cost t ≤ copies_of low high (holds_tree t) * cost t = mul-le-mul_right (cost t) j in
-      let l : copies_of low high (holds_tree t) * cost t ≤ copies_of low high (holds_tree t) * (cost t + 2) = mul-le-mul_left (copies_of low high (holds_tree t)) (omega arith) in
+      let l : copies_of low high (holds_tree t) * cost t ≤ copies_of low high (holds_tree t) * (cost t + 2) =
+      mul-le-mul_left (copies_of low high (holds_tree t)) (omega arith) in
       (e.0, (low, omega arith, within h.0 high h.1 h.2, e.1), omega (arith, e.2, k, l))
     where
-      copies : (low n : ℕ) → (1 ≤ low → HasFewAnywhere (Means (thinned t)) n) → HasFew (Copies low (Means (thinned t)) c d) (low * n)
+      copies : (low n : ℕ) → (1 ≤ low → HasFewAnywhere (Means (thinned t)) n)
+          → HasFew (Copies low (Means (thinned t)) c d) (low * n)
       copies zero n f = ([], refl, omega arith)
       copies (suc low) n f = has_few_copies (Means (thinned t)) n (f (omega arith)) (suc low) c d
 
@@ -87,17 +99,24 @@ mutual
       within k None le m = tt
       within k (Some n) le m = omega (arith, le, m)
 
-  has_few_some : {A : Type 0} (ts : Trees A) (b a : Bool) (s : List ℕ) → MeansSome (thinned_each ts) b a s → HasFewAnywhere (MeansSome (thinned_each ts)) (branches_cost ts)
+  has_few_some : {A : Type 0} (ts : Trees A) (b a : Bool) (s : List ℕ) → MeansSome (thinned_each ts) b a s
+      → HasFewAnywhere (MeansSome (thinned_each ts)) (branches_cost ts)
   has_few_some none b a s h c d = absurd h
-  has_few_some (more t ts) b a s (inl h) c d = let u : HasFew (Means (thinned t) c d) (cost t) = has_few t b a s h c d in (u.0, inl u.1, omega (arith, u.2))
-  has_few_some (more t ts) b a s (inr h) c d = let u : HasFew (MeansSome (thinned_each ts) c d) (branches_cost ts) = has_few_some ts b a s h c d in (u.0, inr u.1, omega (arith, u.2))
+  has_few_some (more t ts) b a s (inl h) c d = let u : HasFew (Means (thinned t) c d) (cost t) =
+      has_few t b a s h c d in (u.0, inl u.1, omega (arith, u.2))
+  has_few_some (more t ts) b a s (inr h) c d =
+      let u : HasFew (MeansSome (thinned_each ts) c d) (branches_cost ts) = has_few_some ts b a s h c d in
+      (u.0, inr u.1, omega (arith, u.2))
 
-  has_few_each : {A : Type 0} (ts : Trees A) (b a : Bool) (s : List ℕ) → MeansEach (thinned_each ts) b a s → HasFewAnywhere (MeansEach (thinned_each ts)) (costs ts)
+  has_few_each : {A : Type 0} (ts : Trees A) (b a : Bool) (s : List ℕ) → MeansEach (thinned_each ts) b a s
+      → HasFewAnywhere (MeansEach (thinned_each ts)) (costs ts)
   has_few_each none b a s h c d = ([], refl, omega arith)
-  has_few_each (more t none) b a s h c d = wider (Means (thinned t) c d) (cost t) (cost t + 0) (omega arith) (has_few t b a s h c d)
+  has_few_each (more t none) b a s h c d =
+      wider (Means (thinned t) c d) (cost t) (cost t + 0) (omega arith) (has_few t b a s h c d)
   has_few_each (more t (more u us)) b a s h c d =
       let x : HasFew (Means (thinned t) c true) (cost t) = has_few t b true h.0 h.3 c true in
-      let y : HasFew (MeansEach (thinned_each (more u us)) true d) (costs (more u us)) = has_few_each (more u us) true a h.1 h.4 true d in
+      let y : HasFew (MeansEach (thinned_each (more u us)) true d) (costs (more u us)) =
+      has_few_each (more u us) true a h.1 h.4 true d in
       (x.0 ++ y.0, (x.0, y.0, refl, x.1, y.1), omega (arith, slashes_append x.0 y.0, x.2, y.2))
 
 pub few_components : (s : List ℕ) → component_total s ≤ slashes s + 1

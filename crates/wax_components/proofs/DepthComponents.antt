@@ -14,27 +14,33 @@ use Rattle.wax_components.proofs.Hulls.{IsHull, hull_same, hull_union}
 use Rattle.wax_components.proofs.Shapes.{shape_empty, shape_of_some}
 use Rattle.wax_components.proofs.Trees.{exact_tree_profile}
 
-first_is : (c : ℕ) (s : List ℕ) (x y : Bool) → shape (c ∷ s) ≡ ended x y → first_slash (c ∷ s) ≡ (if x then 1 else 0)
+first_is : (c : ℕ) (s : List ℕ) (x y : Bool) → shape (c ∷ s) ≡ ended x y
+    → first_slash (c ∷ s) ≡ (if x then 1 else 0)
 first_is c [] x y e = let f : (c == 47) ≡ x = cc in ap (λ b. if b then 1 else 0) f
 first_is c (d ∷ s) x y e =
     let r : (x : Bool) × (y : Bool) × (shape (d ∷ s) ≡ ended x y) = shape_of_some d s in
-    let f : ended (c == 47) r.1 ≡ ended x y = sym (ap (λ z. joined_shape (ended (c == 47) (c == 47)) z) r.2) ∙ e in
+    let f : ended (c == 47) r.1 ≡ ended x y =
+    sym (ap (λ z. joined_shape (ended (c == 47) (c == 47)) z) r.2) ∙ e in
     let g : (c == 47) ≡ x = cc in ap (λ b. if b then 1 else 0) g
 
-last_is : (c : ℕ) (s : List ℕ) (x y : Bool) → shape (c ∷ s) ≡ ended x y → last_slash (c ∷ s) ≡ (if y then 1 else 0)
+last_is : (c : ℕ) (s : List ℕ) (x y : Bool) → shape (c ∷ s) ≡ ended x y
+    → last_slash (c ∷ s) ≡ (if y then 1 else 0)
 last_is c [] x y e = let f : (c == 47) ≡ y = cc in ap (λ b. if b then 1 else 0) f
 last_is c (d ∷ s) x y e =
     let r : (x : Bool) × (y : Bool) × (shape (d ∷ s) ≡ ended x y) = shape_of_some d s in
-    let f : ended (c == 47) r.1 ≡ ended x y = sym (ap (λ z. joined_shape (ended (c == 47) (c == 47)) z) r.2) ∙ e in
+    let f : ended (c == 47) r.1 ≡ ended x y =
+    sym (ap (λ z. joined_shape (ended (c == 47) (c == 47)) z) r.2) ∙ e in
     let g : r.1 ≡ y = cc in
     last_is d s r.0 y (r.2 ∙ ap (λ z. ended r.0 z) g)
 
 pub components_at : (s : List ℕ) (a : Shape) → shape s ≡ a → component_total s ≡ component_count a (slashes s)
 components_at [] empty e = refl
 components_at [] (ended x y) e = absurd (let f : ⊥ = cc in f)
-components_at (c ∷ s) empty e = absurd (let r : (x : Bool) × (y : Bool) × (shape (c ∷ s) ≡ ended x y) = shape_of_some c s in let f : empty ≡ ended r.0 r.1 = sym e ∙ r.2 in let g : ⊥ = cc in g)
+components_at (c ∷ s) empty e = absurd (let r : (x : Bool) × (y : Bool) × (shape (c ∷ s) ≡ ended x y) =
+    shape_of_some c s in let f : empty ≡ ended r.0 r.1 = sym e ∙ r.2 in let g : ⊥ = cc in g)
 components_at (c ∷ s) (ended x y) e =
-    ap (λ z. slashes (c ∷ s) + 1 - z - last_slash (c ∷ s)) (first_is c s x y e) ∙ ap (λ z. slashes (c ∷ s) + 1 - (if x then 1 else 0) - z) (last_is c s x y e)
+    ap (λ z. slashes (c ∷ s) + 1 - z - last_slash (c ∷ s)) (first_is c s x y e)
+    ∙ ap (λ z. slashes (c ∷ s) + 1 - (if x then 1 else 0) - z) (last_is c s x y e)
 
 rises : (a : Shape) (m n : ℕ) → m ≤ n → component_count a m ≤ component_count a n
 rises empty m n le = omega arith
@@ -47,14 +53,18 @@ module _ {r : Profile} {P : List ℕ → Type 0} (f : Exact r P) where
   numbered : (a : Shape) (n : ℕ) → Has P a n → NumberOf a (component_count a n)
   numbered a n h = (h.0, h.1, h.2, components_at h.0 a h.2 ∙ ap (component_count a) h.3)
 
-  at_least : (a : Shape) (m : ℕ) → ((n : ℕ) → Has P a n → m ≤ n) → (n : ℕ) → NumberOf a n → component_count a m ≤ n
+  at_least : (a : Shape) (m : ℕ) → ((n : ℕ) → Has P a n → m ≤ n) → (n : ℕ) → NumberOf a n
+      → component_count a m ≤ n
   at_least a m h n k =
-      let le : component_count a m ≤ component_count a (slashes k.0) = rises a m (slashes k.0) (h (slashes k.0) (k.0, k.1, k.2, refl)) in
+      let le : component_count a m ≤ component_count a (slashes k.0) =
+      rises a m (slashes k.0) (h (slashes k.0) (k.0, k.1, k.2, refl)) in
       omega (arith, le, components_at k.0 a k.2, k.3)
 
-  at_most : (a : Shape) (m : ℕ) → ((n : ℕ) → Has P a n → n ≤ m) → (n : ℕ) → NumberOf a n → n ≤ component_count a m
+  at_most : (a : Shape) (m : ℕ) → ((n : ℕ) → Has P a n → n ≤ m) → (n : ℕ) → NumberOf a n
+      → n ≤ component_count a m
   at_most a m h n k =
-      let le : component_count a (slashes k.0) ≤ component_count a m = rises a (slashes k.0) m (h (slashes k.0) (k.0, k.1, k.2, refl)) in
+      let le : component_count a (slashes k.0) ≤ component_count a m =
+      rises a (slashes k.0) m (h (slashes k.0) (k.0, k.1, k.2, refl)) in
       omega (arith, le, components_at k.0 a k.2, k.3)
 
   near : (x y : Bool) (n m : ℕ) → m + 2 ≤ n → m ≤ component_count (ended x y) n
@@ -63,9 +73,11 @@ module _ {r : Profile} {P : List ℕ → Type 0} (f : Exact r P) where
   near false true n m le = omega (arith, le)
   near false false n m le = omega (arith, le)
 
-  greatest_at : (a : Shape) (h : Option ℕ) → IsGreatest (Has P a) h → IsGreatest (NumberOf a) (component_bound a h)
+  greatest_at : (a : Shape) (h : Option ℕ) → IsGreatest (Has P a) h
+      → IsGreatest (NumberOf a) (component_bound a h)
   greatest_at empty None g = let w : (n : ℕ) × Has P empty n × (1 ≤ n) = g 1 in
-      absurd (let e : slashes w.1.0 ≡ 0 = ap slashes (shape_empty w.1.0 w.1.2) in omega (arith, e, w.1.3, w.2))
+      absurd
+      (let e : slashes w.1.0 ≡ 0 = ap slashes (shape_empty w.1.0 w.1.2) in omega (arith, e, w.1.3, w.2))
   greatest_at (ended x y) None g = λ m. let w : (n : ℕ) × Has P (ended x y) n × (m + 2 ≤ n) = g (m + 2) in
       (component_count (ended x y) w.0, numbered (ended x y) w.0 w.1, near x y w.0 m w.2)
   greatest_at a (Some m) g = (numbered a m g.0, at_most a m g.1)
@@ -78,7 +90,8 @@ module _ {r : Profile} {P : List ℕ → Type 0} (f : Exact r P) where
   Number n = (s : List ℕ) × P s × (component_total s ≡ n)
 
   abbrev Five : ℕ → Type 0
-  Five n = NumberOf empty n ⊎ (NumberOf (ended false false) n ⊎ (NumberOf (ended false true) n ⊎ (NumberOf (ended true false) n ⊎ NumberOf (ended true true) n)))
+  Five n = NumberOf empty n ⊎ (NumberOf (ended false false) n
+      ⊎ (NumberOf (ended false true) n ⊎ (NumberOf (ended true false) n ⊎ NumberOf (ended true true) n)))
 
   five_from : (n : ℕ) → Five n → Number n
   five_from n (inl h) = (h.0, h.1, h.3)
@@ -114,11 +127,15 @@ module _ {r : Profile} {P : List ℕ → Type 0} (f : Exact r P) where
 
   pub hull_components : IsHull (component_hull r) Number
   hull_components = hull_same Five Number five_from five_to (component_hull r)
-      (hull_union (NumberOf empty) (λ n. NumberOf (ended false false) n ⊎ (NumberOf (ended false true) n ⊎ (NumberOf (ended true false) n ⊎ NumberOf (ended true true) n))) n0 (hull n1 (hull n2 (hull n3 n4)))
+      (hull_union (NumberOf empty) (λ n. NumberOf (ended false false) n
+      ⊎ (NumberOf (ended false true) n ⊎ (NumberOf (ended true false) n ⊎ NumberOf (ended true true) n)))
+      n0 (hull n1 (hull n2 (hull n3 n4)))
       (hull_at empty r.nothing (f.hulls empty))
-      (hull_union (NumberOf (ended false false)) (λ n. NumberOf (ended false true) n ⊎ (NumberOf (ended true false) n ⊎ NumberOf (ended true true) n)) n1 (hull n2 (hull n3 n4))
+      (hull_union (NumberOf (ended false false)) (λ n. NumberOf (ended false true) n
+      ⊎ (NumberOf (ended true false) n ⊎ NumberOf (ended true true) n)) n1 (hull n2 (hull n3 n4))
       (hull_at (ended false false) r.bare (f.hulls (ended false false)))
-      (hull_union (NumberOf (ended false true)) (λ n. NumberOf (ended true false) n ⊎ NumberOf (ended true true) n) n2 (hull n3 n4)
+      (hull_union (NumberOf (ended false true))
+      (λ n. NumberOf (ended true false) n ⊎ NumberOf (ended true true) n) n2 (hull n3 n4)
       (hull_at (ended false true) r.ending (f.hulls (ended false true)))
       (hull_union (NumberOf (ended true false)) (NumberOf (ended true true)) n3 n4
       (hull_at (ended true false) r.beginning (f.hulls (ended true false)))
@@ -126,7 +143,8 @@ module _ {r : Profile} {P : List ℕ → Type 0} (f : Exact r P) where
 
 -- the number of the code is the depth
 pub depth_exact : {A : Type 0} (t : Tree A) → Depth t (or_zero (component_hull (tree_profile t false false)))
-depth_exact t = depth_from (component_hull (tree_profile t false false)) (hull_components (exact_tree_profile t false false))
+depth_exact t = depth_from (component_hull (tree_profile t false false))
+    (hull_components (exact_tree_profile t false false))
   where
     depth_from : (d : Interval) → IsHull d (HasComponents t) → Depth t (or_zero d)
     depth_from None h = inr (h, refl)

@@ -19,7 +19,8 @@ T = Tree (Unit {0})
 record HasDepth (t : T) (low : ℕ) (high : Option ℕ) : Type 0 where
   holds : Depth t (low, high)
 
-computed : {t : T} {low : ℕ} {high : Option ℕ} → or_zero (component_hull (tree_profile t false false)) ≡ (low, high) → HasDepth t low high
+computed : {t : T} {low : ℕ} {high : Option ℕ} → or_zero (component_hull (tree_profile t false false))
+    ≡ (low, high) → HasDepth t low high
 computed {t} e = record { holds = subst (Depth t) e (depth_exact t) }
 
 abbrev word : List ℕ → T
@@ -111,23 +112,28 @@ row_one_or_two : HasDepth (glob (branches (glob (a ∷ []) ∷ glob (a ∷ slash
 row_one_or_two = computed refl
 
 -- `x{a,a/b}`
-row_one_or_two_after : HasDepth (glob (x ∷ branches (glob (a ∷ []) ∷ glob (a ∷ slash ∷ b ∷ []) ∷ []) ∷ [])) 1 (Some 2)
+row_one_or_two_after :
+    HasDepth (glob (x ∷ branches (glob (a ∷ []) ∷ glob (a ∷ slash ∷ b ∷ []) ∷ []) ∷ [])) 1 (Some 2)
 row_one_or_two_after = computed refl
 
 -- `{a,a/b}x`
-row_one_or_two_before : HasDepth (glob (branches (glob (a ∷ []) ∷ glob (a ∷ slash ∷ b ∷ []) ∷ []) ∷ x ∷ [])) 1 (Some 2)
+row_one_or_two_before :
+    HasDepth (glob (branches (glob (a ∷ []) ∷ glob (a ∷ slash ∷ b ∷ []) ∷ []) ∷ x ∷ [])) 1 (Some 2)
 row_one_or_two_before = computed refl
 
 -- `x/{a,a/b}`
-row_below : HasDepth (glob (x ∷ slash ∷ branches (glob (a ∷ []) ∷ glob (a ∷ slash ∷ b ∷ []) ∷ []) ∷ [])) 2 (Some 3)
+row_below :
+    HasDepth (glob (x ∷ slash ∷ branches (glob (a ∷ []) ∷ glob (a ∷ slash ∷ b ∷ []) ∷ []) ∷ [])) 2 (Some 3)
 row_below = computed refl
 
 -- `{a,a/b}/x`
-row_above : HasDepth (glob (branches (glob (a ∷ []) ∷ glob (a ∷ slash ∷ b ∷ []) ∷ []) ∷ slash ∷ x ∷ [])) 2 (Some 3)
+row_above :
+    HasDepth (glob (branches (glob (a ∷ []) ∷ glob (a ∷ slash ∷ b ∷ []) ∷ []) ∷ slash ∷ x ∷ [])) 2 (Some 3)
 row_above = computed refl
 
 -- `{a/,{a/b/,a/b/c/}}x`
-row_nested : HasDepth (glob (branches (glob (a ∷ slash ∷ []) ∷ glob (branches (glob (a ∷ slash ∷ b ∷ slash ∷ []) ∷ glob (a ∷ slash ∷ b ∷ slash ∷ c ∷ slash ∷ []) ∷ []) ∷ []) ∷ []) ∷ x ∷ [])) 2 (Some 4)
+row_nested : HasDepth (glob (branches (glob (a ∷ slash ∷ []) ∷ glob (branches (glob (a ∷ slash ∷ b ∷ slash
+    ∷ []) ∷ glob (a ∷ slash ∷ b ∷ slash ∷ c ∷ slash ∷ []) ∷ []) ∷ []) ∷ []) ∷ x ∷ [])) 2 (Some 4)
 row_nested = computed refl
 
 -- `<*/>`
@@ -159,7 +165,8 @@ row_open_after : HasDepth (glob (a ∷ slash ∷ copies (star ∷ slash ∷ []) 
 row_open_after = computed refl
 
 -- `<*/>a</*>`
-row_open_around : HasDepth (glob (copies (star ∷ slash ∷ []) 0 None ∷ a ∷ copies (slash ∷ star ∷ []) 0 None ∷ [])) 1 None
+row_open_around :
+    HasDepth (glob (copies (star ∷ slash ∷ []) 0 None ∷ a ∷ copies (slash ∷ star ∷ []) 0 None ∷ [])) 1 None
 row_open_around = computed refl
 
 -- `a/**/b`
@@ -171,7 +178,8 @@ row_once_at_least : HasDepth (glob (copies (a ∷ star ∷ slash ∷ []) 1 None 
 row_once_at_least = computed refl
 
 -- `{a/b/,c/**/}*.ext`
-row_tree_in_branch : HasDepth (glob (branches (glob (a ∷ slash ∷ b ∷ slash ∷ []) ∷ glob (c ∷ tree_wildcard true ∷ []) ∷ []) ∷ star ∷ ext ∷ [])) 2 None
+row_tree_in_branch : HasDepth (glob (branches
+    (glob (a ∷ slash ∷ b ∷ slash ∷ []) ∷ glob (c ∷ tree_wildcard true ∷ []) ∷ []) ∷ star ∷ ext ∷ [])) 2 None
 row_tree_in_branch = computed refl
 
 -- `a/<*/>b`

@@ -11,7 +11,8 @@ within_word : (n : ℕ) → n ≤ 1048576 → min n usize_max ≡ n
 within_word n le = omega (arith, le)
 
 pub exact_depth : {A : Type 0} (t : Tree A) (s : Bounds) → cost t ≤ 1048575 → SaturatedDepth t s → Depth t s
-exact_depth t s le h = subst (Depth t) (sym (h.2 ∙ ap (λ z. (z, saturated_bound usize_max h.0.1)) low ∙ ap (λ z. (h.0.0, z)) (high h.0.1 h.1))) h.1
+exact_depth t s le h = subst (Depth t) (sym (h.2 ∙ ap (λ z. (z, saturated_bound usize_max h.0.1)) low
+    ∙ ap (λ z. (h.0.0, z)) (high h.0.1 h.1))) h.1
   where
     low : min h.0.0 usize_max ≡ h.0.0
     low = within_word h.0.0 (omega (arith, le, least_bounded t h.0 h.1))

@@ -1,9 +1,11 @@
 -- Level after level gives all globs.
-use Rattle.std.proofs.Common.{◌≡◌, ℕ, zero, suc, ◌+◌, ◌<◌, ◌≤◌, List, [], ◌∷◌, ◌++◌, length, refl, sym, ◌∙◌, ap, arith, append-nil}
+use Rattle.std.proofs.Common.{◌≡◌, ℕ, zero, suc, ◌+◌, ◌<◌, ◌≤◌, List, [], ◌∷◌, ◌++◌, length, refl, sym, ◌∙◌}
+use Rattle.std.proofs.Common.{ap, arith, append-nil}
 use Rattle.std.proofs.lemmas.List.{append_assoc}
 use Rattle.std.proofs.lemmas.Grind.{flat_map-append}
 use Rattle.std.specs.List.{flat_map}
-use Rattle.wax_token.specs.Syntax.{Tree, leaf, alternation, concatenation, repetition, Trees, none, more, tree_size, trees_size}
+use Rattle.wax_token.specs.Syntax.{Tree, leaf, alternation, concatenation, repetition, Trees, none, more}
+use Rattle.wax_token.specs.Syntax.{tree_size, trees_size}
 use Rattle.wax_token.specs.Words.{listed}
 use Rattle.wax_components.specs.Levels.{sub_globs_in, sub_globs, globs_at, globs_to}
 
@@ -28,7 +30,8 @@ lighter_in (repetition a t low high) = omega arith
 
 lighter_each : {A : Type 0} (ts : List (Tree A)) → weight (flat_map sub_globs_in ts) ≤ weight ts
 lighter_each [] = omega arith
-lighter_each (t ∷ ts) = omega (arith, weight-append (sub_globs_in t) (flat_map sub_globs_in ts), lighter_in t, lighter_each ts)
+lighter_each (t ∷ ts) =
+    omega (arith, weight-append (sub_globs_in t) (flat_map sub_globs_in ts), lighter_in t, lighter_each ts)
 
 lighter : {A : Type 0} (t : Tree A) → weight (sub_globs t) ≤ tree_size t
 lighter (leaf a l) = omega arith
@@ -38,7 +41,8 @@ lighter (repetition a t low high) = omega arith
 
 pub lighter_level : {A : Type 0} (ts : List (Tree A)) → weight (flat_map sub_globs ts) + length ts ≤ weight ts
 lighter_level [] = omega arith
-lighter_level (t ∷ ts) = omega (arith, weight-append (sub_globs t) (flat_map sub_globs ts), lighter t, lighter_level ts)
+lighter_level (t ∷ ts) =
+    omega (arith, weight-append (sub_globs t) (flat_map sub_globs ts), lighter t, lighter_level ts)
 
 -- ---- so many levels
 levels : {A : Type 0} → ℕ → List (Tree A) → List (Tree A)
@@ -54,13 +58,15 @@ at-zero : {A : Type 0} (ts : List (Tree A)) → flat_map (globs_at 0) ts ≡ ts
 at-zero [] = refl
 at-zero (t ∷ ts) = ap (λ z. t ∷ z) (at-zero ts)
 
-at-suc : {A : Type 0} (n : ℕ) (ts : List (Tree A)) → flat_map (globs_at (suc n)) ts ≡ flat_map (globs_at n) (flat_map sub_globs ts)
+at-suc : {A : Type 0} (n : ℕ) (ts : List (Tree A))
+    → flat_map (globs_at (suc n)) ts ≡ flat_map (globs_at n) (flat_map sub_globs ts)
 at-suc n [] = refl
 at-suc n (t ∷ ts) =
     ap (λ z. flat_map (globs_at n) (sub_globs t) ++ z) (at-suc n ts)
     ∙ sym (flat_map-append (globs_at n) (sub_globs t) (flat_map sub_globs ts))
 
-levels-last : {A : Type 0} (n : ℕ) (ts : List (Tree A)) → levels (suc n) ts ≡ levels n ts ++ flat_map (globs_at n) ts
+levels-last : {A : Type 0} (n : ℕ) (ts : List (Tree A))
+    → levels (suc n) ts ≡ levels n ts ++ flat_map (globs_at n) ts
 unfolding levels
 levels-last zero ts = append-nil ts ∙ sym (at-zero ts)
 levels-last (suc n) ts =
@@ -77,14 +83,16 @@ globs_to-levels (suc n) t =
     ∙ sym (levels-last (suc n) (t ∷ []))
 
 -- more levels than these weigh hold no more
-enough : {A : Type 0} (n m : ℕ) (ts : List (Tree A)) → weight ts ≤ n → weight ts ≤ m → levels n ts ≡ levels m ts
+enough : {A : Type 0} (n m : ℕ) (ts : List (Tree A)) → weight ts ≤ n → weight ts ≤ m
+    → levels n ts ≡ levels m ts
 unfolding levels
 enough n m [] h k = levels-nil n ∙ sym (levels-nil m)
 enough zero m (t ∷ ts) h k = absurd (omega (arith, h))
 enough (suc n) zero (t ∷ ts) h k = absurd (omega (arith, k))
 enough (suc n) (suc m) (t ∷ ts) h k =
     let l = lighter_level (t ∷ ts) in
-    ap (λ z. (t ∷ ts) ++ z) (enough n m (flat_map sub_globs (t ∷ ts)) (omega (arith, h, l)) (omega (arith, k, l)))
+    ap (λ z. (t ∷ ts) ++ z)
+    (enough n m (flat_map sub_globs (t ∷ ts)) (omega (arith, h, l)) (omega (arith, k, l)))
 
 -- ---- what is left, as the code walks it
 pub rest : {A : Type 0} → List (Tree A) → List (Tree A)
@@ -96,7 +104,8 @@ rest-nil = refl
 
 pub rest_whole : {A : Type 0} (t : Tree A) → rest (t ∷ []) ≡ globs_to (tree_size t) t
 unfolding rest
-rest_whole t = enough (weight (t ∷ [])) (suc (tree_size t)) (t ∷ []) (omega arith) (omega arith) ∙ sym (globs_to-levels (tree_size t) t)
+rest_whole t = enough (weight (t ∷ [])) (suc (tree_size t)) (t ∷ []) (omega arith) (omega arith)
+    ∙ sym (globs_to-levels (tree_size t) t)
 
 pub rest_step : {A : Type 0} (ts : List (Tree A)) → rest ts ≡ ts ++ rest (flat_map sub_globs ts)
 unfolding rest levels
@@ -106,7 +115,8 @@ rest_step (t ∷ ts) =
     let k : weight (t ∷ ts) ≡ suc (tree_size t + weight ts) = omega arith in
     ap (λ n. levels n (t ∷ ts)) k
     ∙ ap (λ z. (t ∷ ts) ++ z)
-    (enough (tree_size t + weight ts) (weight (flat_map sub_globs (t ∷ ts))) (flat_map sub_globs (t ∷ ts)) (omega (arith, l, k)) (omega arith))
+    (enough (tree_size t + weight ts) (weight (flat_map sub_globs (t ∷ ts))) (flat_map sub_globs (t ∷ ts))
+    (omega (arith, l, k)) (omega arith))
 
 nothing_deeper : {A : Type 0} (n : ℕ) (ts : List (Tree A)) → weight ts ≤ n → flat_map (globs_at n) ts ≡ []
 nothing_deeper n [] h = refl

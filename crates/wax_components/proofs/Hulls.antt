@@ -33,10 +33,14 @@ module _ (X Y : ℕ → Type 0) where
       | inl e ↦ subst (λ k. X k ⊎ Y k) (sym e) (inl f.0)
       | inr e ↦ subst (λ k. X k ⊎ Y k) (sym e) (inr g.0)
     ],
-    λ k h. elim h [ inl x ↦ (let le : m ≤ k = f.1 k x in omega (arith, le)) | inr y ↦ (let le : n ≤ k = g.1 k y in omega (arith, le)) ],
+    λ k h. elim h [
+      | inl x ↦ (let le : m ≤ k = f.1 k x in omega (arith, le))
+      | inr y ↦ (let le : n ≤ k = g.1 k y in omega (arith, le))
+    ],
   )
 
-  greatest_both : (g h : Option ℕ) → IsGreatest X g → IsGreatest Y h → IsGreatest (λ k. X k ⊎ Y k) (greater_bound g h)
+  greatest_both : (g h : Option ℕ) → IsGreatest X g → IsGreatest Y h
+      → IsGreatest (λ k. X k ⊎ Y k) (greater_bound g h)
   greatest_both None h f g = λ m. let r : (n : ℕ) × X n × (m ≤ n) = f m in (r.0, inl r.1, r.2)
   greatest_both (Some a) None f g = λ m. let r : (n : ℕ) × Y n × (m ≤ n) = g m in (r.0, inr r.1, r.2)
   greatest_both (Some a) (Some b) f g = (
@@ -44,7 +48,10 @@ module _ (X Y : ℕ → Type 0) where
       | inl e ↦ subst (λ k. X k ⊎ Y k) (sym e) (inl f.0)
       | inr e ↦ subst (λ k. X k ⊎ Y k) (sym e) (inr g.0)
     ],
-    λ k h. elim h [ inl x ↦ (let le : k ≤ a = f.1 k x in omega (arith, le)) | inr y ↦ (let le : k ≤ b = g.1 k y in omega (arith, le)) ],
+    λ k h. elim h [
+      | inl x ↦ (let le : k ≤ a = f.1 k x in omega (arith, le))
+      | inr y ↦ (let le : k ≤ b = g.1 k y in omega (arith, le))
+    ],
   )
 
   pub hull_union : (d e : Interval) → IsHull d X → IsHull e Y → IsHull (hull d e) (λ k. X k ⊎ Y k)
@@ -74,9 +81,12 @@ module _ (X Y : ℕ → Type 0) where
   )
 
   -- each set has a member
-  greatest_sum : (m n : ℕ) → X m → Y n → (g h : Option ℕ) → IsGreatest X g → IsGreatest Y h → IsGreatest (Plus X Y) (bound_sum g h)
-  greatest_sum m n p q None h f g = λ k. let r : (i : ℕ) × X i × (k ≤ i) = f k in (r.0 + n, (r.0, n, r.1, q, refl), omega (arith, r.2))
-  greatest_sum m n p q (Some a) None f g = λ k. let r : (j : ℕ) × Y j × (k ≤ j) = g k in (m + r.0, (m, r.0, p, r.1, refl), omega (arith, r.2))
+  greatest_sum : (m n : ℕ) → X m → Y n → (g h : Option ℕ) → IsGreatest X g → IsGreatest Y h
+      → IsGreatest (Plus X Y) (bound_sum g h)
+  greatest_sum m n p q None h f g = λ k. let r : (i : ℕ) × X i × (k ≤ i) = f k in
+      (r.0 + n, (r.0, n, r.1, q, refl), omega (arith, r.2))
+  greatest_sum m n p q (Some a) None f g = λ k. let r : (j : ℕ) × Y j × (k ≤ j) = g k in
+      (m + r.0, (m, r.0, p, r.1, refl), omega (arith, r.2))
   greatest_sum m n p q (Some a) (Some b) f g = (
     (a, b, f.0, g.0, refl),
     λ k h. let l : h.0 ≤ a = f.1 h.0 h.2 in let r : h.1 ≤ b = g.1 h.1 h.3 in omega (arith, l, r, h.4),
@@ -85,4 +95,5 @@ module _ (X Y : ℕ → Type 0) where
   pub hull_sum : (d e : Interval) → IsHull d X → IsHull e Y → IsHull (interval_sum d e) (Plus X Y)
   hull_sum None e f g = λ n h. f h.0 h.2
   hull_sum (Some x) None f g = λ n h. g h.1 h.3
-  hull_sum (Some x) (Some y) f g = (least_sum x.0 y.0 f.0 g.0, greatest_sum x.0 y.0 f.0.0 g.0.0 x.1 y.1 f.1 g.1)
+  hull_sum (Some x) (Some y) f g =
+      (least_sum x.0 y.0 f.0 g.0, greatest_sum x.0 y.0 f.0.0 g.0.0 x.1 y.1 f.1 g.1)

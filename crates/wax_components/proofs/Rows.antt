@@ -2,7 +2,8 @@
 use Rattle.std.proofs.Common.{◌≡◌, ℕ, false, true, List, [], ◌∷◌, refl, codes}
 use Rattle.wax_token.specs.declared.token.Evaluation.TheVariants.{Eager}
 use Rattle.wax_token.specs.Reads.{Span}
-use Rattle.wax_token.specs.Syntax.{Tree, leaf, alternation, concatenation, literal, separator, zero_or_more, tree}
+use Rattle.wax_token.specs.Syntax.{Tree, leaf, alternation, concatenation, literal, separator, zero_or_more}
+use Rattle.wax_token.specs.Syntax.{tree}
 use Rattle.wax_token.specs.Words.{trees}
 use Rattle.wax_components.specs.Capturing.{captures}
 use Rattle.wax_components.specs.Parts.{components}
@@ -27,7 +28,8 @@ star start = leaf (start, 1) (zero_or_more Eager)
 abbrev a_star : Tree Span
 a_star = glob 0 4 (text 0 1 (codes "a") ∷ slash 1 ∷ text 2 1 (codes "b") ∷ star 3 ∷ [])
 
-pub star_components : components a_star ≡ (text 0 1 (codes "a") ∷ []) ∷ (text 2 1 (codes "b") ∷ star 3 ∷ []) ∷ []
+pub star_components : components a_star ≡ (text 0 1 (codes "a") ∷ [])
+    ∷ (text 2 1 (codes "b") ∷ star 3 ∷ []) ∷ []
 star_components = refl
 
 pub star_captures : captures a_star ≡ (1, (3, 1)) ∷ []

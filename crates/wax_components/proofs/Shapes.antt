@@ -20,7 +20,8 @@ shape_append (c ∷ d ∷ x) y =
 
 pub slashes_append : (x y : List ℕ) → slashes (x ++ y) ≡ slashes x + slashes y
 slashes_append [] y = omega arith
-slashes_append (c ∷ x) y = let e : slashes (x ++ y) ≡ slashes x + slashes y = slashes_append x y in omega (arith, e)
+slashes_append (c ∷ x) y = let e : slashes (x ++ y) ≡ slashes x + slashes y =
+    slashes_append x y in omega (arith, e)
 
 pub not_ended : {C : Type 0} (x y : Bool) → empty ≡ ended x y → C
 not_ended x y e = absurd (let f : ⊥ = cc in f)
@@ -37,10 +38,12 @@ pub same_last : (x y z w : Bool) → ended x y ≡ ended z w → y ≡ w
 same_last x y z w e = cc
 
 pub joined_from : (a b : Shape) (x y : Bool) → joined_shape a b ≡ ended x y →
-    ((a ≡ empty) × (b ≡ ended x y)) ⊎ (((a ≡ ended x y) × (b ≡ empty)) ⊎ ((w : Bool) × (z : Bool) × (a ≡ ended x w) × (b ≡ ended z y)))
+    ((a ≡ empty) × (b ≡ ended x y))
+    ⊎ (((a ≡ ended x y) × (b ≡ empty)) ⊎ ((w : Bool) × (z : Bool) × (a ≡ ended x w) × (b ≡ ended z y)))
 joined_from empty b x y e = inl (refl, e)
 joined_from (ended p q) empty x y e = inr (inl (e, refl))
-joined_from (ended p q) (ended u v) x y e = inr (inr (q, u, ap (λ z. ended z q) (same_first p v x y e), ap (λ z. ended u z) (same_last p v x y e)))
+joined_from (ended p q) (ended u v) x y e =
+    inr (inr (q, u, ap (λ z. ended z q) (same_first p v x y e), ap (λ z. ended u z) (same_last p v x y e)))
 
 pub shape_of_some : (c : ℕ) (s : List ℕ) → (x : Bool) × (y : Bool) × (shape (c ∷ s) ≡ ended x y)
 shape_of_some c [] = (c == 47, c == 47, refl)
@@ -52,10 +55,12 @@ shape_empty [] e = refl
 shape_empty (c ∷ s) e = let r : (x : Bool) × (y : Bool) × (shape (c ∷ s) ≡ ended x y) = shape_of_some c s in
     not_ended r.0 r.1 (sym e ∙ r.2)
 
-pub between_ends : (x y z w : Bool) (b : Shape) → joined_shape (ended x y) (joined_shape b (ended z w)) ≡ ended x w
+pub between_ends : (x y z w : Bool) (b : Shape)
+    → joined_shape (ended x y) (joined_shape b (ended z w)) ≡ ended x w
 between_ends x y z w empty = refl
 between_ends x y z w (ended u v) = refl
 
 pub some_shape : (w : List ℕ) → 1 ≤ slashes w → shape w ≡ empty → ⊥
 some_shape [] le e = omega (arith, le)
-some_shape (c ∷ w) le e = let r : (x : Bool) × (y : Bool) × (shape (c ∷ w) ≡ ended x y) = shape_of_some c w in not_ended r.0 r.1 (sym e ∙ r.2)
+some_shape (c ∷ w) le e = let r : (x : Bool) × (y : Bool) × (shape (c ∷ w) ≡ ended x y) = shape_of_some c w in
+    not_ended r.0 r.1 (sym e ∙ r.2)

@@ -10,7 +10,8 @@ pub no_text : chars [] ≡ []
 no_text = chars-nil
 
 -- ---- dots
-stays_at : (c : ℕ) (s : List ℕ) (b : Bool) → (c == 46) ≡ b → fold dot_after 3 s ≡ 3 → fold dot_after 3 (c ∷ s) ≡ 3
+stays_at : (c : ℕ) (s : List ℕ) (b : Bool) → (c == 46) ≡ b → fold dot_after 3 s ≡ 3
+    → fold dot_after 3 (c ∷ s) ≡ 3
 stays_at c s true e h = rw e h
 stays_at c s false e h = rw e h
 
@@ -62,9 +63,12 @@ not_two_at : (c : ℕ) (b : Bool) → (c == 46) ≡ b → dots_of (c ∷ []) ≡
 not_two_at c true e h = omega (arith, rw e at h)
 not_two_at c false e h = omega (arith, rw e at h)
 
-two_at : (c d : ℕ) (a b : Bool) → (c == 46) ≡ a → (d == 46) ≡ b → dots_of (c ∷ d ∷ []) ≡ 2 → IsText (46 ∷ 46 ∷ []) (c ∷ d ∷ [])
-two_at c d true true e f h =
-    (rw (e, f) refl, dots ∙ ap (λ z. z ∷ 46 ∷ []) (sym (eqb-true c 46 e)) ∙ ap (λ z. c ∷ z ∷ []) (sym (eqb-true d 46 f)))
+two_at : (c d : ℕ) (a b : Bool) → (c == 46) ≡ a → (d == 46) ≡ b → dots_of (c ∷ d ∷ []) ≡ 2
+    → IsText (46 ∷ 46 ∷ []) (c ∷ d ∷ [])
+two_at c d true true e f h = (
+  rw (e, f) refl,
+  dots ∙ ap (λ z. z ∷ 46 ∷ []) (sym (eqb-true c 46 e)) ∙ ap (λ z. c ∷ z ∷ []) (sym (eqb-true d 46 f)),
+)
 two_at c d true false e f h = absurd (omega (arith, rw (e, f) at h))
 two_at c d false true e f h = absurd (omega (arith, rw (e, f) at h))
 two_at c d false false e f h = absurd (omega (arith, rw (e, f) at h))

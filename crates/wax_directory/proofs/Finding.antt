@@ -230,7 +230,8 @@ pub seen_more : (names more : List (List ℕ)) (x q : List ℕ) (had has : Bool)
 seen_more names more x q had has is before step =
     let whole : list_any (bytes_eq q) more ≡ (list_any (bytes_eq q) names || (bytes_eq q x || false)) =
     ap (list_any (bytes_eq q)) is ∙ list_any-append (bytes_eq q) names (x ∷ []) in
-    elim (bytes_eq x q) as (λ b. bytes_eq x q ≡ b → has ≡ cond b true had → has ≡ list_any (bytes_eq q) more) [
+    elim (bytes_eq x q)
+    as (λ b. bytes_eq x q ≡ b → has ≡ cond b true had → has ≡ list_any (bytes_eq q) more) [
       | true ↦ λ e s. s ∙ sym
           (whole ∙ or_right (list_any (bytes_eq q) names) (bytes_eq q x || false)
           (or_left (bytes_eq q x) false ((bytes_eq-Decides q x).1 (sym ((bytes_eq-Decides x q).0 e)))))

@@ -19,15 +19,19 @@ use Rattle.wax_directory.specs.declared.tree.Node.TheVariants as N
 use Rattle.wax_directory.specs.declared.tree.Node.TheViews as V
 use Rattle.wax_directory.specs.declared.tree.Node.TheViews.{out-Node, out-TreeItem, the_lemmas}
 use Rattle.wax_directory.specs.declared.directory.FileType.TheVariants.{File, Folder}
-use Rattle.wax_directory.specs.Shown.{Items, Shown, a_leaf, a_folder, missing, misnamed, Listed, named, listing}
+use Rattle.wax_directory.specs.Shown.{Items, Shown, a_leaf, a_folder, missing, misnamed, Listed, named}
+use Rattle.wax_directory.specs.Shown.{listing}
 use Rattle.wax_directory.specs.Names.{is_plain, is_rooted, names_in_path, are_distinct}
 use Rattle.wax_directory.specs.Nodes.{kind_of, with_plain, with_entry, shown_of, items_shown, node_layer}
-use Rattle.wax_directory.specs.Nodes.{entry_node, held_layer, name_before, names_of, HasDistinctNames, Reached}
-use Rattle.wax_directory.specs.Nodes.{to_node, to_nothing, named_before, named_in, below_layer, onward, reached}
+use Rattle.wax_directory.specs.Nodes.{entry_node, held_layer, name_before, names_of, HasDistinctNames}
+use Rattle.wax_directory.specs.Nodes.{Reached}
+use Rattle.wax_directory.specs.Nodes.{to_node, to_nothing, named_before, named_in, below_layer, onward}
+use Rattle.wax_directory.specs.Nodes.{reached}
 use Rattle.wax_directory.specs.Nodes.{shown_reached}
 use Rattle.wax_directory.specs.Trees.{shown_in, tree_shows}
 use Rattle.wax_directory.specs.inner.Reaching.{layer_shown, shown_layer, item_layer_shown, item_layer}
-use Rattle.wax_directory.specs.PathTails.{PathTail, tail, leads_on, first_name, rest_after, below_name, rests, holds_name}
+use Rattle.wax_directory.specs.PathTails.{PathTail, tail, leads_on, first_name, rest_after, below_name, rests}
+use Rattle.wax_directory.specs.PathTails.{holds_name}
 use Rattle.wax_directory.specs.PathTails.{added, with_new, names_by, kind_by, listing_by, HoldsBy, StandsBy}
 use Rattle.wax_directory.specs.PathTails.{tails_from, tails_to}
 use Rattle.wax_directory.specs.inner.Places.{layer_has_name, has_name}
@@ -420,7 +424,8 @@ stands_folder (r ∷ tails) s l leads e h =
     let P : Bool → Type 0 = λ b. MatchBool b (HoldsBy (r ∷ tails) s) (s ≡ a_leaf false) in
     subst P (sym leads) (l, e, h)
 
-below_stands : (tails : List PathTail) (x : List ℕ) (more : List (List ℕ)) (items : List TreeItem) (q : Reached)
+below_stands : (tails : List PathTail) (x : List ℕ) (more : List (List ℕ))
+    (items : List TreeItem) (q : Reached)
     → q ≡ named_in x items → names_of items ≡ names_by tails → AreGrown tails items
     → StandsBy (rests more (below_name x tails)) (shown_reached (onward (reached more) q))
 below_stands tails x more items q led names g = elim (found_items x tails items g) [

@@ -1,12 +1,14 @@
 -- All items of a walk that are below an entry, by the names of their candidates, come right after it.
 use Rattle.std.proofs.Common.{◌≡◌, ◌<◌, ◌≤◌, ◌⊎◌, ℕ, zero, suc, ◌-◌, ◌&&◌, ◌||◌, Bool, true, false, List}
 use Rattle.std.proofs.Common.{[], ◌∷◌, ◌++◌, length}
-use Rattle.std.proofs.Common.{refl, sym, ap, ◌∙◌, subst, inl, inr, append_assoc, append-nil, arith, get_or, nat_lt, not}
+use Rattle.std.proofs.Common.{refl, sym, ap, ◌∙◌, subst, inl, inr, append_assoc, append-nil, arith, get_or}
+use Rattle.std.proofs.Common.{nat_lt, not}
 use Rattle.std.specs.Prelude.{⊤}
 use Rattle.std.specs.List.{list_all}
 use Rattle.std.proofs.lemmas.Bool.{and_from, false_from_ne_true, lt-ltb, ltb-true}
 use Rattle.wax_directory.specs.Names.{names_in_path}
-use Rattle.wax_directory.specs.Shown.{Items, end, leaf, folder, sealed, misnamed, unread, not_text, Shown, IsPlain}
+use Rattle.wax_directory.specs.Shown.{Items, end, leaf, folder, sealed, misnamed, unread, not_text, Shown}
+use Rattle.wax_directory.specs.Shown.{IsPlain}
 use Rattle.wax_directory.specs.Shown.{a_leaf, a_folder, a_sealed, missing, failing, join, IsNew}
 use Rattle.wax_directory.specs.Shown.{AreDistinct, IsDistinct}
 use Rattle.wax_walk.specs.declared.error.FaultKind.TheVariants.{Listing}
@@ -120,7 +122,8 @@ others_avoid at (folder y inner l) names x ys here plain new rest =
     let more : List Given = whole_items at l in (
       entry_avoids at (names ++ x ∷ []) names y here plain.0 (differ names x y new.0),
       subst (Avoids (names ++ x ∷ [])) (sym (append_assoc deep more ys))
-          (clash_avoids (one_deeper (item_location at y)) inner (names ++ x ∷ []) (names ++ y ∷ []) (more ++ ys)
+          (clash_avoids (one_deeper (item_location at y)) inner (names ++ x ∷ [])
+          (names ++ y ∷ []) (more ++ ys)
           (below_at at names y here plain.0) plain.1 (differ names x y new.0)
           (others_avoid at l names x ys here plain.2 new.1 rest)),
     )
@@ -164,7 +167,8 @@ all_under at (not_text l) d names ys less rest =
     inl (not_less (at.depth - 1) d (omega (arith, less)), all_under at l d names ys less rest)
 
 under_item : (at : Location) (names : List (List ℕ)) (x : List ℕ) (xs : List Given) → IsAt at names
-    → IsPlain x → Under at.depth (names ++ x ∷ []) xs → Under at.depth (names_in_path (join at.candidate x)) xs
+    → IsPlain x → Under at.depth (names ++ x ∷ []) xs
+    → Under at.depth (names_in_path (join at.candidate x)) xs
 under_item at names x xs here plain h =
     subst (λ ns. Under at.depth ns xs) (sym (item_names at names x here plain)) h
 
@@ -247,7 +251,8 @@ splits_after no_memory xs h = h
 
 module _ (rule : Facts → Mark) (m n : Mark) (above f : Facts) (after : List Given)
     (cut : cut_by rule (entry n above) ≡ true) (below : IsEntryBelow above f) where
-  cancelled_at : (items : List Given) (k : ℕ) → k < length items → get_or items k (entry n above) ≡ entry n above
+  cancelled_at : (items : List Given) (k : ℕ) → k < length items
+      → get_or items k (entry n above) ≡ entry n above
       → Splits (items ++ entry m f ∷ after) → is_cancelled (cut_by rule) items (entry m f) ≡ true
   cancelled_at [] k less is h = absurd (omega (arith, less))
   cancelled_at (y ∷ between) zero less is h =
@@ -258,9 +263,11 @@ module _ (rule : Facts → Mark) (m n : Mark) (above f : Facts) (after : List Gi
       subst (λ v. is_cancelled (cut_by rule) (v ∷ between) (entry m f) ≡ true) (sym is)
       (or_left (cut_by rule (entry n above) && are_below (entry n above) (between ++ entry m f ∷ []))
       (is_cancelled (cut_by rule) between (entry m f))
-      (and_from (cut_by rule (entry n above)) (are_below (entry n above) (between ++ entry m f ∷ [])) cut deep))
+      (and_from (cut_by rule (entry n above))
+      (are_below (entry n above) (between ++ entry m f ∷ [])) cut deep))
   cancelled_at (y ∷ between) (suc k) less is h =
-      or_right (cut_by rule y && are_below y (between ++ entry m f ∷ [])) (is_cancelled (cut_by rule) between (entry m f))
+      or_right (cut_by rule y && are_below y (between ++ entry m f ∷ []))
+      (is_cancelled (cut_by rule) between (entry m f))
       (cancelled_at between k (omega (arith, less)) is (splits_after y (between ++ entry m f ∷ after) h))
 
 all_below : (rule : Facts → Mark) (start : List ℕ) (s : Shown) (before after : List Given) (m : Mark)

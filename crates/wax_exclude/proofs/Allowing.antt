@@ -29,7 +29,8 @@ unchanged : (f : Forest Given) → ruled (of_candidate (glob_mark false tree_alo
 unchanged f = (λ i. ruled (λ facts. all_kept facts i) f) ∙ unruled f
 
 module _ (request : PlainRequest) where
-  can_walk : CanWalk (unignored_request request).wanted request.range request.range (unignored_request request).origin
+  can_walk : CanWalk (unignored_request request).wanted request.range request.range
+      (unignored_request request).origin
   can_walk = record {
     spelled = (tt, tt);
     least = refl;
@@ -41,8 +42,10 @@ module _ (request : PlainRequest) where
 
   pub lists_allowed : (s : Shown) → IsPlainShown s → ListsAllowed request s
   lists_allowed s named =
-      subst (λ f. All (MayList (unignored_request request).wanted request.range (unignored_request request).origin)
+      subst (λ f.
+      All (MayList (unignored_request request).wanted request.range (unignored_request request).origin)
       (listings (stacked (ignore_rules request.lines) f)))
       (unchanged (plain (scope_in request.range) request.start s))
-      (lists_few (unignored_request request).wanted request.range request.range (unignored_request request).origin
+      (lists_few (unignored_request request).wanted request.range request.range
+      (unignored_request request).origin
       can_walk s named)

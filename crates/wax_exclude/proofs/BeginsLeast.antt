@@ -1,5 +1,6 @@
 -- What is to come of a walk that opens only folders below which something is matched.
-use Rattle.std.proofs.Common.{◌≡◌, ◌∙◌, ◌≤◌, ◌<◌, ◌+◌, ◌&&◌, ℕ, Bool, true, false, if◌then◌else◌, List, [], ◌∷◌, length, refl, sym, ap, subst, inl, inr}
+use Rattle.std.proofs.Common.{◌≡◌, ◌∙◌, ◌≤◌, ◌<◌, ◌+◌, ◌&&◌, ℕ, Bool, true, false, if◌then◌else◌, List, []}
+use Rattle.std.proofs.Common.{◌∷◌, length, refl, sym, ap, subst, inl, inr}
 use Rattle.std.proofs.lemmas.Bool.{ltb-false, ltb-true}
 use Rattle.wax_prefilter.specs.Below.{goes_test}
 use Rattle.wax_directory.specs.Law.{Law}
@@ -20,7 +21,8 @@ use Rattle.wax_walk.specs.Candidates.{Candidate, of_candidate}
 use Rattle.wax_walk.specs.Course.{Course, IsFiltered}
 use Rattle.wax_walk.specs.Forest.{Forest, filtered, nothing, pending}
 use Rattle.wax_walk.specs.Given.{Facts, Given, Mark, changed_by, cut_by}
-use Rattle.wax_walk.specs.Pruned.{IsPrunedBy, keep_mark, opened_forest, opens_by as opened_by, pruned, selected_view}
+use Rattle.wax_walk.specs.Pruned.{IsPrunedBy, keep_mark, opened_forest, opens_by as opened_by, pruned}
+use Rattle.wax_walk.specs.Pruned.{selected_view}
 use Rattle.wax_walk.specs.Ruled.{IsMarkBy, ruled_view}
 use Rattle.wax_walk.specs.View.{IsSeenAs, MayTake, WalkView}
 use Rattle.wax_exclude.proofs.StackingRequests.{any_alone}
@@ -40,7 +42,8 @@ module _ {D C : Type 0} (law : Law D C) (d : D) (walk : RuledWalk) (view : WalkV
 
   abbrev pub ComesShown : Type 0
   ComesShown = (s : Shown) (listed : List (List ℕ)) → law.shows d walk.origin.path s → law.tells d listed
-      → length walk.origin.names ≤ walk.walked.max → view.to_come (pending nothing (left s) listed (count_shown s))
+      → length walk.origin.names ≤ walk.walked.max
+      → view.to_come (pending nothing (left s) listed (count_shown s))
 
   abbrev pub ComesBeyond : Type 0
   ComesBeyond = (s : Shown) (listed : List (List ℕ)) → law.shows d walk.origin.path s → law.tells d listed
@@ -51,7 +54,8 @@ module _ {D C : Type 0} (law : Law D C) (d : D) (walk : RuledWalk) (view : WalkV
   comes_so shown beyond takes listings = record {
     comes = λ s listed k told.
         elim (exceeds_range walk) as
-        (λ x. exceeds_range walk ≡ x → view.to_come (pending nothing (if x then nothing else left s) listed (if x then 0 else count_shown s))) [
+        (λ x. exceeds_range walk ≡ x → view.to_come
+        (pending nothing (if x then nothing else left s) listed (if x then 0 else count_shown s))) [
           | true ↦ λ e. beyond s listed k told (ltb-true walk.walked.max (length walk.origin.names) e)
           | false ↦ λ e. shown s listed k told (ltb-false walk.walked.max (length walk.origin.names) e)
         ] refl;
@@ -114,9 +118,11 @@ module _ {D : Type 0} (inner view : WalkView D) (keeps goes_on : Candidate → B
 abbrev pub tree_decides : Tree Span → List ℕ → Bool
 tree_decides t s = means_test t false false s
 
-module _ {D C : Type 0} (t : Tree Span) (law : Law D C) (d : D) (start : List ℕ) (asked : DepthRange) (depth : Bounds)
+module _ {D C : Type 0} (t : Tree Span) (law : Law D C) (d : D) (start : List ℕ)
+    (asked : DepthRange) (depth : Bounds)
     (inner view : WalkView D)
-    (seen : IsSeenAs (selected_view inner (matches_from tree_decides t asked.min) (matches_below (goes_test {A = Span}) t) false) view)
+    (seen : IsSeenAs (selected_view inner (matches_from tree_decides t asked.min)
+    (matches_below (goes_test {A = Span}) t) false) view)
   where
     abbrev keeps : Candidate → Bool
     keeps = matches_from tree_decides t asked.min
@@ -136,7 +142,8 @@ module _ {D C : Type 0} (t : Tree Span) (law : Law D C) (d : D) (start : List �
     module _ (rooted : Bool) (names : List (List ℕ))
         (b : BeginsAt law d (origin_from start rooted names) walked inner) where
       abbrev request : GlobRequest
-      request = request_from by_matches (record { rooted = rooted; glob = t; filters = [] }) start asked depth names
+      request =
+          request_from by_matches (record { rooted = rooted; glob = t; filters = [] }) start asked depth names
 
       pub least_shown : ArePlain request.origin.names → ComesShown law d (walk_for request) view
       least_shown plain s listed h told fits =
@@ -155,7 +162,8 @@ module _ {D C : Type 0} (t : Tree Span) (law : Law D C) (d : D) (start : List �
         refl,
       )
 
-      least_takes : ArePlain request.origin.names → (c : Course) → MayTake view c → WalkTakes (walk_for request) c
+      least_takes : ArePlain request.origin.names → (c : Course) → MayTake view c
+          → WalkTakes (walk_for request) c
       least_takes plain c m =
           let p = takes_twice inner view keeps below seen c m in
           selected_takes (walk_for request) (keep_mark keeps) lets_in p.first p.second c refl plain
@@ -166,7 +174,8 @@ module _ {D C : Type 0} (t : Tree Span) (law : Law D C) (d : D) (start : List �
 
       pub begins_least : BeginsRequest law d request view
       begins_least = record {
-        comes = λ plain. comes_so law d (walk_for request) view (least_shown plain) least_beyond (least_takes plain) least_listings;
+        comes = λ plain. comes_so law d (walk_for request) view (least_shown plain) least_beyond
+            (least_takes plain) least_listings;
         idle = λ less. seen.idles (inr (b.idle less));
         names = subst (λ n. n ≤ length request.origin.names) (sym seen.names_left) b.names;
         fails = fails_selected inner view keeps below seen 0 request.origin.path request.origin.names b.fails;

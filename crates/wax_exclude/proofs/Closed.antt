@@ -1,6 +1,7 @@
 -- What a least walk doesn't list: only what lies below folders below which nothing is meant, or that a filter
 -- excludes with everything below.
-use Rattle.std.proofs.Common.{◌≡◌, ℕ, Bool, true, false, ◌&&◌, not, ◌⊎◌, List, [], ◌∷◌, ◌++◌, map, refl, sym, ap}
+use Rattle.std.proofs.Common.{◌≡◌, ℕ, Bool, true, false, ◌&&◌, not, ◌⊎◌, List, [], ◌∷◌, ◌++◌, map, refl, sym}
+use Rattle.std.proofs.Common.{ap}
 use Rattle.std.proofs.Common.{subst, ◌∙◌, inl, inr, append_assoc, append-nil, chars}
 use Rattle.std.specs.List.{Contains}
 use Rattle.std.specs.Prelude.{All, nat_lt}
@@ -34,25 +35,29 @@ use Rattle.wax_exclude.specs.Premises.{IsPlainShown}
 use Rattle.wax_exclude.specs.Pruned.{TestsBelow, opens_where, least_rules, IsUnmeantBelow, IsCovered}
 use Rattle.wax_exclude.specs.Pruned.{SomeCovers, IsCoveredBelow}
 use Rattle.wax_exclude.specs.Walked.{ExcludesBelow, origin_walk}
-use Rattle.wax_exclude.specs.Wanted.{Filter, not_meant, not_ignored, Wanted, stacked, filter_mark, filter_rules}
+use Rattle.wax_exclude.specs.Wanted.{Filter, not_meant, not_ignored, Wanted, stacked, filter_mark}
+use Rattle.wax_exclude.specs.Wanted.{filter_rules}
 
 pub plain_later : (names others : List (List ℕ)) → ArePlain (names ++ others) → ArePlain others
 plain_later [] others h = h
 plain_later (n ∷ names) others h = plain_later names others h.1
 
-pub plain_both : (names others : List (List ℕ)) → ArePlain names → ArePlain others → ArePlain (names ++ others)
+pub plain_both : (names others : List (List ℕ)) → ArePlain names → ArePlain others
+    → ArePlain (names ++ others)
 plain_both [] others h k = k
 plain_both (n ∷ names) others h k = (h.0, plain_both names others h.1 k)
 
 -- a filter that marks an entry as excluded with everything below it excludes it so
 said_below : {A : Type 0} (x : Filter A) (c : Candidate) → filter_mark x c ≡ with_tree → ExcludesBelow x c
 said_below (not_meant t) c e =
-    (covers_tested (alternatives t) c).0 (covered (covers_test (alternatives t) c) (means_test t false false c.text) e)
+    (covers_tested (alternatives t) c).0
+    (covered (covers_test (alternatives t) c) (means_test t false false c.text) e)
 said_below (not_ignored lines) c e =
     (below_tested lines c).0 (covered (below_test lines c) (is_ignored lines c.text) e)
 
 -- what is lost to the one filter or to the other is lost
-lost_then : (Gone : List ℕ → Type 0) (xs ys zs : List (List ℕ)) → All (λ path. Contains ys path ⊎ Gone path) xs
+lost_then : (Gone : List ℕ → Type 0) (xs ys zs : List (List ℕ))
+    → All (λ path. Contains ys path ⊎ Gone path) xs
     → All (λ path. Contains zs path ⊎ Gone path) ys → All (λ path. Contains zs path ⊎ Gone path) xs
 lost_then Gone xs ys zs h k =
     All-weaker (λ path. Contains ys path ⊎ Gone path) (λ path. Contains zs path ⊎ Gone path)
@@ -61,7 +66,8 @@ lost_then Gone xs ys zs h k =
       | inr g ↦ inr g
     ]) xs h
 
-module _ {A : Type 0} (w : Wanted A) (goes : List ℕ → Bool) (tested : TestsBelow goes w.rooted w.glob) (least : ℕ)
+module _ {A : Type 0} (w : Wanted A) (goes : List ℕ → Bool)
+    (tested : TestsBelow goes w.rooted w.glob) (least : ℕ)
     (range : DepthRange) (origin : Origin) where
   abbrev scope : WalkScope
   scope = scope_in range
@@ -83,7 +89,8 @@ module _ {A : Type 0} (w : Wanted A) (goes : List ℕ → Bool) (tested : TestsB
   plain_all names more h k =
       subst ArePlain (append_assoc origin.names names more) (plain_both (origin.names ++ names) more h k)
 
-  closes : (m : Mark) (f : Facts) (path : List ℕ) → Of f path → is_closed (opens_where goes) (entry m f) ≡ true
+  closes : (m : Mark) (f : Facts) (path : List ℕ) → Of f path
+      → is_closed (opens_where goes) (entry m f) ≡ true
       → IsUnmeantBelow w origin path
   closes m f path (names, a, (more, p, e)) i = (
     names,
@@ -101,7 +108,8 @@ module _ {A : Type 0} (w : Wanted A) (goes : List ℕ → Bool) (tested : TestsB
       let marked : filter_mark x (candidate_at w.rooted cs) ≡ with_tree =
       ap (filter_mark x) (sym (at_sees w.rooted (at_of f) (origin.names ++ names) a)) ∙ i in
       let joined : cs ++ map chars more ≡ map chars (origin.names ++ (names ++ more)) =
-      sym (map-append chars (origin.names ++ names) more) ∙ ap (map chars) (append_assoc origin.names names more) in (
+      sym (map-append chars (origin.names ++ names) more)
+      ∙ ap (map chars) (append_assoc origin.names names more) in (
         names ++ more,
         plain_all names more a.are_plain p,
         e,
@@ -129,11 +137,13 @@ module _ {A : Type 0} (w : Wanted A) (goes : List ℕ → Bool) (tested : TestsB
 
   abbrev Loses : Forest Given → Type 0
   Loses f =
-      All (λ path. Contains (listings (pruned (opens_where goes) f)) path ⊎ IsUnmeantBelow w origin path) (listings f)
+      All (λ path. Contains (listings (pruned (opens_where goes) f)) path ⊎ IsUnmeantBelow w origin path)
+      (listings f)
 
   abbrev LosesAll : Forest Given → Type 0
   LosesAll f =
-      All (λ path. Contains (listings (stacked (least_rules least w) (pruned (opens_where goes) f))) path ⊎ Shut path)
+      All (λ path. Contains (listings (stacked (least_rules least w) (pruned (opens_where goes) f))) path
+      ⊎ Shut path)
       (listings f)
 
   lies : (at : Location) (s : Shown) → at.path ≡ start → At w.rooted at origin.names → IsPlainShown s
@@ -149,7 +159,8 @@ module _ {A : Type 0} (w : Wanted A) (goes : List ℕ → Bool) (tested : TestsB
       let once = pruned (opens_where goes) f in
       lost_then Shut (listings f) (listings once) (listings (stacked (least_rules least w) once))
       (stay (λ y. y) cut Shut Of (λ m g path o i. inl (closes m g path o i)) f h)
-      (stay_stacked Of Shut (least_rules least w) rules_lose once (lie_filtered Of (λ y. y) cut (λ y path o. o) f h))
+      (stay_stacked Of Shut (least_rules least w) rules_lose once
+      (lie_filtered Of (λ y. y) cut (λ y path o. o) f h))
 
   lies_along : (names : List (List ℕ)) (at : Location) (done : List (List ℕ)) (s : Shown) → ArePlain names
       → At w.rooted at done → IsPlainShown s → done ++ names ≡ origin.names → path_from at.path names ≡ start
@@ -170,12 +181,12 @@ module _ {A : Type 0} (w : Wanted A) (goes : List ℕ → Bool) (tested : TestsB
     lies_origin =
         lies_along origin.names (origin_location origin) [] s plain (at_start w origin begins) t refl refl
 
-    -- each folder of the walk is listed by the pruned one, or it is or lies below a folder below which nothing is
-    -- meant
+    -- each folder of the walk is listed by the pruned one, or it is or lies below a folder
+    -- below which nothing is meant
     pub loses_unmeant : Loses (origin_walk range origin s)
     loses_unmeant = loses_at (origin_walk range origin s) lies_origin
 
-    -- each folder of the walk is listed by the least walk, or it is or lies below a folder below which nothing is
-    -- meant, or one that a filter excludes with everything below it
+    -- each folder of the walk is listed by the least walk, or it is or lies below a folder below which
+    -- nothing is meant, or one that a filter excludes with everything below it
     pub loses_shut : LosesAll (origin_walk range origin s)
     loses_shut = loses_all_at (origin_walk range origin s) lies_origin

@@ -132,7 +132,8 @@ module _ {A : Type 0} (w : Wanted A) (goes : List ℕ → Bool) (tested : TestsB
     Longer names ns = (y : List ℕ) × (more : List (List ℕ)) × (ns ≡ names ++ y ∷ more)
 
     means_more : (names ns : List (List ℕ)) → Longer names ns → AreNames (map chars ns)
-        → Means w.glob false false (text_at w.rooted (map chars ns)) → MeansLonger w.rooted w.glob (map chars names)
+        → Means w.glob false false (text_at w.rooted (map chars ns))
+        → MeansLonger w.rooted w.glob (map chars names)
     means_more names ns (y, more, e) n m =
         let i : map chars ns ≡ map chars names ++ map chars (y ∷ more) =
         ap (map chars) e ∙ map-append chars names (y ∷ more) in (
@@ -148,16 +149,19 @@ module _ {A : Type 0} (w : Wanted A) (goes : List ℕ → Bool) (tested : TestsB
     none_in at names l a t n =
         same_filter p never (in_folder at l)
         (agree_inside p never w.rooted scope (Longer names)
-        (λ ns x (y, more, e). (y, more ++ x ∷ [], ap (λ v. v ++ x ∷ []) e ∙ append_assoc names (y ∷ more) (x ∷ [])))
+        (λ ns x (y, more, e).
+        (y, more ++ x ∷ [], ap (λ v. v ++ x ∷ []) e ∙ append_assoc names (y ∷ more) (x ∷ [])))
         (λ c k ns h g. unmeant c k ns h (λ m. n (means_more names ns g (names_chars ns h.are_plain) m)))
         no_faults at names l a t (λ x. (x, [], refl)))
         ∙ none_of (preorder (in_folder at l))
 
-    of_listed : (b : Bool) (path : List ℕ) (f : Forest Given) → of f ≡ [] → of (cond b (lists path f) nothing) ≡ []
+    of_listed : (b : Bool) (path : List ℕ) (f : Forest Given) → of f ≡ []
+        → of (cond b (lists path f) nothing) ≡ []
     of_listed true path f e = e
     of_listed false path f e = refl
 
-    of_one : (kind : FaultKind) (path : List ℕ) (depth : ℕ) → of (item (fault kind path depth) nothing nothing) ≡ []
+    of_one : (kind : FaultKind) (path : List ℕ) (depth : ℕ)
+        → of (item (fault kind path depth) nothing nothing) ≡ []
     of_one kind path depth = ap (λ b. cond b (fault kind path depth ∷ []) []) (no_faults kind path depth)
 
     free_leaf : (at : Location) (kind : FileType) (rest : Forest Given) → Free rest
@@ -186,7 +190,8 @@ module _ {A : Type 0} (w : Wanted A) (goes : List ℕ → Bool) (tested : TestsB
         (free_inside at names rest a t.2)
     free_inside at names (sealed x rest) a t =
         let c = child_location at x in
-        free_folder c (names ++ x ∷ []) (item (fault Listing c.path c.depth) nothing nothing) (in_folder at rest)
+        free_folder c (names ++ x ∷ [])
+        (item (fault Listing c.path c.depth) nothing nothing) (in_folder at rest)
         (at_join w.rooted at names x a t.0) (λ n. of_one Listing c.path c.depth) ((λ e. refl), tt, tt)
         (free_inside at names rest a t.1)
     free_inside at names (misnamed x kind rest) a t = ((λ e. refl), tt, free_inside at names rest a t)
@@ -197,7 +202,8 @@ module _ {A : Type 0} (w : Wanted A) (goes : List ℕ → Bool) (tested : TestsB
         → Free (plain_at scope at s nothing)
     free_at at names (a_leaf link) a t = free_leaf at (leaf_kind link) nothing tt
     free_at at names (a_folder l) a t =
-        free_folder at names (in_folder at l) nothing a (none_in at names l a t) (free_inside at names l a t) tt
+        free_folder at names (in_folder at l) nothing a (none_in at names l a t)
+        (free_inside at names l a t) tt
     free_at at names a_sealed a t =
         free_folder at names (item (fault Listing at.path at.depth) nothing nothing) nothing a
         (λ n. of_one Listing at.path at.depth) ((λ e. refl), tt, tt) tt
@@ -211,7 +217,8 @@ module _ {A : Type 0} (w : Wanted A) (goes : List ℕ → Bool) (tested : TestsB
   untrue false n = refl
 
   -- an entry that the glob doesn't mean isn't wanted
-  pub unwanted_from : (least : ℕ) (scope : WalkScope) (at : Location) (kind : FileType) (names : List (List ℕ))
+  pub unwanted_from : (least : ℕ) (scope : WalkScope) (at : Location) (kind : FileType)
+      (names : List (List ℕ))
       → At w.rooted at names → ¬ (Means w.glob false false (text_at w.rooted (map chars names)))
       → is_wanted_from least w (plain_entry at kind) ≡ false
   unwanted_from least scope at kind names a n =

@@ -1,5 +1,6 @@
 -- Folders below which everything is excluded.
-use Rattle.std.proofs.Common.{◌≡◌, ◌↔◌, ◌==◌, ◌||◌, ◌&&◌, ℕ, Bool, IsTrue, true, false, not, cond, List, [], ◌∷◌, ◌++◌, length}
+use Rattle.std.proofs.Common.{◌≡◌, ◌↔◌, ◌==◌, ◌||◌, ◌&&◌, ℕ, Bool, IsTrue, true, false, not, cond, List, []}
+use Rattle.std.proofs.Common.{◌∷◌, ◌++◌, length}
 use Rattle.std.proofs.Common.{refl, sym, ap, subst, ◌∙◌, inl, inr, arith, append_assoc, nat_lt}
 use Rattle.std.specs.Prelude.{filter}
 use mir.Val.{bool_byte}
@@ -21,7 +22,8 @@ use Rattle.wax_exclude.proofs.Ignored.{below_ignored, below_tested}
 use Rattle.wax_exclude.proofs.ListingLines.{says_lines}
 use Rattle.wax_exclude.proofs.Tests.{covers_tested}
 use Rattle.wax_exclude.specs.Candidates.{NoSlashAfterNames, folder_at}
-use Rattle.wax_exclude.specs.Covers.{Covers, CoversSome, covers_test, is_everything, some_everything, wild_test}
+use Rattle.wax_exclude.specs.Covers.{Covers, CoversSome, covers_test, is_everything, some_everything}
+use Rattle.wax_exclude.specs.Covers.{wild_test}
 use Rattle.wax_exclude.specs.Excluded.{excluded_mark, some_test}
 use Rattle.wax_exclude.specs.GlobRequests.{IsRuleOf}
 use Rattle.wax_exclude.specs.Held.{HasLines}
@@ -34,9 +36,11 @@ use Rattle.wax_exclude.specs.inner.Listed.{below_by, ignored_by, listed_mark, no
 
 -- ---- folders as rules see them
 
-first_named : (c : ℕ) (parts : List (List ℕ)) → nat_lt 0 (length (filter is_some_name (onto_first c parts))) ≡ true
+first_named : (c : ℕ) (parts : List (List ℕ))
+    → nat_lt 0 (length (filter is_some_name (onto_first c parts))) ≡ true
 first_named c [] = refl
-first_named c (part ∷ parts) = lt-ltb 0 (length (filter is_some_name (onto_first c (part ∷ parts)))) (omega arith)
+first_named c (part ∷ parts) =
+    lt-ltb 0 (length (filter is_some_name (onto_first c (part ∷ parts)))) (omega arith)
 
 -- a text has a name if one of its characters isn't `/`
 named : (s : List ℕ) → nat_lt 0 (folder_at s).depth ≡ list_any (λ c. not (c == 47)) s
@@ -53,7 +57,8 @@ count_named : (b : Bool) → nat_lt 0 (bool_byte b) ≡ b
 count_named true = refl
 count_named false = refl
 
-pub depth_named : (depth : ℕ) (b : Bool) (s t : List ℕ) → depth ≡ bool_byte b → b ≡ list_any (λ c. not (c == 47)) s
+pub depth_named : (depth : ℕ) (b : Bool) (s t : List ℕ) → depth ≡ bool_byte b
+    → b ≡ list_any (λ c. not (c == 47)) s
     → s ≡ t → nat_lt 0 depth ≡ nat_lt 0 (folder_at t).depth
 depth_named depth b s t d e f =
     ap (nat_lt 0) d ∙ count_named b ∙ e ∙ ap (list_any (λ c. not (c == 47))) f ∙ sym (named t)
@@ -99,9 +104,11 @@ module _ (answer : Bool) (mark : Mark) (asks : Asks answer mark) (c d : Candidat
     pub answers_listed : Asks answer (listed_mark held d)
     answers_listed = answers_same answer mark (listed_mark held d) (e ∙ listed_alike c d text depth held) asks
 
-    pub answers_lines : (lines : List (Line Span)) → HasLines held lines → IsTrue answer ↔ IgnoresBelow lines d
+    pub answers_lines : (lines : List (Line Span)) → HasLines held lines
+        → IsTrue answer ↔ IgnoresBelow lines d
     answers_lines lines has =
-        let says : listed_mark held d ≡ ignore_mark lines d = ap (λ rule. rule d) (says_lines held lines has) in
+        let says : listed_mark held d ≡ ignore_mark lines d =
+        ap (λ rule. rule d) (says_lines held lines has) in
         let so = covered_so (below_test lines d) (is_ignored lines d.text) in
         let tested = below_tested lines d in (
           (λ t. tested.0 (so.0 (sym says ∙ answers_listed.0 t))),
@@ -118,7 +125,8 @@ excludes_so (not_ignored lines) c =
     let tested = below_tested lines c in
     ((λ e. tested.0 (so.0 e)), (λ h. so.1 (tested.1 h)))
 
-pub answers_filter : {A : Type 0} (answer : Bool) (rule : Candidate → Mark) (c : Candidate) → Asks answer (rule c)
+pub answers_filter : {A : Type 0} (answer : Bool) (rule : Candidate → Mark) (c : Candidate)
+    → Asks answer (rule c)
     → (x : Filter A) → IsRuleOf x rule → IsTrue answer ↔ ExcludesBelow x c
 answers_filter answer rule c asks x is =
     let so = excludes_so x c in
@@ -137,7 +145,8 @@ module _ (folder s : List ℕ) (ends : NoSlashAfterNames folder) (below : IsBelo
   covers_means : {A : Type 0} (t : Tree A) → Covers t (folder_at folder) → Means t false false s
   covers_means t (inl e) = everything_meant t (is_everything (members t)) refl e s
   covers_means t (inr h) = elim ends [
-    | inl none ↦ (let n : length (names_in_path folder) ≡ 0 = ap length none in absurd (omega (arith, n, h.2)))
+    | inl none ↦
+        (let n : length (names_in_path folder) ≡ 0 = ap length none in absurd (omega (arith, n, h.2)))
     | inr closed ↦ (let more = text_below folder s closed below in
         subst (λ v. Means t false false v) (sym more.1) (of_members t false false _
         (wild_goes_on (members t) false folder more.0 h.0 (as_members t false false folder h.1))))

@@ -127,7 +127,8 @@ glob_keeps rooted t names p q =
 begins_more : (s r : List ℕ) → BeginsWithSlash s → BeginsWithSlash (s ++ r)
 begins_more s r h = (h.0 ++ r, ap (λ v. v ++ r) h.1)
 
-empty_or_begins : (s r : List ℕ) → (s ≡ []) ⊎ BeginsWithSlash s → (s ++ 47 ∷ r ≡ []) ⊎ BeginsWithSlash (s ++ 47 ∷ r)
+empty_or_begins : (s r : List ℕ) → (s ≡ []) ⊎ BeginsWithSlash s
+    → (s ++ 47 ∷ r ≡ []) ⊎ BeginsWithSlash (s ++ 47 ∷ r)
 empty_or_begins s r h =
     elim h [ inl e ↦ inr (r, ap (λ v. v ++ 47 ∷ r) e) | inr b ↦ inr (begins_more s (47 ∷ r) b) ]
 
@@ -222,9 +223,11 @@ everything (more (repetition x u low high) none) s e = cc
 everything (more u (more v vs)) s e = cc
 
 -- a token that is everything matches every text
-pub everything_meant : {A : Type 0} (t : Tree A) (answer : Bool) → answer ≡ is_everything (members t) → IsTrue answer
+pub everything_meant : {A : Type 0} (t : Tree A) (answer : Bool)
+    → answer ≡ is_everything (members t) → IsTrue answer
     → (text : List ℕ) → Means t false false text
-everything_meant t answer e true_is text = of_members t false false text (everything (members t) text (sym e ∙ true_is))
+everything_meant t answer e true_is text =
+    of_members t false false text (everything (members t) text (sym e ∙ true_is))
 
 -- what is covered is meant
 covers_meant : {A : Type 0} (t : Tree A) (c : Candidate) → Covers t c → Means t false false c.text

@@ -10,7 +10,8 @@ use Rattle.wax_directory.specs.Shown.{Items, end, leaf, folder, sealed, misnamed
 use Rattle.wax_directory.specs.Shown.{a_leaf, a_folder, a_sealed, missing, failing, leaf_kind}
 use Rattle.wax_tree.specs.Begins.{Origin, origin_location, scope_in}
 use Rattle.wax_tree.specs.declared.steps.DepthRange.{DepthRange}
-use Rattle.wax_tree.specs.Plain.{WalkScope, Location, one_deeper, plain_entry, items_forest, below_forest, plain_at}
+use Rattle.wax_tree.specs.Plain.{WalkScope, Location, one_deeper, plain_entry, items_forest, below_forest}
+use Rattle.wax_tree.specs.Plain.{plain_at}
 use Rattle.wax_tree.specs.Prefix.{ArePlain}
 use Rattle.wax_walk.specs.declared.error.FaultKind.{FaultKind}
 use Rattle.wax_walk.specs.declared.error.FaultKind.TheVariants.{Listing, NotFound}
@@ -28,7 +29,8 @@ use Rattle.wax_exclude.specs.Wanted.{Wanted, is_wanted}
 module _ (p : Given → Bool)
     (no_faults : (kind : FaultKind) (path : List ℕ) (depth : ℕ) → p (fault kind path depth) ≡ false)
     (rooted : Bool) (scope : WalkScope)
-    (none : (at : Location) (kind : FileType) (names : List (List ℕ)) → At rooted at names → at.depth ≤ scope.max
+    (none : (at : Location) (kind : FileType) (names : List (List ℕ)) → At rooted at names
+    → at.depth ≤ scope.max
     → p (plain_entry at kind) ≡ false) where
   abbrev of : Forest Given → List Given
   of f = filter p (preorder f)
@@ -44,7 +46,8 @@ module _ (p : Given → Bool)
   if_listed at f h true e = h (ltb-true at.depth scope.max e)
   if_listed at f h false e = refl
 
-  none_inside : (at : Location) (names : List (List ℕ)) (l : Items) → at.depth < scope.max → At rooted at names
+  none_inside : (at : Location) (names : List (List ℕ)) (l : Items)
+      → at.depth < scope.max → At rooted at names
       → ArePlainItems l → of (in_folder at l) ≡ []
   none_inside at names end d a t = refl
   none_inside at names (leaf x link rest) d a t =
@@ -96,7 +99,8 @@ module _ (p : Given → Bool)
   none_at at names missing d a t = of_fault p no_faults NotFound at.path at.depth nothing
   none_at at names failing d a t = of_fault p no_faults Listing at.path at.depth nothing
 
-module _ {A : Type 0} (w : Wanted A) (asked : DepthRange) (origin : Origin) (s : Shown) (plain : IsPlainShown s)
+module _ {A : Type 0} (w : Wanted A) (asked : DepthRange) (origin : Origin) (s : Shown)
+    (plain : IsPlainShown s)
     (start : origin.candidate ≡ base w.rooted) where
   abbrev scope : WalkScope
   scope = scope_in asked
@@ -115,7 +119,8 @@ module _ {A : Type 0} (w : Wanted A) (asked : DepthRange) (origin : Origin) (s :
       (begins : BeginsWith w.rooted w.glob (map chars origin.names)) (named : ArePlain origin.names)
       (few : walked.max < length origin.names) where
     -- an entry in the range asked for has no more names than the origin
-    too_few : (at : Location) (names : List (List ℕ)) → At w.rooted at names → length origin.names ≤ length names
+    too_few : (at : Location) (names : List (List ℕ)) → At w.rooted at names
+        → length origin.names ≤ length names
         → at.depth ≤ asked.max → (walked.max ≡ asked.max)
         ⊎ ((walked.max ≤ asked.max) × BoundsNames w.rooted w.glob walked.max)
         → (BoundsNames w.rooted w.glob walked.max → length names ≤ walked.max) → ⊥

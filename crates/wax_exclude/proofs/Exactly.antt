@@ -1,5 +1,6 @@
 -- A least walk lists exactly the folders of the plain walk that it may.
-use Rattle.std.proofs.Common.{◌≡◌, ◌↔◌, ℕ, Bool, true, false, ◌⊎◌, cond, List, [], ◌∷◌, ◌++◌, map, refl, sym, ap}
+use Rattle.std.proofs.Common.{◌≡◌, ◌↔◌, ℕ, Bool, true, false, ◌⊎◌, cond, List, [], ◌∷◌, ◌++◌, map, refl, sym}
+use Rattle.std.proofs.Common.{ap}
 use Rattle.std.proofs.Common.{subst, ◌∙◌, inl, inr, arith, append_assoc, append-nil, chars}
 use Rattle.std.specs.List.{Contains}
 use Rattle.std.proofs.lemmas.List.{append_cancel_left, map-append}
@@ -88,7 +89,8 @@ each_itself (item x below after) =
       each_more (Contains (listings below)) (Contains all)
           (λ path c. Contains-append_left (listings below) (listings after) path c) below (each_itself below),
       each_more (Contains (listings after)) (Contains all)
-          (λ path c. Contains-append_right (listings below) (listings after) path c) after (each_itself after),
+          (λ path c. Contains-append_right (listings below) (listings after) path c)
+          after (each_itself after),
     )
 each_itself (lists path after) = (
   Contains-append_left (path ∷ []) (listings after) path (0, omega arith, refl),
@@ -108,7 +110,8 @@ listed_before : (opens : Facts → Bool) (rules : List (Facts → Mark)) (f : Fo
     → Contains (listings (stacked rules (pruned opens f))) path → Contains (listings f) path
 listed_before opens rules f path c =
     let P = Contains (listings f) in
-    let h = each_stacked P rules (pruned opens f) (each_filtered P (λ x. x) (is_closed opens) f (each_itself f)) in
+    let h = each_stacked P rules (pruned opens f)
+    (each_filtered P (λ x. x) (is_closed opens) f (each_itself f)) in
     All-contains P (listings (stacked rules (pruned opens f))) path
     (all_listed P (stacked rules (pruned opens f)) h) c
 
@@ -146,7 +149,8 @@ module _ {A : Type 0} (w : Wanted A) (range : DepthRange) (origin : Origin) (pat
   its_names : (may : MayOpen w range origin path) (names : List (List ℕ)) → ArePlain (origin.names ++ names)
       → path ≡ path_from start names → may.names ≡ names
   its_names may names p e =
-      same_names start may.names names (names_bytes may.names (plain_later origin.names may.names may.are_plain))
+      same_names start may.names names
+      (names_bytes may.names (plain_later origin.names may.names may.are_plain))
       (names_bytes names (plain_later origin.names names p)) (sym may.path_is ∙ e)
 
   pub not_unmeant : MayOpen w range origin path → IsUnmeantBelow w origin path → ⊥
@@ -154,7 +158,8 @@ module _ {A : Type 0} (w : Wanted A) (range : DepthRange) (origin : Origin) (pat
       let same = its_names may (front ++ back) p e in
       let before = origin.names ++ front in
       let split : map chars (origin.names ++ may.names) ≡ map chars before ++ map chars back =
-      ap (λ v. map chars (origin.names ++ v)) same ∙ ap (map chars) (sym (append_assoc origin.names front back))
+      ap (λ v. map chars (origin.names ++ v)) same
+      ∙ ap (map chars) (sym (append_assoc origin.names front back))
       ∙ map-append chars before back in
       let plain = plain_later before back (subst ArePlain (sym (append_assoc origin.names front back)) p) in
       none (means_shorter w (map chars before) (map chars back) (names_chars back plain)
@@ -168,8 +173,10 @@ module _ {A : Type 0} (w : Wanted A) (range : DepthRange) (origin : Origin) (pat
 
 -- a least walk lists exactly those folders of the plain walk that it may: below which something is meant, and
 -- which no filter excludes with everything below
-pub lists_exactly : {A : Type 0} (w : Wanted A) (goes : List ℕ → Bool) (tested : TestsBelow goes w.rooted w.glob)
-    (asked walked : DepthRange) (origin : Origin) → CanWalkLeast w asked walked origin → (s : Shown) → IsPlainShown s
+pub lists_exactly : {A : Type 0} (w : Wanted A) (goes : List ℕ → Bool)
+    (tested : TestsBelow goes w.rooted w.glob)
+    (asked walked : DepthRange) (origin : Origin) → CanWalkLeast w asked walked origin
+    → (s : Shown) → IsPlainShown s
     → (path : List ℕ) → Contains (listings (least_walk goes asked.min w walked origin s)) path
     ↔ Contains (listings (origin_walk walked origin s)) path × MayOpen w walked origin path
 lists_exactly w goes tested asked walked origin can s t path =
@@ -179,10 +186,12 @@ lists_exactly w goes tested asked walked origin can s t path =
     let lost = loses_shut w goes tested asked.min walked origin can.candidate can.plain s t in (
       λ c. (
         listed_before (opens_where goes) rules f path c,
-        All-contains (MayOpen w walked origin) now path (opens_few w goes tested asked walked origin can s t) c,
+        All-contains (MayOpen w walked origin) now path
+            (opens_few w goes tested asked walked origin can s t) c,
       ),
       λ (c, may). elim (All-contains
-          (λ p. Contains now p ⊎ (IsUnmeantBelow w origin p ⊎ IsCoveredBelow w origin p)) (listings f) path lost c) [
+          (λ p. Contains now p ⊎ (IsUnmeantBelow w origin p ⊎ IsCoveredBelow w origin p))
+          (listings f) path lost c) [
             | inl listed ↦ listed
             | inr (inl none) ↦ absurd (not_unmeant w walked origin path may none)
             | inr (inr shut) ↦ absurd (not_shut w walked origin path may shut)

@@ -28,7 +28,8 @@ feeds_by_rules rules opening range origin s fits =
     let walk = origin_walk range origin s in
     let level = levelled_along (scope_in range) (origin_location origin) s origin.names in
     ap preorder (stacked_any rules (opened_forest opening walk))
-    ∙ (leaves_list (changed_by (any_mark rules)) (cut_by (any_mark rules)) level.0 level.1 (opened_forest opening walk)
+    ∙ (leaves_list (changed_by (any_mark rules)) (cut_by (any_mark rules)) level.0 level.1
+    (opened_forest opening walk)
     (levelled_opened opening level.0 level.1 walk level.2)
     ∙ ap (left_of (any_mark rules)) (opens_list opening level.0 level.1 walk level.2
     ∙ ap (opened_items opening)
@@ -37,7 +38,8 @@ feeds_by_rules rules opening range origin s fits =
 pub feeds_by_walk : FeedsByWalk
 feeds_by_walk walk s = go (exceeds_range walk) refl where
   go : (b : Bool) → exceeds_range walk ≡ b
-      → preorder (if b then nothing else stacked walk.rules (opened_forest walk.opening (origin_walk walk.walked walk.origin s)))
+      → preorder (if b then nothing
+      else stacked walk.rules (opened_forest walk.opening (origin_walk walk.walked walk.origin s)))
       ≡ (if b then [] else feed_of walk.rules walk.opening walk.walked walk.origin s)
   go true e = refl
   go false e = feeds_by_rules walk.rules walk.opening walk.walked walk.origin s (ltb-false _ _ e)

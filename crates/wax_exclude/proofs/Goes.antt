@@ -1,5 +1,6 @@
 -- Whether something below a folder is meant, by its text and by its names.
-use Rattle.std.proofs.Common.{◌≡◌, ◌↔◌, ℕ, Bool, true, false, if◌then◌else◌, List, [], ◌∷◌, ◌++◌, refl, sym, ap}
+use Rattle.std.proofs.Common.{◌≡◌, ◌↔◌, ℕ, Bool, true, false, if◌then◌else◌, List, [], ◌∷◌, ◌++◌, refl, sym}
+use Rattle.std.proofs.Common.{ap}
 use Rattle.std.proofs.Common.{subst, ◌∙◌, append_assoc}
 use Rattle.wax_prefilter.specs.Below.{MeansBelow, goes_test, goes_tested}
 use Rattle.wax_query.specs.Below.{AreNames, ends_open, folder_text, joined_names, slashed}
@@ -45,7 +46,8 @@ means_by_names rooted t names h = (
     some,
     are_more,
     subst (λ v. Means t false false v)
-        (s_is ∙ ap (λ v. folder_text (text_at rooted names) ++ v) path_is ∙ text_below rooted names more h some) m,
+        (s_is ∙ ap (λ v. folder_text (text_at rooted names) ++ v) path_is
+        ∙ text_below rooted names more h some) m,
   ),
   λ (more, some, are_more, m). (
     text_at rooted (names ++ more),

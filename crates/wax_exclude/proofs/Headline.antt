@@ -53,7 +53,8 @@ untrue false n = refl
 
 module _ {A : Type 0} (w : Wanted A) where
   -- an entry that the glob doesn't mean isn't wanted
-  pub unmeant : (scope : WalkScope) (at : Location) (kind : FileType) (names : List (List ℕ)) → At w.rooted at names
+  pub unmeant : (scope : WalkScope) (at : Location) (kind : FileType) (names : List (List ℕ))
+      → At w.rooted at names
       → (Means w.glob false false (text_at w.rooted (map chars names)) → ⊥)
       → is_wanted w (plain_entry at kind) ≡ false
   unmeant scope at kind names a n =
@@ -100,7 +101,8 @@ module _ {A : Type 0} (w : Wanted A) where
     may_fault : (kind : FaultKind) (path : List ℕ) (depth : ℕ)
         → May (item (fault kind path depth) nothing nothing)
     may_fault kind path depth =
-        subst (λ v. All (MayList w range origin) (listings v)) (sym (stacked_fault (rules_of w) kind path depth))
+        subst (λ v. All (MayList w range origin) (listings v))
+        (sym (stacked_fault (rules_of w) kind path depth))
         (All-nil (MayList w range origin))
 
     may_walk : (names : List (List ℕ)) (at : Location) (done : List (List ℕ)) (s : Shown) → ArePlain names
@@ -125,7 +127,8 @@ module _ {A : Type 0} (w : Wanted A) where
   plain_wanted asked origin s = at_whole (is_wanted w) (λ k p d. refl) asked (origin_location origin) s
       (omega arith)
 
-  pub at_start : (origin : Origin) → origin.candidate ≡ base w.rooted → At w.rooted (origin_location origin) []
+  pub at_start : (origin : Origin) → origin.candidate ≡ base w.rooted
+      → At w.rooted (origin_location origin) []
   at_start origin e = record {
     candidate_is = e ∙ sym (append-nil (base w.rooted));
     depth_is = refl;
@@ -137,7 +140,8 @@ module _ {A : Type 0} (w : Wanted A) where
     scope_to max = record { min = asked.min; max = max }
 
     -- what lies beside the names of the origin isn't wanted
-    beyond : (scope : WalkScope) (at : Location) (kind : FileType) (names : List (List ℕ)) → At w.rooted at names
+    beyond : (scope : WalkScope) (at : Location) (kind : FileType) (names : List (List ℕ))
+        → At w.rooted at names
         → ((rest : List (List ℕ)) → ¬ (names ≡ origin.names ++ rest))
         → is_wanted w (plain_entry at kind) ≡ false
     beyond scope at kind names a n = unmeant scope at kind names a
@@ -159,7 +163,8 @@ module _ {A : Type 0} (w : Wanted A) where
         ⊎ ((walked.max ≤ asked.max) × BoundsNames w.rooted w.glob walked.max)
         → of (walk_from (scope_to walked.max) (origin_location origin) s origin.names nothing)
         ≡ of (walk_from (scope_to asked.max) (origin_location origin) s origin.names nothing)
-    to_greatest s t (inl e) = ap (λ v. of (walk_from (scope_to v) (origin_location origin) s origin.names nothing)) e
+    to_greatest s t (inl e) =
+        ap (λ v. of (walk_from (scope_to v) (origin_location origin) s origin.names nothing)) e
     to_greatest s t (inr b) =
         same_walk (is_wanted w) (λ k p d. refl) w.rooted asked.min walked.max asked.max b.0
         (λ at k ns h g. unmeant (scope_to asked.max) at k ns h
@@ -184,7 +189,8 @@ module _ {A : Type 0} (w : Wanted A) where
         ∙ to_greatest s plain can.greatest
         ∙ reached (is_wanted w) (λ k p d. refl) w.rooted (scope_to asked.max) origin.names
         (beyond (scope_to asked.max))
-        origin.names (origin_location origin) [] s refl can.plain (at_start origin can.candidate) plain distinct
+        origin.names (origin_location origin) [] s refl can.plain
+        (at_start origin can.candidate) plain distinct
         (fits_asked can.greatest l)
         ∙ plain_wanted asked origin s
 
@@ -192,4 +198,5 @@ module _ {A : Type 0} (w : Wanted A) where
     pub lists_few : (s : Shown) → IsPlainShown s
         → All (MayList w walked origin) (listings (glob_walk w walked origin s))
     lists_few s t =
-        may_walk walked origin origin.names (origin_location origin) [] s can.plain (at_start origin can.candidate) t refl refl
+        may_walk walked origin origin.names (origin_location origin) [] s can.plain
+        (at_start origin can.candidate) t refl refl

@@ -1,7 +1,10 @@
 -- Lines that decide nothing, and how they are found.
-use Rattle.std.proofs.Common.{◌≡◌, ◌↔◌, ◌⊎◌, ◌∙◌, ◌<◌, ◌≤◌, ◌+◌, ◌++◌, ◌∷◌, [], ℕ, zero, suc, Bool, true, false, cond, List, Option, Some, None, Contains, IsPermutation, ap, arith, inl, inr, length, length-append, map, refl, slice_get, subst, sym}
+use Rattle.std.proofs.Common.{◌≡◌, ◌↔◌, ◌⊎◌, ◌∙◌, ◌<◌, ◌≤◌, ◌+◌, ◌++◌, ◌∷◌, [], ℕ, zero, suc, Bool, true}
+use Rattle.std.proofs.Common.{false, cond, List, Option, Some, None, Contains, IsPermutation, ap, arith, inl}
+use Rattle.std.proofs.Common.{inr, length, length-append, map, refl, slice_get, subst, sym}
 use Rattle.std.proofs.lemmas.Bool.{cases_eq, cases_lt, false≢true}
-use Rattle.std.proofs.lemmas.List.Elements.{Contains-append_left, Contains-append_right, Contains-push, Contains-push_cases}
+use Rattle.std.proofs.lemmas.List.Elements.{Contains-append_left, Contains-append_right, Contains-push}
+use Rattle.std.proofs.lemmas.List.Elements.{Contains-push_cases}
 use Rattle.std.proofs.lemmas.List.Sorted.{Contains-permutation}
 use Rattle.std.proofs.lemmas.Map.Made.{Contains-tail}
 use Rattle.std.proofs.lemmas.Option.{none-some, same_Some, slice_get_within}
@@ -13,7 +16,8 @@ use Rattle.wax_compare.specs.declared.wanted.Texts.TheVariants.{Paths}
 use Rattle.wax_compare.specs.declared.wanted.Wanted.TheVariants.{Both, FirstOnly}
 use Rattle.wax_exclude.specs.Covers.{ends_wild}
 use Rattle.wax_exclude.specs.Held.{HasLines, line_of}
-use Rattle.wax_exclude.specs.Idle.{AreIdle, AreIdleAmong, DecidesSome, HasEffect, IsCoveredBy, IsLastOfSome, IsPath, IsReason, IsTakenBack, LineIgnores, LineMeans, TakesNothing}
+use Rattle.wax_exclude.specs.Idle.{AreIdle, AreIdleAmong, DecidesSome, HasEffect, IsCoveredBy, IsLastOfSome}
+use Rattle.wax_exclude.specs.Idle.{IsPath, IsReason, IsTakenBack, LineIgnores, LineMeans, TakesNothing}
 use Rattle.wax_exclude.specs.Ignored.{Line}
 use Rattle.wax_exclude.specs.declared.idle.IdleLine.{IdleLine}
 use Rattle.wax_exclude.specs.declared.idle.IdleReason.{IdleReason}
@@ -34,13 +38,15 @@ use Rattle.wax_token.specs.Syntax.{Tree}
 use Rattle.wax_token.specs.Words.{members, trees}
 
 -- ---- lines, and how they are held
-held_line : (lines : List (Line Span)) (i : ℕ) (held : IgnoreLine) → slice_get (map line_of lines) i ≡ Some held
+held_line : (lines : List (Line Span)) (i : ℕ) (held : IgnoreLine)
+    → slice_get (map line_of lines) i ≡ Some held
     → (line : Line Span) × (slice_get lines i ≡ Some line) × (held ≡ line_of line)
 held_line [] i held e = absurd (none-some held e)
 held_line (line ∷ lines) zero held e = (line, refl, sym (same_Some (line_of line) held e))
 held_line (line ∷ lines) (suc i) held e = held_line lines i held e
 
-line_held : (lines : List (Line Span)) (i : ℕ) (line : Line Span) → slice_get lines i ≡ Some line → slice_get (map line_of lines) i ≡ Some (line_of line)
+line_held : (lines : List (Line Span)) (i : ℕ) (line : Line Span) → slice_get lines i ≡ Some line
+    → slice_get (map line_of lines) i ≡ Some (line_of line)
 line_held [] i line e = absurd (none-some line e)
 line_held (l ∷ lines) zero line e = ap (λ x. Some (line_of x)) (same_Some l line e)
 line_held (l ∷ lines) (suc i) line e = line_held lines i line e
@@ -78,21 +84,25 @@ module _ (lines : List (Line Span)) where
         })),
   )
 
-  taken_as : (i : ℕ) (s : List ℕ) → IsTakenBack (HeldIgnores held) (HeldMeans held) i s ↔ IsTakenBack (LineIgnores lines) (LineMeans lines) i s
+  taken_as : (i : ℕ) (s : List ℕ) → IsTakenBack (HeldIgnores held) (HeldMeans held) i s
+      ↔ IsTakenBack (LineIgnores lines) (LineMeans lines) i s
   taken_as i s = (
     (λ h. ((means_as i s).0 h.0, (h.1.0, h.1.1, (ignores_as h.1.0).0 h.1.2, (means_as h.1.0 s).0 h.1.3))),
     (λ h. ((means_as i s).1 h.0, (h.1.0, h.1.1, (ignores_as h.1.0).1 h.1.2, (means_as h.1.0 s).1 h.1.3))),
   )
 
-  reason_as : (i : ℕ) (reason : IdleReason) → IsReason (HeldIgnores held) (HeldMeans held) i reason → IsReason (LineIgnores lines) (LineMeans lines) i reason
-  reason_as i (Covered covers) h = λ s path m. (let c = h s path ((means_as i s).1 m) in (c.0, c.1, c.2, (means_as c.0 s).0 c.3))
+  reason_as : (i : ℕ) (reason : IdleReason) → IsReason (HeldIgnores held) (HeldMeans held) i reason
+      → IsReason (LineIgnores lines) (LineMeans lines) i reason
+  reason_as i (Covered covers) h =
+      λ s path m. (let c = h s path ((means_as i s).1 m) in (c.0, c.1, c.2, (means_as c.0 s).0 c.3))
   reason_as i TakesNothingBack h = record {
     re_includes = λ g. h.re_includes ((ignores_as i).1 g);
     none = λ s path t. h.none s path ((taken_as i s).1 t);
   }
   reason_as i Unknown h = tt
 
-  decides_as : (i : ℕ) → DecidesSome (HeldIgnores held) (HeldMeans held) i → DecidesSome (LineIgnores lines) (LineMeans lines) i
+  decides_as : (i : ℕ) → DecidesSome (HeldIgnores held) (HeldMeans held) i
+      → DecidesSome (LineIgnores lines) (LineMeans lines) i
   decides_as i d = (
     record {
       path = d.0.path;
@@ -106,7 +116,8 @@ module _ (lines : List (Line Span)) where
     ],
   )
 
-  idle_as : (idle : List IdleLine) → AreIdleAmong (HeldIgnores held) (HeldMeans held) (length held) idle → AreIdle lines idle
+  idle_as : (idle : List IdleLine)
+      → AreIdleAmong (HeldIgnores held) (HeldMeans held) (length held) idle → AreIdle lines idle
   idle_as idle a = record {
     within = λ k x is. subst (λ n. x.index < n) (length_held lines) (a.within k x is);
     ascending = a.ascending;
@@ -114,25 +125,31 @@ module _ (lines : List (Line Span)) where
     others = λ i lt none. decides_as i (a.others i (subst (λ n. i < n) (sym (length_held lines)) lt) none);
   }
 
-pub idle_of_lines : (held : List IgnoreLine) (lines : List (Line Span)) (idle : List IdleLine) → HasLines held lines
+pub idle_of_lines : (held : List IgnoreLine) (lines : List (Line Span)) (idle : List IdleLine)
+    → HasLines held lines
     → AreIdleAmong (HeldIgnores held) (HeldMeans held) (length held) idle → AreIdle lines idle
 idle_of_lines stored lines idle has a =
     idle_as lines idle (subst (λ ls. AreIdleAmong (HeldIgnores ls) (HeldMeans ls) (length ls) idle) has a)
 
 -- ---- what some lines mean
-means_both : (ts us : List (Tree Span)) (s : List ℕ) → MeansSome (trees (ts ++ us)) false false s ↔ (MeansSome (trees ts) false false s ⊎ MeansSome (trees us) false false s)
+means_both : (ts us : List (Tree Span)) (s : List ℕ) → MeansSome (trees (ts ++ us)) false false s
+    ↔ (MeansSome (trees ts) false false s ⊎ MeansSome (trees us) false false s)
 means_both [] us s = ((λ h. inr h), (λ h. elim h [ inl n ↦ absurd n | inr m ↦ m ]))
 means_both (t ∷ ts) us s =
     let r = means_both ts us s in (
       (λ h. elim h [ inl m ↦ inl (inl m) | inr m ↦ elim (r.0 m) [ inl n ↦ inl (inr n) | inr n ↦ inr n ] ]),
-      (λ h. elim h [ inl m ↦ elim m [ inl n ↦ inl n | inr n ↦ inr (r.1 (inl n)) ] | inr m ↦ inr (r.1 (inr m)) ]),
+      (λ h. elim h [
+        | inl m ↦ elim m [ inl n ↦ inl n | inr n ↦ inr (r.1 (inl n)) ]
+        | inr m ↦ inr (r.1 (inr m))
+      ]),
     )
 
 module _ (lines : List IgnoreLine) where
   not_among : (s : List ℕ) → SomeHeldMeans lines [] s → ⊥
   not_among s h = absurd (let lt : h.1.0 < 0 = h.1.1 in omega (arith, lt))
 
-  pub some_more : (indexes : List ℕ) (i : ℕ) (s : List ℕ) → SomeHeldMeans lines (indexes ++ i ∷ []) s ↔ (SomeHeldMeans lines indexes s ⊎ HeldMeans lines i s)
+  pub some_more : (indexes : List ℕ) (i : ℕ) (s : List ℕ) → SomeHeldMeans lines (indexes ++ i ∷ []) s
+      ↔ (SomeHeldMeans lines indexes s ⊎ HeldMeans lines i s)
   some_more indexes i s = (
     (λ h. elim (Contains-push_cases indexes i h.0 h.1) [
       | inl old ↦ inl (h.0, old, h.2)
@@ -152,13 +169,15 @@ module _ (lines : List IgnoreLine) where
 
   -- the tokens mean what the lines with these indexes do
   abbrev pub AreTokensOf : List (Tree Span) → List ℕ → Type 0
-  AreTokensOf tokens indexes = (s : List ℕ) → MeansSome (trees tokens) false false s ↔ SomeHeldMeans lines indexes s
+  AreTokensOf tokens indexes = (s : List ℕ) → MeansSome (trees tokens) false false s
+      ↔ SomeHeldMeans lines indexes s
 
   pub no_tokens : (tokens : List (Tree Span)) → tokens ≡ [] → AreTokensOf tokens []
   no_tokens tokens e s = subst (λ ts. MeansSome (trees ts) false false s ↔ SomeHeldMeans lines [] s) (sym e)
       ((λ h. absurd h), (λ h. absurd (not_among s h)))
 
-  pub tokens_more : (old new : List (Tree Span)) (indexes : List ℕ) (i : ℕ) (line : IgnoreLine) → slice_get lines i ≡ Some line → new ≡ old ++ line.alternatives
+  pub tokens_more : (old new : List (Tree Span)) (indexes : List ℕ) (i : ℕ) (line : IgnoreLine)
+      → slice_get lines i ≡ Some line → new ≡ old ++ line.alternatives
       → AreTokensOf old indexes → AreTokensOf new (indexes ++ i ∷ [])
   tokens_more old new indexes i line is grown are s =
       let both = means_both old line.alternatives s in
@@ -169,16 +188,19 @@ module _ (lines : List IgnoreLine) where
         ])),
         (λ h. subst (λ ts. MeansSome (trees ts) false false s) (sym grown) (both.1 (elim (more.0 h) [
           | inl m ↦ inl ((are s).1 m)
-          | inr m ↦ inr (subst (λ l. MeansSome (trees l.alternatives) false false s) (same_Some m.line line (sym m.is ∙ is)) m.means)
+          | inr m ↦ inr (subst (λ l. MeansSome (trees l.alternatives) false false s)
+              (same_Some m.line line (sym m.is ∙ is)) m.means)
         ]))),
       )
 
   -- a line that isn't there means nothing
-  pub tokens_same : (tokens : List (Tree Span)) (indexes : List ℕ) (i : ℕ) → (i < length lines → ⊥) → AreTokensOf tokens indexes → AreTokensOf tokens (indexes ++ i ∷ [])
+  pub tokens_same : (tokens : List (Tree Span)) (indexes : List ℕ) (i : ℕ) → (i < length lines → ⊥)
+      → AreTokensOf tokens indexes → AreTokensOf tokens (indexes ++ i ∷ [])
   tokens_same tokens indexes i none are s =
       let more = some_more indexes i s in (
         (λ h. more.1 (inl ((are s).0 h))),
-        (λ h. elim (more.0 h) [ inl m ↦ (are s).1 m | inr m ↦ absurd (none (slice_get_within lines i m.line m.is)) ]),
+        (λ h. elim (more.0
+            h) [ inl m ↦ (are s).1 m | inr m ↦ absurd (none (slice_get_within lines i m.line m.is)) ]),
       )
 
   -- ---- whether lines mean a text
@@ -189,7 +211,8 @@ module _ (lines : List IgnoreLine) where
       at None e = inr (λ m. none-some m.line (sym e ∙ m.is))
       at (Some line) e = elim (some_decided (trees line.alternatives) false false s) [
         | inl m ↦ inl (record { line = line; is = e; means = m })
-        | inr n ↦ inr (λ m. n (subst (λ l. MeansSome (trees l.alternatives) false false s) (same_Some m.line line (sym m.is ∙ e)) m.means))
+        | inr n ↦ inr (λ m. n (subst (λ l. MeansSome (trees l.alternatives) false false s)
+            (same_Some m.line line (sym m.is ∙ e)) m.means))
       ]
 
   among_decided : (indexes : List ℕ) (s : List ℕ) → Decided (SomeHeldMeans lines indexes s)
@@ -218,46 +241,67 @@ module _ (lines : List IgnoreLine) where
     | inr n ↦ absurd (none s (record { scalars = path.0; among = path.1; first = m; second = n }))
   ]
 
-  pub one_later : (index last : ℕ) (old new : List ℕ) → new ≡ old ++ last ∷ [] → index < last → AreLater index old → AreLater index new
-  one_later index last old new grown lt later k h = elim (Contains-push_cases old last k (subst (λ ks. Contains ks k) grown h)) [
-    | inl was ↦ later k was
-    | inr same ↦ subst (λ n. index < n) same lt
-  ]
+  pub one_later : (index last : ℕ) (old new : List ℕ) → new ≡ old ++ last ∷ [] → index < last
+      → AreLater index old → AreLater index new
+  one_later index last old new grown lt later k h =
+      elim (Contains-push_cases old last k (subst (λ ks. Contains ks k) grown h)) [
+        | inl was ↦ later k was
+        | inr same ↦ subst (λ n. index < n) same lt
+      ]
 
   -- ---- lines before a line
   module _ (index : ℕ) where
     -- no plain path that the line means is meant by one of the first lines that ignore
     abbrev pub TakesNoneOf : ℕ → Type 0
-    TakesNoneOf count = (k : ℕ) (s : List ℕ) → k < count → HeldIgnores lines k → IsPath s → HeldMeans lines index s → HeldMeans lines k s → ⊥
+    TakesNoneOf count = (k : ℕ) (s : List ℕ) → k < count → HeldIgnores lines k → IsPath s
+        → HeldMeans lines index s → HeldMeans lines k s → ⊥
 
-    pub takes_none_more : (k : ℕ) → ((s : List ℕ) → IsWanted Both Paths (HeldMeans lines index) (SomeHeldMeans lines (k ∷ [])) s → ⊥)
+    pub takes_none_more : (k : ℕ)
+        → ((s : List ℕ) → IsWanted Both Paths (HeldMeans lines index) (SomeHeldMeans lines (k ∷ [])) s → ⊥)
         → TakesNoneOf k → TakesNoneOf (k + 1)
     takes_none_more k none before j s lt ignores path m other = elim (cases_lt j k) [
       | inl earlier ↦ before j s earlier ignores path m other
       | inr past ↦ (let same : j ≡ k = omega (arith, lt, past) in
-          none s (record { scalars = path.0; among = path.1; first = m; second = (only_one k s).1 (subst (λ n. HeldMeans lines n s) same other) }))
+          none s (record {
+            scalars = path.0;
+            among = path.1;
+            first = m;
+            second = (only_one k s).1 (subst (λ n. HeldMeans lines n s) same other);
+          }))
     ]
 
-    pub takes_none_of_other : (k : ℕ) (line : IgnoreLine) → slice_get lines k ≡ Some line → line.ignores ≡ false → TakesNoneOf k → TakesNoneOf (k + 1)
+    pub takes_none_of_other : (k : ℕ) (line : IgnoreLine) → slice_get lines k ≡ Some line
+        → line.ignores ≡ false → TakesNoneOf k → TakesNoneOf (k + 1)
     takes_none_of_other k line is out before j s lt ignores path m other = elim (cases_lt j k) [
       | inl earlier ↦ before j s earlier ignores path m other
       | inr past ↦ (let same : j ≡ k = omega (arith, lt, past) in
-          absurd (false≢true (sym out ∙ ap (λ l. l.ignores) (same_Some line ignores.line (sym is ∙ ap (slice_get lines) (sym same) ∙ ignores.is)) ∙ ignores.ignores)))
+          absurd (false≢true (sym out ∙ ap (λ l. l.ignores) (same_Some line ignores.line
+          (sym is ∙ ap (slice_get lines) (sym same) ∙ ignores.is)) ∙ ignores.ignores)))
     ]
 
-    pub takes_nothing : (line : IgnoreLine) → slice_get lines index ≡ Some line → line.ignores ≡ false → TakesNoneOf index → TakesNothing (HeldIgnores lines) (HeldMeans lines) index
+    pub takes_nothing : (line : IgnoreLine) → slice_get lines index ≡ Some line → line.ignores ≡ false
+        → TakesNoneOf index → TakesNothing (HeldIgnores lines) (HeldMeans lines) index
     takes_nothing line is out none = record {
-      re_includes = λ g. false≢true (sym out ∙ ap (λ l. l.ignores) (same_Some line g.line (sym is ∙ g.is)) ∙ g.ignores);
+      re_includes =
+          λ g. false≢true (sym out ∙ ap (λ l. l.ignores) (same_Some line g.line (sym is ∙ g.is)) ∙ g.ignores);
       none = λ s path t. none t.1.0 s t.1.1 t.1.2 path t.0 t.1.3;
     }
 
-    pub takes_some : (k : ℕ) (line : IgnoreLine) (s : List ℕ) → slice_get lines k ≡ Some line → line.ignores ≡ true → k < index
-        → IsWanted Both Paths (HeldMeans lines index) (SomeHeldMeans lines (k ∷ [])) s → HasEffect (HeldIgnores lines) (HeldMeans lines) index
-    takes_some k line s is ignores lt w = inr (s, (w.scalars, w.among), (w.first, (k, lt, record { line = line; is = is; ignores = ignores }, (only_one k s).0 w.second)))
+    pub takes_some : (k : ℕ) (line : IgnoreLine) (s : List ℕ) → slice_get lines k ≡ Some line
+        → line.ignores ≡ true → k < index
+        → IsWanted Both Paths (HeldMeans lines index) (SomeHeldMeans lines (k ∷ [])) s
+        → HasEffect (HeldIgnores lines) (HeldMeans lines) index
+    takes_some k line s is ignores lt w = inr (
+      s,
+      (w.scalars, w.among),
+      (w.first, (k, lt, record { line = line; is = is; ignores = ignores }, (only_one k s).0 w.second)),
+    )
 
   -- ---- the last line that means a path
-  pub last_of_some : (code : List Instruction) (index : ℕ) (s : List ℕ) (last : Option ℕ) → AreMatchedBy lines code → IsLastNumber code s last
-      → ((k : ℕ) → last ≡ Some k → k ≤ index) → IsPath s → HeldMeans lines index s → IsLastOfSome (HeldMeans lines) index
+  pub last_of_some : (code : List Instruction) (index : ℕ) (s : List ℕ) (last : Option ℕ)
+      → AreMatchedBy lines code → IsLastNumber code s last
+      → ((k : ℕ) → last ≡ Some k → k ≤ index) → IsPath s → HeldMeans lines index s
+      → IsLastOfSome (HeldMeans lines) index
   last_of_some code index s None by none few path m = absurd (none index ((by.means index s).1 m))
   last_of_some code index s (Some k) by is few path m = record {
     path = s;
@@ -267,7 +311,8 @@ module _ (lines : List IgnoreLine) where
   }
 
 -- ---- lines by their indexes
-by_index : (i : ℕ) (ts : List (Tree Span)) (k : ℕ) (s : List ℕ) → MatchesBy i i ts k s ↔ ((k ≡ i) × MeansSome (trees ts) false false s)
+by_index : (i : ℕ) (ts : List (Tree Span)) (k : ℕ) (s : List ℕ)
+    → MatchesBy i i ts k s ↔ ((k ≡ i) × MeansSome (trees ts) false false s)
 by_index i [] k s = ((λ h. absurd h), (λ h. absurd h.1))
 by_index i (t ∷ ts) k s =
     let either = same_number (ends_wild (members t)) in
@@ -283,27 +328,38 @@ by_index i (t ∷ ts) k s =
 module _ (lines : List IgnoreLine) where
   -- the patterns are those of the first lines, each with the index of its line
   abbrev pub AreOfFirst : List Numbered → ℕ → Type 0
-  AreOfFirst patterns count = (k : ℕ) (s : List ℕ) → MeansNumbered patterns k s ↔ ((k < count) × HeldMeans lines k s)
+  AreOfFirst patterns count = (k : ℕ) (s : List ℕ) → MeansNumbered patterns k s
+      ↔ ((k < count) × HeldMeans lines k s)
 
   pub line_numbered : (old new : List Numbered) (i : ℕ) (line : IgnoreLine) → slice_get lines i ≡ Some line
-      → ((k : ℕ) (s : List ℕ) → MeansNumbered new k s ↔ (MeansNumbered old k s ⊎ MatchesBy i i line.alternatives k s)) → AreOfFirst old i → AreOfFirst new (i + 1)
+      → ((k : ℕ) (s : List ℕ) → MeansNumbered new k s
+      ↔ (MeansNumbered old k s ⊎ MatchesBy i i line.alternatives k s)) → AreOfFirst old i
+      → AreOfFirst new (i + 1)
   line_numbered old new i line is added are k s =
       let one = by_index i line.alternatives k s in (
         (λ h. elim ((added k s).0 h) [
           | inl m ↦ (let n = (are k s).0 m in (omega (arith, n.0), n.1))
-          | inr m ↦ (let n = one.0 m in
-              (omega (arith, n.0), subst (λ j. HeldMeans lines j s) (sym n.0) (record { line = line; is = is; means = n.1 })))
+          | inr m ↦ (let n = one.0 m in (
+            omega (arith, n.0),
+            subst (λ j. HeldMeans lines j s) (sym n.0) (record { line = line; is = is; means = n.1 }),
+          ))
         ]),
         (λ h. (added k s).1 (elim (cases_lt k i) [
           | inl lt ↦ inl ((are k s).1 (lt, h.1))
           | inr past ↦ (let same : k ≡ i = omega (arith, past, h.0) in
               let m = subst (λ j. HeldMeans lines j s) same h.1 in
-              inr (one.1 (same, subst (λ l. MeansSome (trees l.alternatives) false false s) (same_Some m.line line (sym m.is ∙ is)) m.means)))
+              inr (one.1 (
+                same,
+                subst (λ l. MeansSome (trees l.alternatives) false false s)
+                    (same_Some m.line line (sym m.is ∙ is)) m.means,
+              )))
         ])),
       )
 
-  pub all_numbered : (patterns : List Numbered) (code : List Instruction) (count : ℕ) → length lines ≤ count → AreOfFirst patterns count → IsClosed code
-      → ((k : ℕ) (s : List ℕ) → Accepts code 0 (s ++ mark k ∷ []) ↔ MeansNumbered patterns k s) → AreMatchedBy lines code
+  pub all_numbered : (patterns : List Numbered) (code : List Instruction) (count : ℕ) → length lines ≤ count
+      → AreOfFirst patterns count → IsClosed code
+      → ((k : ℕ) (s : List ℕ) → Accepts code 0 (s ++ mark k ∷ []) ↔ MeansNumbered patterns k s)
+      → AreMatchedBy lines code
   all_numbered patterns code count all are closed accepts = record {
     closed = closed;
     means = λ k s. (
@@ -313,7 +369,8 @@ module _ (lines : List IgnoreLine) where
   }
 
 -- what follows from two clauses about a value in an `Ok`
-pub both_ok : {X E : Type 0} (r : Result X E) {P Q R : X → Type 0} → IfOk r P → IfOk r Q → ((x : X) → P x → Q x → R x) → IfOk r R
+pub both_ok : {X E : Type 0} (r : Result X E) {P Q R : X → Type 0} → IfOk r P → IfOk r Q
+    → ((x : X) → P x → Q x → R x) → IfOk r R
 both_ok (Ok x) p q f = f x p q
 both_ok (Err e) p q f = tt
 
@@ -327,18 +384,21 @@ module _ (Ignores : ℕ → Type 0) (Matches : ℕ → List ℕ → Type 0) wher
     others = λ i lt none. absurd (omega (arith, lt));
   }
 
-  pub one_decides : (count : ℕ) (idle : List IdleLine) → DecidesSome Ignores Matches count → AreIdleAmong Ignores Matches count idle → AreIdleAmong Ignores Matches (count + 1) idle
+  pub one_decides : (count : ℕ) (idle : List IdleLine) → DecidesSome Ignores Matches count
+      → AreIdleAmong Ignores Matches count idle → AreIdleAmong Ignores Matches (count + 1) idle
   one_decides count idle d a = record {
     within = λ k x is. omega (arith, a.within k x is);
     ascending = a.ascending;
     each = a.each;
     others = λ i lt none. elim (cases_lt i count) [
       | inl before ↦ a.others i before none
-      | inr past ↦ (let same : count ≡ i = omega (arith, lt, past) in subst (DecidesSome Ignores Matches) same d)
+      | inr past ↦
+          (let same : count ≡ i = omega (arith, lt, past) in subst (DecidesSome Ignores Matches) same d)
     ];
   }
 
-  pub one_idle : (count : ℕ) (old new : List IdleLine) (x : IdleLine) → new ≡ old ++ x ∷ [] → x.index ≡ count → IsReason Ignores Matches count x.reason
+  pub one_idle : (count : ℕ) (old new : List IdleLine) (x : IdleLine) → new ≡ old ++ x ∷ [] → x.index ≡ count
+      → IsReason Ignores Matches count x.reason
       → AreIdleAmong Ignores Matches count old → AreIdleAmong Ignores Matches (count + 1) new
   one_idle count old new x grown at reason a = record {
     within = λ k y is. elim (pushed old x k y (sym (ap (λ xs. slice_get xs k) grown) ∙ is)) [
@@ -348,17 +408,20 @@ module _ (Ignores : ℕ → Type 0) (Matches : ℕ → List ℕ → Type 0) wher
     ascending = λ j k y z lt here there.
         let bound : k < length new = slice_get_within new k z there in
         let low : j < length old = omega (arith, lt, bound, ap length grown, length-append old (x ∷ [])) in
-        let early : slice_get old j ≡ Some y = sym (front old x j low) ∙ (sym (ap (λ xs. slice_get xs j) grown) ∙ here) in
+        let early : slice_get old j ≡ Some y =
+        sym (front old x j low) ∙ (sym (ap (λ xs. slice_get xs j) grown) ∙ here) in
         elim (pushed old x k z (sym (ap (λ xs. slice_get xs k) grown) ∙ there)) [
           | inl was ↦ a.ascending j k y z lt early was
           | inr same ↦ subst (λ w. y.index < w.index) same (omega (arith, a.within j y early, at))
         ];
     each = λ k y is. elim (pushed old x k y (sym (ap (λ xs. slice_get xs k) grown) ∙ is)) [
       | inl was ↦ a.each k y was
-      | inr same ↦ subst (λ z. IsReason Ignores Matches z.index z.reason) same (subst (λ i. IsReason Ignores Matches i x.reason) (sym at) reason)
+      | inr same ↦ subst (λ z. IsReason Ignores Matches z.index z.reason) same
+          (subst (λ i. IsReason Ignores Matches i x.reason) (sym at) reason)
     ];
     others = λ i lt none. elim (cases_lt i count) [
-      | inl before ↦ a.others i before (λ k y was. none k y (ap (λ xs. slice_get xs k) grown ∙ kept old x k y was))
+      | inl before ↦
+          a.others i before (λ k y was. none k y (ap (λ xs. slice_get xs k) grown ∙ kept old x k y was))
       | inr past ↦ (let same : count ≡ i = omega (arith, lt, past) in
           absurd (none (length old) x (ap (λ xs. slice_get xs (length old)) grown ∙ last old x) (at ∙ same)))
     ];
@@ -368,17 +431,20 @@ module _ (Ignores : ℕ → Type 0) (Matches : ℕ → List ℕ → Type 0) wher
       last [] y = refl
       last (z ∷ xs) y = last xs y
 
-      kept : (xs : List IdleLine) (y : IdleLine) (k : ℕ) (z : IdleLine) → slice_get xs k ≡ Some z → slice_get (xs ++ y ∷ []) k ≡ Some z
+      kept : (xs : List IdleLine) (y : IdleLine) (k : ℕ) (z : IdleLine) → slice_get xs k ≡ Some z
+          → slice_get (xs ++ y ∷ []) k ≡ Some z
       kept [] y k z e = absurd (none-some z e)
       kept (w ∷ xs) y zero z e = e
       kept (w ∷ xs) y (suc k) z e = kept xs y k z e
 
-      front : (xs : List IdleLine) (y : IdleLine) (j : ℕ) → j < length xs → slice_get (xs ++ y ∷ []) j ≡ slice_get xs j
+      front : (xs : List IdleLine) (y : IdleLine) (j : ℕ) → j < length xs
+          → slice_get (xs ++ y ∷ []) j ≡ slice_get xs j
       front [] y j low = absurd (omega (arith, low))
       front (w ∷ xs) y zero low = refl
       front (w ∷ xs) y (suc j) low = front xs y j (omega (arith, low))
 
-      pushed : (xs : List IdleLine) (y : IdleLine) (k : ℕ) (z : IdleLine) → slice_get (xs ++ y ∷ []) k ≡ Some z → (slice_get xs k ≡ Some z) ⊎ (y ≡ z)
+      pushed : (xs : List IdleLine) (y : IdleLine) (k : ℕ) (z : IdleLine)
+          → slice_get (xs ++ y ∷ []) k ≡ Some z → (slice_get xs k ≡ Some z) ⊎ (y ≡ z)
       pushed [] y zero z e = inr (same_Some y z e)
       pushed [] y (suc k) z e = absurd (none-some z e)
       pushed (w ∷ xs) y zero z e = inl e

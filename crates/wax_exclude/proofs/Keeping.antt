@@ -28,31 +28,44 @@ use Rattle.wax_exclude.specs.inner.Listed.{listed_mark}
 abbrev unignored_pending : PlainRequest → Shown → List (List ℕ) → Pending Given
 unignored_pending request s listed = pending nothing (unignored_walk request s) listed (count_shown s)
 
-module _ {D C : Type 0} (law : Law D C) (d : D) (request : PlainRequest) (rule : List IgnoreLine) (v u : WalkView D)
+module _ {D C : Type 0} (law : Law D C) (d : D) (request : PlainRequest)
+    (rule : List IgnoreLine) (v u : WalkView D)
     (held : HasLines rule request.lines) (begins : Begins law d request.start request.range v)
     (seen : IsSeenAs (ruled_view v (λ c. listed_mark rule c) false) u) where
-  comes : (s : Shown) (listed : List (List ℕ)) → law.shows d request.start s → law.tells d listed → u.to_come (unignored_pending request s listed)
+  comes : (s : Shown) (listed : List (List ℕ)) → law.shows d request.start s → law.tells d listed
+      → u.to_come (unignored_pending request s listed)
   comes s listed shows told =
-      let ignoring : IsSeenAs (ruled_view v (ignore_mark request.lines) false) u = subst (λ r. IsSeenAs (ruled_view v r false) u) (says_lines rule request.lines held) seen in
+      let ignoring : IsSeenAs (ruled_view v (ignore_mark request.lines) false) u =
+      subst (λ r. IsSeenAs (ruled_view v r false) u) (says_lines rule request.lines held) seen in
       ignoring.to_come (unignored_pending request s listed) (
         refl,
-        (pending nothing (requested_plain request s) listed (count_shown s), begins.shown s listed shows told, refl),
+        (
+          pending nothing (requested_plain request s) listed (count_shown s),
+          begins.shown s listed shows told,
+          refl,
+        ),
       )
 
-  pub unignored_gave : (tells : List (List ℕ) → Type 0) (s : Shown) (listed : List (List ℕ)) (xs : List Given) → law.shows d request.start s → law.tells d listed
-      → ((p : Pending Given) → u.to_come p → Yielded tells u.listings_left p xs) → Yielded tells (request.range.budget + 1) (unignored_pending request s listed) xs
+  pub unignored_gave : (tells : List (List ℕ) → Type 0) (s : Shown) (listed : List (List ℕ)) (xs : List Given)
+      → law.shows d request.start s → law.tells d listed
+      → ((p : Pending Given) → u.to_come p → Yielded tells u.listings_left p xs)
+      → Yielded tells (request.range.budget + 1) (unignored_pending request s listed) xs
   unignored_gave tells s listed xs shows told all =
-      subst (λ n. Yielded tells n (unignored_pending request s listed) xs) (seen.listings_left ∙ begins.listings)
+      subst (λ n. Yielded tells n (unignored_pending request s listed) xs)
+      (seen.listings_left ∙ begins.listings)
       (all (unignored_pending request s listed) (comes s listed shows told))
 
 -- ---- what is kept
 
 module _ (gives_unignored : GivesUnignored) (loses_ignored : LosesIgnored) where
-  pub keeps_unignored : (tells : List (List ℕ) → Type 0) (request : PlainRequest) (s : Shown) (listed : List (List ℕ)) (xs : List Given) → IsPlainShown s
-      → Yielded tells (request.range.budget + 1) (unignored_pending request s listed) xs → KeepsUnignored tells request s listed (filter is_kept xs)
+  pub keeps_unignored : (tells : List (List ℕ) → Type 0) (request : PlainRequest) (s : Shown)
+      (listed : List (List ℕ)) (xs : List Given) → IsPlainShown s
+      → Yielded tells (request.range.budget + 1) (unignored_pending request s listed) xs
+      → KeepsUnignored tells request s listed (filter is_kept xs)
   keeps_unignored tells request s listed xs plain (whole e t) =
       due.gives (ap (filter is_kept) e)
-      (kept_entries xs ∙ (ap (filter is_kept_entry) e ∙ gives_unignored request.lines request.range request.start s plain)) t
+      (kept_entries xs ∙ (ap (filter is_kept_entry) e
+      ∙ gives_unignored request.lines request.range request.start s plain)) t
       (loses_ignored request.lines request.range request.start s plain, lists_allowed request s plain)
   keeps_unignored tells request s listed xs plain (lacks_memory c) =
       due.lacks_memory (cut_kept _ no_memory xs refl c)

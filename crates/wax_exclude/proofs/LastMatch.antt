@@ -93,10 +93,14 @@ module _ {A : Type 0} (s : List ℕ) where
   says_back (line ∷ lines) was h =
       let d = means_test line.glob false false s in
       says_back lines (cond d line.ignores was) (elim h [
-        | inl i ↦ elim (decided_more line lines i.0 i.1.before i.1.after i.1.split i.1.matches i.1.is_last i.2) [
-          | inl j ↦ inl j
-          | inr j ↦ inr (ap (λ b. cond b line.ignores was) ((means_tested line.glob false false s).1 j.0) ∙ j.1, j.2)
-        ]
+        | inl i ↦
+            elim (decided_more line lines i.0 i.1.before i.1.after i.1.split i.1.matches i.1.is_last i.2) [
+              | inl j ↦ inl j
+              | inr j ↦ inr (
+                ap (λ b. cond b line.ignores was) ((means_tested line.glob false false s).1 j.0) ∙ j.1,
+                j.2,
+              )
+            ]
         | inr w ↦ inr (
           ap (λ b. cond b line.ignores was) (false_from_ne_true d
               (λ e. All-head Misses line lines w.1 ((means_tested line.glob false false s).0 e))) ∙ w.0,

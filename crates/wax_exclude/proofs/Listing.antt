@@ -245,7 +245,8 @@ module _ (rooted : Bool) (scope : WalkScope) (start : List ℕ) (prefix : List (
   well_inside at (unread rest) s t = (tt, well_inside at rest s t)
   well_inside at (not_text rest) s t = (tt, well_inside at rest s t)
 
-  pub well_at : (at : Location) (s : Shown) → IsBelow at → IsPlainShown s → IsWell (plain_at scope at s nothing)
+  pub well_at : (at : Location) (s : Shown) → IsBelow at → IsPlainShown s
+      → IsWell (plain_at scope at s nothing)
   well_at at (a_leaf link) s t = well_leaf at (leaf_kind link) (nat_lt at.depth scope.min) nothing tt
   well_at at (a_folder l) s t =
       well_folder at s (nat_lt at.depth scope.min) (nat_lt at.depth scope.max) refl refl (in_folder at l)
@@ -264,7 +265,8 @@ module _ (rooted : Bool) (scope : WalkScope) (start : List ℕ) (prefix : List (
   is_led true m n = refl
   is_led false m n = absurd (n refl)
 
-  pub none_covers : {A : Type 0} (filters : List (Filter A)) (f : Facts) (path : List ℕ) (names : List (List ℕ))
+  pub none_covers : {A : Type 0} (filters : List (Filter A)) (f : Facts) (path : List ℕ)
+      (names : List (List ℕ))
       → At rooted (location_at f path) names → NoneLeaves (filter_rules filters) f
       → AreUncovered rooted filters (map chars names)
   none_covers [] f path names a h = tt
@@ -318,14 +320,17 @@ module _ {A : Type 0} (w : Wanted A) (range : DepthRange) (origin : Origin) wher
         above_greatest = omega (arith, s.1, s.0.place.depth_is);
         are_led = λ h. (lead_tested (leading_of w.rooted w.glob) names).0
             (is_led w.rooted scope origin_end origin.names lead meant
-            (λ e. n.0 (ap (glob_mark w.rooted w.glob) (at_sees w.rooted at (origin.names ++ s.0.names) s.0.place)
+            (λ e. n.0 (ap (glob_mark w.rooted w.glob)
+            (at_sees w.rooted at (origin.names ++ s.0.names) s.0.place)
             ∙ e)));
         uncovered = λ h.
-            none_covers w.rooted scope origin_end origin.names w.filters f path (origin.names ++ s.0.names) s.0.place n.1;
+            none_covers w.rooted scope origin_end origin.names w.filters f path
+            (origin.names ++ s.0.names) s.0.place n.1;
       }
 
   -- the walk lists only folders that it may list
-  pub walk_lists : (at : Location) (s : Shown) → at.path ≡ origin_end → At w.rooted at origin.names → IsPlainShown s
+  pub walk_lists : (at : Location) (s : Shown) → at.path ≡ origin_end
+      → At w.rooted at origin.names → IsPlainShown s
       → All (MayList w range origin) (listings (stacked (rules_of w) (plain_at scope at s nothing)))
   walk_lists at s e a x =
       let f = plain_at scope at s nothing in

@@ -23,22 +23,29 @@ all_held (line ∷ lines) = ap (λ b. line.ignores && b) (all_held lines)
 below_held : (lines : List (Line Span)) (c : Candidate) → below_by (map line_of lines) c ≡ below_test lines c
 below_held [] c = refl
 below_held (line ∷ lines) c =
-    λ i. (line.ignores && (all_held lines i && covers_test (alternatives line.glob) c)) || below_held lines c i
+    λ i.
+    (line.ignores && (all_held lines i && covers_test (alternatives line.glob) c)) || below_held lines c i
 
-ignored_held : (lines : List (Line Span)) (was : Bool) (s : List ℕ) → ignored_by was (map line_of lines) s ≡ ignored_after was lines s
+ignored_held : (lines : List (Line Span)) (was : Bool) (s : List ℕ)
+    → ignored_by was (map line_of lines) s ≡ ignored_after was lines s
 ignored_held [] was s = refl
 ignored_held (line ∷ lines) was s =
-    let same : some_test (alternatives line.glob) s ≡ means_test line.glob false false s = some_is_pattern line.glob (means_one_of line.glob (alternatives line.glob) refl) s in
-    ap (λ b. ignored_by (cond b line.ignores was) (map line_of lines) s) same ∙ ignored_held lines (cond (means_test line.glob false false s) line.ignores was) s
+    let same : some_test (alternatives line.glob) s ≡ means_test line.glob false false s =
+    some_is_pattern line.glob (means_one_of line.glob (alternatives line.glob) refl) s in
+    ap (λ b. ignored_by (cond b line.ignores was) (map line_of lines) s) same
+    ∙ ignored_held lines (cond (means_test line.glob false false s) line.ignores was) s
 
-held_mark : (lines : List (Line Span)) (c : Candidate) → listed_mark (map line_of lines) c ≡ ignore_mark lines c
+held_mark : (lines : List (Line Span)) (c : Candidate)
+    → listed_mark (map line_of lines) c ≡ ignore_mark lines c
 held_mark lines c =
     λ i. covered_mark (below_held lines c i) (ignored_held lines false c.text i)
 
 -- what the rule of these lines says
-pub says_lines : (held : List IgnoreLine) (lines : List (Line Span)) → HasLines held lines → (λ c. listed_mark held c) ≡ ignore_mark lines
+pub says_lines : (held : List IgnoreLine) (lines : List (Line Span)) → HasLines held lines
+    → (λ c. listed_mark held c) ≡ ignore_mark lines
 says_lines held lines h = λ i c. (ap (λ ls. listed_mark ls c) h ∙ held_mark lines c) i
 
 -- which texts they ignore
-pub ignores_lines : (held : List IgnoreLine) (lines : List (Line Span)) (s : List ℕ) → HasLines held lines → ignored_by false held s ≡ is_ignored lines s
+pub ignores_lines : (held : List IgnoreLine) (lines : List (Line Span)) (s : List ℕ) → HasLines held lines
+    → ignored_by false held s ≡ is_ignored lines s
 ignores_lines held lines s h = ap (λ ls. ignored_by false ls s) h ∙ ignored_held lines false s

@@ -1,5 +1,7 @@
 -- The greatest number that matches a text decides what a list of lines does.
-use Rattle.std.proofs.Common.{◌==◌, ◌≡◌, ◌↔◌, ℕ, suc, ◌≤◌, ◌<◌, ◌+◌, ◌%◌, Bool, true, false, not, ◌&&◌, ◌||◌, cond, ◌⊎◌, List, [], ◌∷◌, ◌++◌, Option, Some, None, length, refl, sym, ◌∙◌, ap, subst, inl, inr, arith, eq-eqb, ne_eqb}
+use Rattle.std.proofs.Common.{◌==◌, ◌≡◌, ◌↔◌, ℕ, suc, ◌≤◌, ◌<◌, ◌+◌, ◌%◌, Bool, true, false, not, ◌&&◌, ◌||◌}
+use Rattle.std.proofs.Common.{cond, ◌⊎◌, List, [], ◌∷◌, ◌++◌, Option, Some, None, length, refl, sym, ◌∙◌, ap}
+use Rattle.std.proofs.Common.{subst, inl, inr, arith, eq-eqb, ne_eqb}
 use Rattle.std.specs.Prelude.{nat_lt}
 use Rattle.std.proofs.lemmas.Bool.{and_from, cases_lt, false≢true}
 use Rattle.wax_lazy.specs.Numbers.{IsLastNumber}
@@ -18,14 +20,17 @@ use Rattle.wax_exclude.specs.Marks.{covered_mark}
 use Rattle.wax_exclude.specs.declared.numbers.NumberedLines.{NumberedLines}
 use Rattle.wax_exclude.specs.declared.rules.IgnoreLine.{IgnoreLine}
 use Rattle.wax_exclude.specs.inner.Listed.{below_by, ignored_by, listed_mark, none_reincludes}
-use Rattle.wax_exclude.specs.inner.Numbers.{HasMatch, KnowsLines, MatchesBy, covering_number, covers_everything, is_odd, number_after, numbered_mark}
+use Rattle.wax_exclude.specs.inner.Numbers.{HasMatch, KnowsLines, MatchesBy, covering_number}
+use Rattle.wax_exclude.specs.inner.Numbers.{covers_everything, is_odd, number_after, numbered_mark}
 
 -- ---- numbers of lines
 
 odd_suc : (n : ℕ) → is_odd (suc n) ≡ not (is_odd n)
 odd_suc n = elim (cases_lt (n % 2) 1) [
-  | inl low ↦ eq-eqb (suc n % 2) 1 (omega (arith, low)) ∙ ap not (sym (ne_eqb (n % 2) 1 (λ e. omega (arith, e, low))))
-  | inr high ↦ ne_eqb (suc n % 2) 1 (λ e. omega (arith, e, high)) ∙ ap not (sym (eq-eqb (n % 2) 1 (omega (arith, high))))
+  | inl low ↦ eq-eqb (suc n % 2) 1 (omega (arith, low))
+      ∙ ap not (sym (ne_eqb (n % 2) 1 (λ e. omega (arith, e, low))))
+  | inr high ↦ ne_eqb (suc n % 2) 1 (λ e. omega (arith, e, high))
+      ∙ ap not (sym (eq-eqb (n % 2) 1 (omega (arith, high))))
 ]
 
 same_or_next : (n : ℕ) (b : Bool) → is_odd n ≡ b → is_odd (cond b n (suc n)) ≡ true
@@ -59,47 +64,58 @@ module _ (n : ℕ) where
   next_most false = (at_most (is_odd n)).1
 
 module _ (s : List ℕ) where
-  -- whether an alternative that ends with `**` matches, in a line that ignores and after which none re-includes
+  -- whether an alternative that ends with `**` matches, in a line that ignores and
+  -- after which none re-includes
   abbrev top_test : List IgnoreLine → Bool
   top_test [] = false
-  top_test (line ∷ lines) = (none_reincludes (line ∷ lines) && wild_test line.alternatives s) || top_test lines
+  top_test (line ∷ lines) =
+      (none_reincludes (line ∷ lines) && wild_test line.alternatives s) || top_test lines
 
   -- a line with the number k matches, if the line before these has the number n
   abbrev LineMatches : ℕ → List IgnoreLine → ℕ → Type 0
   LineMatches n [] k = ⊥
   LineMatches n (line ∷ lines) k =
-      ((k ≡ number_after n line.ignores) × (some_test line.alternatives s ≡ true)) ⊎ LineMatches (number_after n line.ignores) lines k
+      ((k ≡ number_after n line.ignores) × (some_test line.alternatives s ≡ true))
+      ⊎ LineMatches (number_after n line.ignores) lines k
 
   matched_most : (n : ℕ) (lines : List IgnoreLine) (k : ℕ) → LineMatches n lines k → k ≤ n + length lines
   matched_most n [] k h = absurd h
   matched_most n (line ∷ lines) k (inl h) = omega (arith, h.0, next_most n line.ignores)
-  matched_most n (line ∷ lines) k (inr h) = omega (arith, next_most n line.ignores, matched_most (number_after n line.ignores) lines k h)
+  matched_most n (line ∷ lines) k (inr h) =
+      omega (arith, next_most n line.ignores, matched_most (number_after n line.ignores) lines k h)
 
   -- ---- the number of the last line that matches
   abbrev best : ℕ → ℕ → List IgnoreLine → ℕ
   best n found [] = found
   best n found (line ∷ lines) =
-      best (number_after n line.ignores) (cond (some_test line.alternatives s) (number_after n line.ignores) found) lines
+      best (number_after n line.ignores)
+      (cond (some_test line.alternatives s) (number_after n line.ignores) found) lines
 
-  odd_cond : (b : Bool) (m found : ℕ) (g was : Bool) → is_odd m ≡ g → is_odd found ≡ was → is_odd (cond b m found) ≡ cond b g was
+  odd_cond : (b : Bool) (m found : ℕ) (g was : Bool) → is_odd m ≡ g → is_odd found ≡ was
+      → is_odd (cond b m found) ≡ cond b g was
   odd_cond true m found g was e f = e
   odd_cond false m found g was e f = f
 
-  best_decides : (n found : ℕ) (was : Bool) (lines : List IgnoreLine) → is_odd found ≡ was → is_odd (best n found lines) ≡ ignored_by was lines s
+  best_decides : (n found : ℕ) (was : Bool) (lines : List IgnoreLine) → is_odd found ≡ was
+      → is_odd (best n found lines) ≡ ignored_by was lines s
   best_decides n found was [] e = e
   best_decides n found was (line ∷ lines) e =
       let m = number_after n line.ignores in
       let d = some_test line.alternatives s in
-      best_decides m (cond d m found) (cond d line.ignores was) lines (odd_cond d m found line.ignores was (odd_next n line.ignores) e)
+      best_decides m (cond d m found) (cond d line.ignores was) lines
+      (odd_cond d m found line.ignores was (odd_next n line.ignores) e)
 
   module _ (m found : ℕ) (lines : List IgnoreLine) where
-    keeps_both : (b : Bool) → found ≤ m → m ≤ best m m lines → found ≤ best m found lines → found ≤ best m (cond b m found) lines
+    keeps_both : (b : Bool) → found ≤ m → m ≤ best m m lines → found ≤ best m found lines
+        → found ≤ best m (cond b m found) lines
     keeps_both true le p q = omega (arith, le, p)
     keeps_both false le p q = q
 
-    found_both : (b : Bool) → (best m m lines ≡ m) ⊎ LineMatches m lines (best m m lines) → (best m found lines ≡ found) ⊎ LineMatches m lines (best m found lines)
+    found_both : (b : Bool) → (best m m lines ≡ m) ⊎ LineMatches m lines (best m m lines)
+        → (best m found lines ≡ found) ⊎ LineMatches m lines (best m found lines)
         → (best m (cond b m found) lines ≡ found)
-        ⊎ (((best m (cond b m found) lines ≡ m) × (b ≡ true)) ⊎ LineMatches m lines (best m (cond b m found) lines))
+        ⊎ (((best m (cond b m found) lines ≡ m) × (b ≡ true))
+        ⊎ LineMatches m lines (best m (cond b m found) lines))
     found_both true (inl e) q = inr (inl (e, refl))
     found_both true (inr h) q = inr (inr h)
     found_both false p (inl e) = inl e
@@ -109,7 +125,8 @@ module _ (s : List ℕ) where
     greatest_both true e p = p
     greatest_both false e p = cc
 
-    rest_both : (b : Bool) (k : ℕ) → k ≤ best m m lines → k ≤ best m found lines → k ≤ best m (cond b m found) lines
+    rest_both : (b : Bool) (k : ℕ) → k ≤ best m m lines → k ≤ best m found lines
+        → k ≤ best m (cond b m found) lines
     rest_both true k p q = p
     rest_both false k p q = q
 
@@ -118,24 +135,29 @@ module _ (s : List ℕ) where
   best_keeps n found (line ∷ lines) le =
       let m = number_after n line.ignores in
       let lm : found ≤ m = omega (arith, le, next_more n line.ignores) in
-      keeps_both m found lines (some_test line.alternatives s) lm (best_keeps m m lines (omega arith)) (best_keeps m found lines lm)
+      keeps_both m found lines (some_test line.alternatives s) lm (best_keeps m m lines (omega arith))
+      (best_keeps m found lines lm)
 
-  best_greatest : (n found : ℕ) (lines : List IgnoreLine) (k : ℕ) → found ≤ n → LineMatches n lines k → k ≤ best n found lines
+  best_greatest : (n found : ℕ) (lines : List IgnoreLine) (k : ℕ) → found ≤ n → LineMatches n lines k
+      → k ≤ best n found lines
   best_greatest n found [] k le h = absurd h
   best_greatest n found (line ∷ lines) k le (inl h) =
       let m = number_after n line.ignores in
-      let g = greatest_both m found lines (some_test line.alternatives s) h.1 (best_keeps m m lines (omega arith)) in
+      let g = greatest_both m found lines (some_test line.alternatives s) h.1
+      (best_keeps m m lines (omega arith)) in
       omega (arith, h.0, g)
   best_greatest n found (line ∷ lines) k le (inr h) =
       let m = number_after n line.ignores in
       rest_both m found lines (some_test line.alternatives s) k (best_greatest m m lines k (omega arith) h)
       (best_greatest m found lines k (omega (arith, le, next_more n line.ignores)) h)
 
-  best_found : (n found : ℕ) (lines : List IgnoreLine) → (best n found lines ≡ found) ⊎ LineMatches n lines (best n found lines)
+  best_found : (n found : ℕ) (lines : List IgnoreLine) → (best n found lines ≡ found)
+      ⊎ LineMatches n lines (best n found lines)
   best_found n found [] = inl refl
   best_found n found (line ∷ lines) =
       let m = number_after n line.ignores in
-      elim (found_both m found lines (some_test line.alternatives s) (best_found m m lines) (best_found m found lines)) [
+      elim (found_both m found lines (some_test line.alternatives s) (best_found m m lines)
+      (best_found m found lines)) [
         | inl e ↦ inl e
         | inr (inl h) ↦ inr (inl h)
         | inr (inr h) ↦ inr (inr h)
@@ -158,11 +180,13 @@ module _ (s : List ℕ) where
   chosen_true true g was e f = e
   chosen_true false g was e f = f
 
-  stays_true : (was : Bool) (lines : List IgnoreLine) → was ≡ true → none_reincludes lines ≡ true → ignored_by was lines s ≡ true
+  stays_true : (was : Bool) (lines : List IgnoreLine) → was ≡ true → none_reincludes lines ≡ true
+      → ignored_by was lines s ≡ true
   stays_true was [] w h = w
   stays_true was (line ∷ lines) w h =
       let k = and_true line.ignores (none_reincludes lines) h in
-      stays_true (cond (some_test line.alternatives s) line.ignores was) lines (chosen_true (some_test line.alternatives s) line.ignores was k.0 w) k.1
+      stays_true (cond (some_test line.alternatives s) line.ignores was) lines
+      (chosen_true (some_test line.alternatives s) line.ignores was k.0 w) k.1
 
   top_ignored : (was : Bool) (lines : List IgnoreLine) → top_test lines ≡ true → ignored_by was lines s ≡ true
   top_ignored was [] h = cc
@@ -171,13 +195,15 @@ module _ (s : List ℕ) where
       elim (or_true (none_reincludes (line ∷ lines) && wild_test line.alternatives s) (top_test lines) h) [
         | inl p ↦ (let q = and_true (none_reincludes (line ∷ lines)) (wild_test line.alternatives s) p in
             let k = and_true line.ignores (none_reincludes lines) q.0 in
-            stays_true next lines (ap (λ v. cond v line.ignores was) (wild_matches line.alternatives q.1) ∙ k.0) k.1)
+            stays_true next lines
+            (ap (λ v. cond v line.ignores was) (wild_matches line.alternatives q.1) ∙ k.0) k.1)
         | inr p ↦ top_ignored next lines p
       ]
 
   -- ---- numbers of alternatives
   module _ (own above : ℕ) where
-    by_head : (t : Tree Span) (ts : List (Tree Span)) (k : ℕ) (b : Bool) → ends_wild (members t) ≡ b → k ≡ cond b above own → Means t false false s
+    by_head : (t : Tree Span) (ts : List (Tree Span)) (k : ℕ) (b : Bool) → ends_wild (members t) ≡ b
+        → k ≡ cond b above own → Means t false false s
         → ((k ≡ above) × WildMeans (t ∷ ts) s) ⊎ ((k ≡ own) × MeansSome (trees (t ∷ ts)) false false s)
     by_head t ts k true wild e m = inl (e, inl (wild, m))
     by_head t ts k false wild e m = inr (e, inl m)
@@ -186,7 +212,8 @@ module _ (s : List ℕ) where
         → ((k ≡ above) × WildMeans ts s) ⊎ ((k ≡ own) × MeansSome (trees ts) false false s)
     by_parts [] k h = absurd h
     by_parts (t ∷ ts) k (inl h) = by_head t ts k (ends_wild (members t)) refl h.0 h.1
-    by_parts (t ∷ ts) k (inr h) = elim (by_parts ts k h) [ inl p ↦ inl (p.0, inr p.1) | inr p ↦ inr (p.0, inr p.1) ]
+    by_parts (t ∷ ts) k (inr h) =
+        elim (by_parts ts k h) [ inl p ↦ inl (p.0, inr p.1) | inr p ↦ inr (p.0, inr p.1) ]
 
     by_line : (ts : List (Tree Span)) (k : ℕ) → MatchesBy own above ts k s
         → ((k ≡ above) × (wild_test ts s ≡ true)) ⊎ ((k ≡ own) × (some_test ts s ≡ true))
@@ -200,9 +227,11 @@ module _ (s : List ℕ) where
     by_covering (t ∷ ts) (inl h) = inl (sym (ap (λ b. cond b above own) h.0), h.1)
     by_covering (t ∷ ts) (inr h) = inr (by_covering ts h)
 
-    by_any : (ts : List (Tree Span)) → own ≤ above → MeansSome (trees ts) false false s → (k : ℕ) × (own ≤ k) × MatchesBy own above ts k s
+    by_any : (ts : List (Tree Span)) → own ≤ above → MeansSome (trees ts) false false s
+        → (k : ℕ) × (own ≤ k) × MatchesBy own above ts k s
     by_any [] le h = absurd h
-    by_any (t ∷ ts) le (inl m) = (cond (ends_wild (members t)) above own, either (ends_wild (members t)), inl (refl, m))
+    by_any (t ∷ ts) le (inl m) =
+        (cond (ends_wild (members t)) above own, either (ends_wild (members t)), inl (refl, m))
       where
         either : (b : Bool) → own ≤ cond b above own
         either true = le
@@ -210,14 +239,17 @@ module _ (s : List ℕ) where
     by_any (t ∷ ts) le (inr h) = (let r = by_any ts le h in (r.0, r.1, inr r.2))
 
   module _ (top : ℕ) where
-    found_line : (n : ℕ) (lines : List IgnoreLine) (k : ℕ) → HasMatch top n lines k s → ((k ≡ top) × (top_test lines ≡ true)) ⊎ LineMatches n lines k
+    found_line : (n : ℕ) (lines : List IgnoreLine) (k : ℕ) → HasMatch top n lines k s
+        → ((k ≡ top) × (top_test lines ≡ true)) ⊎ LineMatches n lines k
     found_line n [] k h = absurd h
     found_line n (line ∷ lines) k (inl h) =
         let own = number_after n line.ignores in
-        by_cover (none_reincludes (line ∷ lines)) refl (by_line own (covering_number top own (line ∷ lines)) line.alternatives k h)
+        by_cover (none_reincludes (line ∷ lines)) refl
+        (by_line own (covering_number top own (line ∷ lines)) line.alternatives k h)
       where
         by_cover : (b : Bool) → none_reincludes (line ∷ lines) ≡ b
-            → ((k ≡ cond b top (number_after n line.ignores)) × (wild_test line.alternatives s ≡ true)) ⊎ ((k ≡ number_after n line.ignores) × (some_test line.alternatives s ≡ true))
+            → ((k ≡ cond b top (number_after n line.ignores)) × (wild_test line.alternatives s ≡ true))
+            ⊎ ((k ≡ number_after n line.ignores) × (some_test line.alternatives s ≡ true))
             → ((k ≡ top) × (top_test (line ∷ lines) ≡ true)) ⊎ LineMatches n (line ∷ lines) k
         by_cover b e (inr m) = inr (inl m)
         by_cover true e (inl m) = inl (
@@ -227,7 +259,10 @@ module _ (s : List ℕ) where
         )
         by_cover false e (inl m) = inr (inl (m.0, wild_matches line.alternatives m.1))
     found_line n (line ∷ lines) k (inr h) = elim (found_line (number_after n line.ignores) lines k h) [
-      | inl m ↦ inl (m.0, or_right (none_reincludes (line ∷ lines) && wild_test line.alternatives s) (top_test lines) m.1)
+      | inl m ↦ inl (
+        m.0,
+        or_right (none_reincludes (line ∷ lines) && wild_test line.alternatives s) (top_test lines) m.1,
+      )
       | inr m ↦ inr (inr m)
     ]
 
@@ -237,17 +272,20 @@ module _ (s : List ℕ) where
         let own = number_after n line.ignores in
         elim (or_true (none_reincludes (line ∷ lines) && wild_test line.alternatives s) (top_test lines) h) [
           | inl p ↦ (let q = and_true (none_reincludes (line ∷ lines)) (wild_test line.alternatives s) p in
-              inl (subst (λ above. MatchesBy own above line.alternatives top s) (sym (ap (λ b. cond b top own) q.0))
+              inl (subst (λ above. MatchesBy own above line.alternatives top s)
+              (sym (ap (λ b. cond b top own) q.0))
               (by_covering own top line.alternatives ((wild_tested line.alternatives s).0 q.1))))
           | inr p ↦ inr (covered_found own lines p)
         ]
 
-    line_found : (n : ℕ) (lines : List IgnoreLine) (k : ℕ) → n + length lines < top → LineMatches n lines k → (j : ℕ) × (k ≤ j) × HasMatch top n lines j s
+    line_found : (n : ℕ) (lines : List IgnoreLine) (k : ℕ) → n + length lines < top → LineMatches n lines k
+        → (j : ℕ) × (k ≤ j) × HasMatch top n lines j s
     line_found n [] k lt h = absurd h
     line_found n (line ∷ lines) k lt (inl h) =
         let own = number_after n line.ignores in
         let le : own < top = omega (arith, lt, next_most n line.ignores) in
-        let r = by_any own (covering_number top own (line ∷ lines)) line.alternatives (either own (none_reincludes (line ∷ lines)) (omega (arith, le)))
+        let r = by_any own (covering_number top own (line ∷ lines)) line.alternatives
+        (either own (none_reincludes (line ∷ lines)) (omega (arith, le)))
         ((holds_truly (some_decided (trees line.alternatives) false false s)).0 h.1) in
         (r.0, omega (arith, h.0, r.1), inl r.2)
       where
@@ -255,7 +293,8 @@ module _ (s : List ℕ) where
         either own true le = le
         either own false le = omega arith
     line_found n (line ∷ lines) k lt (inr h) =
-        let r = line_found (number_after n line.ignores) lines k (omega (arith, lt, next_most n line.ignores)) h in
+        let r = line_found (number_after n line.ignores) lines k
+        (omega (arith, lt, next_most n line.ignores)) h in
         (r.0, r.1, inr r.2)
 
 or_swap : (w e t : Bool) → (w || (e || t)) ≡ (e || (w || t))
@@ -263,14 +302,16 @@ or_swap true true t = refl
 or_swap true false t = refl
 or_swap false e t = refl
 
-below_step : (g a e d w f t : Bool) → ((g && (a && (e || (d && w)))) || (f || (d && t))) ≡ ((((g && a) && e) || f) || (d && (((g && a) && w) || t)))
+below_step : (g a e d w f t : Bool) → ((g && (a && (e || (d && w)))) || (f || (d && t)))
+    ≡ ((((g && a) && e) || f) || (d && (((g && a) && w) || t)))
 below_step false a e d w f t = refl
 below_step true false e d w f t = refl
 below_step true true true d w f t = refl
 below_step true true false true w f t = or_swap w f t
 below_step true true false false w f t = refl
 
-below_parts : (lines : List IgnoreLine) (c : Candidate) → below_by lines c ≡ (covers_everything lines || (nat_lt 0 c.depth && top_test c.text lines))
+below_parts : (lines : List IgnoreLine) (c : Candidate)
+    → below_by lines c ≡ (covers_everything lines || (nat_lt 0 c.depth && top_test c.text lines))
 below_parts [] c = none_below (nat_lt 0 c.depth)
   where
     none_below : (d : Bool) → false ≡ (d && false)
@@ -300,14 +341,16 @@ module _ (lines : List IgnoreLine) (c : Candidate) (top : ℕ) (above : length l
   Has k = HasMatch top 0 lines k s
 
   -- the mark if an alternative that covers matches, and if none does
-  by_top : top_test s lines ≡ true → cond named with_tree alone ≡ covered_mark (false || (named && top_test s lines)) ignored
+  by_top : top_test s lines ≡ true → cond named with_tree alone
+      ≡ covered_mark (false || (named && top_test s lines)) ignored
   by_top e = go named ∙ sym (λ i. covered_mark (named && e i) (top_ignored s false lines e i))
     where
       go : (d : Bool) → cond d with_tree alone ≡ covered_mark (d && true) true
       go true = refl
       go false = refl
 
-  by_line_alone : (odd : Bool) → top_test s lines ≡ false → odd ≡ ignored → cond odd alone kept ≡ covered_mark (false || (named && top_test s lines)) ignored
+  by_line_alone : (odd : Bool) → top_test s lines ≡ false → odd ≡ ignored
+      → cond odd alone kept ≡ covered_mark (false || (named && top_test s lines)) ignored
   by_line_alone odd e same = go named odd ∙ (λ i. covered_mark (named && sym e i) (same i))
     where
       go : (d o : Bool) → cond o alone kept ≡ covered_mark (d && false) o
@@ -316,12 +359,14 @@ module _ (lines : List IgnoreLine) (c : Candidate) (top : ℕ) (above : length l
       go false true = refl
       go false false = refl
 
-  is_best : (r : ℕ) → ((k : ℕ) → Has k → k ≤ r) → (r ≡ 0) ⊎ Has r → top_test s lines ≡ false → is_odd r ≡ ignored
+  is_best : (r : ℕ) → ((k : ℕ) → Has k → k ≤ r) → (r ≡ 0) ⊎ Has r
+      → top_test s lines ≡ false → is_odd r ≡ ignored
   is_best r greatest found none =
       let b = best s 0 0 lines in
       let up : b ≤ r = elim (best_found s 0 0 lines) [
         | inl e ↦ omega (arith, e)
-        | inr m ↦ (let j = line_found s top 0 lines b (omega (arith, above)) m in omega (arith, j.1, greatest j.0 j.2))
+        | inr m ↦ (let j = line_found s top 0 lines b (omega (arith, above)) m in
+            omega (arith, j.1, greatest j.0 j.2))
       ] in
       let down : r ≤ b = elim found [
         | inl e ↦ omega (arith, e)
@@ -333,13 +378,18 @@ module _ (lines : List IgnoreLine) (c : Candidate) (top : ℕ) (above : length l
       let same : r ≡ b = omega (arith, up, down) in
       ap is_odd same ∙ best_decides s 0 0 false lines refl
 
-  by_test : (b : Bool) → top_test s lines ≡ b → (last : Option ℕ) → (top_test s lines ≡ true → last ≡ Some top)
-      → (top_test s lines ≡ false → numbered_mark false top named last ≡ covered_mark (false || (named && top_test s lines)) ignored)
+  by_test : (b : Bool) → top_test s lines ≡ b → (last : Option ℕ)
+      → (top_test s lines ≡ true → last ≡ Some top)
+      → (top_test s lines ≡ false → numbered_mark false top named last
+      ≡ covered_mark (false || (named && top_test s lines)) ignored)
       → numbered_mark false top named last ≡ covered_mark (false || (named && top_test s lines)) ignored
-  by_test true e last is other = ap (numbered_mark false top named) (is e) ∙ ap (λ b. cond b (cond named with_tree alone) (cond (is_odd top) alone kept)) (eq-eqb top top refl) ∙ by_top e
+  by_test true e last is other = ap (numbered_mark false top named) (is e)
+      ∙ ap (λ b. cond b (cond named with_tree alone) (cond (is_odd top) alone kept)) (eq-eqb top top refl)
+      ∙ by_top e
   by_test false e last is other = other e
 
-  by_last : (last : Option ℕ) → (code : List _) → ((k : ℕ) → Accepts code 0 (s ++ mark k ∷ []) ↔ Has k) → IsLastNumber code s last
+  by_last : (last : Option ℕ) → (code : List _) → ((k : ℕ) → Accepts code 0 (s ++ mark k ∷ []) ↔ Has k)
+      → IsLastNumber code s last
       → numbered_mark false top named last ≡ covered_mark (false || (named && top_test s lines)) ignored
   by_last None code means h = by_test (top_test s lines) refl None
       (λ e. absurd (h top ((means top).1 (covered_found s top 0 lines e))))
@@ -364,12 +414,14 @@ module _ (lines : List IgnoreLine) (c : Candidate) (top : ℕ) (above : length l
 
   decided : (all : Bool) → covers_everything lines ≡ all → (last : Option ℕ)
       → numbered_mark false top named last ≡ covered_mark (false || (named && top_test s lines)) ignored
-      → numbered_mark all top named last ≡ covered_mark (covers_everything lines || (named && top_test s lines)) ignored
+      → numbered_mark all top named last
+      ≡ covered_mark (covers_everything lines || (named && top_test s lines)) ignored
   decided true e last h = sym (ap (λ b. covered_mark (b || (named && top_test s lines)) ignored) e)
   decided false e last h = h ∙ sym (ap (λ b. covered_mark (b || (named && top_test s lines)) ignored) e)
 
 -- what the greatest number excludes of an entry is what the lines exclude
-pub numbers_decide : (lines : List IgnoreLine) (numbered : NumberedLines) (c : Candidate) (last : Option ℕ) → KnowsLines lines numbered
+pub numbers_decide : (lines : List IgnoreLine) (numbered : NumberedLines) (c : Candidate) (last : Option ℕ)
+    → KnowsLines lines numbered
     → IsLastNumber numbered.matcher c.text last
     → numbered_mark numbered.covers_all numbered.top (nat_lt 0 c.depth) last ≡ listed_mark lines c
 numbers_decide lines numbered c last knows h =

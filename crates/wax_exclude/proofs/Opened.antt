@@ -77,7 +77,8 @@ module _ (opens : Facts → Bool) (OfEntry : Facts → List ℕ → Type 0)
     below_pruned x (lists path after) h e = (guarded_open x path h.0 e, well_pruned after h.1)
 
 -- the least walk from the last name of an origin on, in a range
-module _ {A : Type 0} (w : Wanted A) (goes : List ℕ → Bool) (tested : TestsBelow goes w.rooted w.glob) (least : ℕ)
+module _ {A : Type 0} (w : Wanted A) (goes : List ℕ → Bool)
+    (tested : TestsBelow goes w.rooted w.glob) (least : ℕ)
     (range : DepthRange) (origin : Origin) (all : range.min ≡ 0) where
   abbrev scope : WalkScope
   scope = scope_in range
@@ -100,7 +101,8 @@ module _ {A : Type 0} (w : Wanted A) (goes : List ℕ → Bool) (tested : TestsB
   abbrev rules : List (Facts → Mark)
   rules = least_rules least w
 
-  may_open : (path : List ℕ) → Chosen Opened Above (done_with Opened Above rules []) path → MayOpen w range origin path
+  may_open : (path : List ℕ) → Chosen Opened Above (done_with Opened Above rules []) path
+      → MayOpen w range origin path
   may_open path (inl (at, e, s, low, small)) = absurd (omega (arith, small, all))
   may_open path (inr (f, o, none)) =
       let below = o.0.0 in
@@ -131,12 +133,15 @@ module _ {A : Type 0} (w : Wanted A) (goes : List ℕ → Bool) (tested : TestsB
         place = subst (λ v. At w.rooted at v) (sym (append-nil origin.names)) a;
       } in
       let well = well_stacked Opened Above rules [] (pruned (opens_where goes) f)
-      (well_pruned (opens_where goes) Folders kind_is Above f (well_at w.rooted scope start origin.names at s below x)) in
+      (well_pruned (opens_where goes) Folders kind_is Above f
+      (well_at w.rooted scope start origin.names at s below x)) in
       All-weaker (Chosen Opened Above (done_with Opened Above rules [])) (MayOpen w range origin) may_open
       (listings (stacked rules (pruned (opens_where goes) f)))
-      (each_listed Opened Above (done_with Opened Above rules []) (stacked rules (pruned (opens_where goes) f)) well)
+      (each_listed Opened Above (done_with Opened Above rules [])
+      (stacked rules (pruned (opens_where goes) f)) well)
 
-  may_fault : (kind : FaultKind) (path : List ℕ) (depth : ℕ) → May (item (fault kind path depth) nothing nothing)
+  may_fault : (kind : FaultKind) (path : List ℕ) (depth : ℕ)
+      → May (item (fault kind path depth) nothing nothing)
   may_fault kind path depth =
       subst (λ v. All (MayOpen w range origin) (listings v)) (sym (stacked_fault w rules kind path depth))
       (All-nil (MayOpen w range origin))
@@ -157,8 +162,10 @@ module _ {A : Type 0} (w : Wanted A) (goes : List ℕ → Bool) (tested : TestsB
 
 -- the least walk lists only folders below which something is meant
 pub opens_few : {A : Type 0} (w : Wanted A) (goes : List ℕ → Bool) (tested : TestsBelow goes w.rooted w.glob)
-    (asked walked : DepthRange) (origin : Origin) → CanWalkLeast w asked walked origin → (s : Shown) → IsPlainShown s
+    (asked walked : DepthRange) (origin : Origin) → CanWalkLeast w asked walked origin
+    → (s : Shown) → IsPlainShown s
     → All (MayOpen w walked origin) (listings (least_walk goes asked.min w walked origin s))
 opens_few w goes tested asked walked origin can s t =
-    may_walk w goes tested asked.min walked origin can.least origin.names (origin_location origin) [] s can.plain
+    may_walk w goes tested asked.min walked origin can.least origin.names
+    (origin_location origin) [] s can.plain
     (at_start w origin can.candidate) t refl refl

@@ -1,5 +1,6 @@
 -- A least walk keeps what is wanted of the whole walk.
-use Rattle.std.proofs.Common.{◌≡◌, ℕ, ◌<◌, ◌≤◌, Bool, true, false, ◌&&◌, not, ◌⊎◌, List, [], ◌∷◌, ◌++◌, map, length}
+use Rattle.std.proofs.Common.{◌≡◌, ℕ, ◌<◌, ◌≤◌, Bool, true, false, ◌&&◌, not, ◌⊎◌, List, [], ◌∷◌, ◌++◌, map}
+use Rattle.std.proofs.Common.{length}
 use Rattle.std.proofs.Common.{refl, ap, ◌∙◌, inl, inr, arith, chars}
 use Rattle.std.specs.Prelude.{filter, nat_lt}
 use Rattle.std.proofs.lemmas.Bool.{ltb-true}
@@ -47,7 +48,8 @@ from_start range = record range { min = 0 }
 
 module _ {A : Type 0} (w : Wanted A) (asked : DepthRange) where
   -- what is in range from the start on and wanted from the least depth on is in range and wanted
-  wanted_in : (x : Given) → is_in (from_start asked) x && is_wanted_from asked.min w x ≡ is_in asked x && is_wanted w x
+  wanted_in : (x : Given) → is_in (from_start asked) x && is_wanted_from asked.min w x
+      ≡ is_in asked x && is_wanted w x
   wanted_in (entry m f) =
       let below = not (nat_lt asked.max f.depth) in
       let deep = not (nat_lt f.depth asked.min) in
@@ -78,7 +80,8 @@ module _ {A : Type 0} (w : Wanted A) (goes : List ℕ → Bool) (tested : TestsB
   scope_to max = record { min = 0; max = max }
 
   abbrev kept_of : Forest Given → List Given
-  kept_of f = filter is_kept_entry (preorder (stacked (least_rules asked.min w) (pruned (opens_where goes) f)))
+  kept_of f =
+      filter is_kept_entry (preorder (stacked (least_rules asked.min w) (pruned (opens_where goes) f)))
 
   kept_fault : (kind : FaultKind) (path : List ℕ) (depth : ℕ)
       → kept_of (item (fault kind path depth) nothing nothing) ≡ []
@@ -99,7 +102,8 @@ module _ {A : Type 0} (w : Wanted A) (goes : List ℕ → Bool) (tested : TestsB
       (at_join w.rooted at done x a n.0) (plain_child x l s)
 
   -- what lies beside the names of the origin isn't wanted
-  beyond : (scope : WalkScope) (at : Location) (kind : FileType) (names : List (List ℕ)) → At w.rooted at names
+  beyond : (scope : WalkScope) (at : Location) (kind : FileType) (names : List (List ℕ))
+      → At w.rooted at names
       → ((rest : List (List ℕ)) → ¬ (names ≡ origin.names ++ rest))
       → is_wanted_from asked.min w (plain_entry at kind) ≡ false
   beyond scope at kind names a n = unwanted_from w goes tested asked.min scope at kind names a
@@ -138,7 +142,8 @@ module _ {A : Type 0} (w : Wanted A) (goes : List ℕ → Bool) (tested : TestsB
       ∙ kept_walk (scope_to walked.max) origin.names (origin_location origin) [] s can.plain start plain
       ∙ to_greatest s plain can.greatest
       ∙ reached (is_wanted_from asked.min w) (λ k p d. refl) w.rooted (scope_to asked.max) origin.names
-      (beyond (scope_to asked.max)) origin.names (origin_location origin) [] s refl can.plain start plain distinct
+      (beyond (scope_to asked.max)) origin.names (origin_location origin) [] s refl
+      can.plain start plain distinct
       (fits_asked can.greatest l)
       ∙ plain_wanted w asked origin s
 

@@ -1,5 +1,6 @@
 -- Where walks of globs and sets may begin, and how far they may go.
-use Rattle.std.proofs.Common.{◌≡◌, ◌≤◌, ◌⊎◌, ℕ, Bool, true, false, List, Option, Some, None, map, min, inl, inr, refl, subst, arith, chars}
+use Rattle.std.proofs.Common.{◌≡◌, ◌≤◌, ◌⊎◌, ℕ, Bool, true, false, List, Option, Some, None, map, min, inl}
+use Rattle.std.proofs.Common.{inr, refl, subst, arith, chars}
 use Rattle.std.proofs.lemmas.Bool.{cases_lt}
 use Rattle.wax_query.specs.Components.{component_total}
 use Rattle.wax_query.specs.Ranges.{AtMost, Bounds}
@@ -36,7 +37,8 @@ greatest_at t rooted most (Some upper) h = elim (cases_lt upper most) [
   | inr l ↦ inl (omega (arith, l))
 ]
 
-pub can_least : (w : Wanted Span) (start : List ℕ) (asked : DepthRange) (depth : Bounds) (names : List (List ℕ))
+pub can_least : (w : Wanted Span) (start : List ℕ) (asked : DepthRange) (depth : Bounds)
+    (names : List (List ℕ))
     → ((s : List ℕ) → Means w.glob false false s → AtMost (component_total s) depth.1)
     → BeginsWith w.rooted w.glob (map chars names) → ArePlain names
     → CanWalkLeast w asked (walked_by by_matches asked depth) (origin_from start w.rooted names)

@@ -5,7 +5,8 @@ use Rattle.std.specs.Prelude.{nat_lt}
 use Rattle.wax_directory.specs.declared.directory.FileType.TheVariants.{Folder}
 use Rattle.wax_directory.specs.Shown.{Items, end, leaf, folder, sealed, misnamed, unread, not_text, Shown}
 use Rattle.wax_directory.specs.Shown.{a_leaf, a_folder, a_sealed, missing, failing, leaf_kind, IsPlain}
-use Rattle.wax_tree.specs.Plain.{WalkScope, Location, one_deeper, plain_entry, unlisted, items_forest, below_forest}
+use Rattle.wax_tree.specs.Plain.{WalkScope, Location, one_deeper, plain_entry, unlisted, items_forest}
+use Rattle.wax_tree.specs.Plain.{below_forest}
 use Rattle.wax_tree.specs.Plain.{plain_at}
 use Rattle.wax_walk.specs.Candidates.{Candidate, of_candidate}
 use Rattle.wax_walk.specs.Forest.{Forest, nothing, item, lists, followed_by}
@@ -103,7 +104,8 @@ module _ (rooted : Bool) (mark : Candidate → Mark) (descends : Descends rooted
   left_inside at names others end h t e = tt
   left_inside at names others (leaf x link rest) h t e =
       let a = at_below at names others x h t.0 in
-      left_unless rule (low (child_location at x)) (plain_entry (child_location at x) (leaf_kind link)) nothing
+      left_unless rule (low (child_location at x))
+      (plain_entry (child_location at x) (leaf_kind link)) nothing
       (in_folder at rest) (left_below (child_location at x) names (others ++ x ∷ []) a e) tt
       (left_inside at names others rest h t.1 e)
   left_inside at names others (folder x inner rest) h t e =

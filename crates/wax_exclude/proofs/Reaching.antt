@@ -13,7 +13,8 @@ use Rattle.wax_directory.specs.Shown.{Items, end, leaf, folder, sealed, misnamed
 use Rattle.wax_directory.specs.Shown.{a_leaf, a_folder, a_sealed, missing, failing, leaf_kind, IsPlain}
 use Rattle.wax_directory.specs.Shown.{child_in, IsNew, AreDistinct, IsDistinct}
 use Rattle.wax_tree.specs.Follows.{AreDistinctAlong, AreDistinctHere}
-use Rattle.wax_tree.specs.Plain.{WalkScope, Location, one_deeper, plain_entry, items_forest, below_forest, plain_at}
+use Rattle.wax_tree.specs.Plain.{WalkScope, Location, one_deeper, plain_entry, items_forest, below_forest}
+use Rattle.wax_tree.specs.Plain.{plain_at}
 use Rattle.wax_tree.specs.Prefix.{ArePlain, walk_from}
 use Rattle.wax_walk.proofs.Collecting.{preorder_append}
 use Rattle.wax_walk.specs.declared.error.FaultKind.{FaultKind}
@@ -83,7 +84,8 @@ distinct_here (not_text rest) d = distinct_here rest d
 pub distinct_along : (names : List (List ℕ)) (s : Shown) → IsDistinct s → AreDistinctAlong names s
 distinct_along [] s d = tt
 distinct_along (x ∷ names) (a_leaf link) d = tt
-distinct_along (x ∷ names) (a_folder l) d = (distinct_here l d, distinct_along names (child_in x l) (distinct_child x l d))
+distinct_along (x ∷ names) (a_folder l) d =
+    (distinct_here l d, distinct_along names (child_in x l) (distinct_child x l d))
 distinct_along (x ∷ names) a_sealed d = tt
 distinct_along (x ∷ names) missing d = tt
 distinct_along (x ∷ names) failing d = tt
@@ -197,7 +199,8 @@ module _ (p : Given → Bool)
             (cond (nat_lt at.depth max) (lists at.path g) nothing) after after'
             (same_below at f g e n (nat_lt at.depth less) (nat_lt at.depth max) refl refl) i
 
-        same_inside : (at : Location) (names : List (List ℕ)) (l : Items) → At rooted at names → ArePlainItems l
+        same_inside : (at : Location) (names : List (List ℕ)) (l : Items)
+            → At rooted at names → ArePlainItems l
             → of (few_in at l) ≡ of (all_in at l)
         same_inside at names end a t = refl
         same_inside at names (leaf x link rest) a t =
@@ -227,7 +230,8 @@ module _ (p : Given → Bool)
             of_fault _ _ _ (few_in at rest) ∙ same_inside at names rest a t
             ∙ sym (of_fault _ _ _ (all_in at rest))
 
-        same_depths : (at : Location) (names : List (List ℕ)) (s : Shown) → At rooted at names → IsPlainShown s
+        same_depths : (at : Location) (names : List (List ℕ)) (s : Shown)
+            → At rooted at names → IsPlainShown s
             → of (plain_at few at s nothing) ≡ of (plain_at all at s nothing)
         same_depths at names (a_leaf link) a t = refl
         same_depths at names (a_folder l) a t =
@@ -291,7 +295,8 @@ module _ (p : Given → Bool)
         sibling at kind y a n =
             beyond at kind (done ++ y ∷ []) a (λ rest e. n (apart done names rest [] x y aim e))
 
-        below_sibling : (at : Location) (y : List ℕ) (l : Items) → At rooted at (done ++ y ∷ []) → ArePlainItems l
+        below_sibling : (at : Location) (y : List ℕ) (l : Items)
+            → At rooted at (done ++ y ∷ []) → ArePlainItems l
             → ¬ (y ≡ x) → of (in_folder at l) ≡ []
         below_sibling at y l a t n =
             same_filter p never (in_folder at l)
@@ -306,7 +311,8 @@ module _ (p : Given → Bool)
         of_listed true path f e = e
         of_listed false path f e = refl
 
-        unwanted_leaf : (at : Location) (y : List ℕ) (kind : FileType) (rest : Forest Given) → At rooted at done
+        unwanted_leaf : (at : Location) (y : List ℕ) (kind : FileType) (rest : Forest Given)
+            → At rooted at done
             → IsPlain y → ¬ (y ≡ x)
             → of (cond (low (child_location at y)) (followed_by nothing rest)
             (item (plain_entry (child_location at y) kind) nothing rest)) ≡ of rest
@@ -319,7 +325,8 @@ module _ (p : Given → Bool)
             (cond (high at) (lists at.path inner) nothing) rest)
             (item (plain_entry at Folder) (cond (high at) (lists at.path inner) nothing) rest)
 
-        unwanted_folder : (at : Location) (y : List ℕ) (inner rest : Forest Given) → At rooted at done → IsPlain y
+        unwanted_folder : (at : Location) (y : List ℕ) (inner rest : Forest Given)
+            → At rooted at done → IsPlain y
             → ¬ (y ≡ x) → of inner ≡ [] → of (folder_forest (child_location at y) inner rest) ≡ of rest
         unwanted_folder at y inner rest a t n e =
             let c = child_location at y in
@@ -357,7 +364,8 @@ module _ (p : Given → Bool)
             → (y ≡ x → IsNew x rest)
             → of (in_folder at (leaf y link rest)) ≡ of (only at (cond b (a_leaf link) (child_in x rest)))
         only_leaf at y link rest a t u ih true e f new =
-            same_unless (low (child_location at y)) (plain_entry (child_location at y) (leaf_kind link)) nothing
+            same_unless (low (child_location at y))
+            (plain_entry (child_location at y) (leaf_kind link)) nothing
             nothing
             (in_folder at rest) nothing refl (none_in at rest a u (new (e refl)))
             ∙ ap (λ v. of (plain_at scope (child_location at v) (a_leaf link) nothing)) (e refl)
@@ -399,7 +407,8 @@ module _ (p : Given → Bool)
         -- of a folder only what has the name is wanted
         only_child : (at : Location) (l : Items) → At rooted at done → ArePlainItems l → AreDistinctHere l
             → of (in_folder at l) ≡ of (only at (child_in x l))
-        only_child at end a t u = sym (of_fault NotFound (child_location at x).path (child_location at x).depth
+        only_child at end a t u =
+            sym (of_fault NotFound (child_location at x).path (child_location at x).depth
             nothing)
         only_child at (leaf y link rest) a t u =
             only_leaf at y link rest a t.0 t.1 (only_child at rest a t.1 u.1) (bytes_eq y x) (same_name y x)

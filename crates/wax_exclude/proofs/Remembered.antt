@@ -14,7 +14,8 @@ use Rattle.wax_walk.specs.Said.{mark_of}
 use Rattle.wax_walk.specs.declared.iterator.EntryResidue.{EntryResidue}
 use Rattle.wax_walk.specs.declared.iterator.EntryResidue.TheVariants.{File, Tree}
 
-some_excluded : (r : Option EntryResidue) (ignored : Bool) → keeps (mark_of r) ≡ not ignored → is_some r ≡ ignored
+some_excluded : (r : Option EntryResidue) (ignored : Bool) → keeps (mark_of r) ≡ not ignored
+    → is_some r ≡ ignored
 some_excluded None true h = absurd (true≢false h)
 some_excluded None false h = refl
 some_excluded (Some File) true h = refl
@@ -23,7 +24,9 @@ some_excluded (Some Tree) true h = refl
 some_excluded (Some Tree) false h = absurd (false≢true h)
 
 -- something is excluded exactly if the lines ignore the text
-pub excluded_if_ignored : (held : List IgnoreLine) (lines : List (Line Span)) (c : Candidate) (r : Option EntryResidue) →
+pub excluded_if_ignored : (held : List IgnoreLine) (lines : List (Line Span)) (c : Candidate)
+    (r : Option EntryResidue) →
     HasLines held lines → mark_of r ≡ listed_mark held c → is_some r ≡ is_ignored lines c.text
 excluded_if_ignored held lines c r has said =
-    some_excluded r (is_ignored lines c.text) (ap keeps (said ∙ ap (λ rule. rule c) (says_lines held lines has)) ∙ ignore_keeps lines c)
+    some_excluded r (is_ignored lines c.text)
+    (ap keeps (said ∙ ap (λ rule. rule c) (says_lines held lines has)) ∙ ignore_keeps lines c)

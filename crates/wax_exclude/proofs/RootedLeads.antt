@@ -9,7 +9,8 @@ use Rattle.wax_facts.specs.Root.{root, root_first, root_some}
 use Rattle.wax_query.specs.Whens.{certainty}
 use Rattle.wax_query.specs.declared.query.when.When.{When}
 use Rattle.wax_query.specs.declared.query.when.When.TheVariants.{Always, Never, Sometimes}
-use Rattle.wax_token.specs.Kinds.{has_boundary, is_boundary, is_separator, is_tree_wildcard, some_has_boundary}
+use Rattle.wax_token.specs.Kinds.{has_boundary, is_boundary, is_separator, is_tree_wildcard}
+use Rattle.wax_token.specs.Kinds.{some_has_boundary}
 use Rattle.wax_token.specs.Syntax.{literal, class, separator, one, zero_or_more, tree, Tree, leaf}
 use Rattle.wax_token.specs.Syntax.{alternation, concatenation, repetition, Trees, none, more}
 use Rattle.wax_token.specs.Words.{listed}
@@ -65,7 +66,8 @@ module _ {A : Type 0} where
       → has_boundary t ≡ true → free (components_in true (t ∷ ts)) ≡ []
   none_leads t ts true e f h = rw (e, f) (none_free (t ∷ []) (components_in true ts)
       (or_first (has_boundary t) false h))
-  none_leads t ts false e f h = rw (e, f) (none_free (t ∷ before_first is_boundary ts) (components_in false ts)
+  none_leads t ts false e f h =
+      rw (e, f) (none_free (t ∷ before_first is_boundary ts) (components_in false ts)
       (or_first (has_boundary t) (list_any has_boundary (before_first is_boundary ts)) h))
 
   either_way : (t : Tree A) (ts : List (Tree A)) (s : Bool) → is_separator t ≡ s → has_boundary t ≡ true
@@ -74,9 +76,12 @@ module _ {A : Type 0} where
   either_way t ts false e h = sym (none_leads t ts (is_tree_wildcard t) e refl h)
 
   pub leads_from_root : (t : Tree A) → root t ≡ Always → leading_of true t ≡ leading t
-  leads_from_root (leaf a l) e = either_way (leaf a l) [] (is_separator (leaf a l)) refl (bounded (leaf a l) e)
-  leads_from_root (alternation a ts) e = either_way (alternation a ts) [] false refl (bounded (alternation a ts) e)
+  leads_from_root (leaf a l) e =
+      either_way (leaf a l) [] (is_separator (leaf a l)) refl (bounded (leaf a l) e)
+  leads_from_root (alternation a ts) e =
+      either_way (alternation a ts) [] false refl (bounded (alternation a ts) e)
   leads_from_root (concatenation a none) e = absurd (cc)
-  leads_from_root (concatenation a (more t ts)) e = either_way t (listed ts) (is_separator t) refl (bounded t e)
+  leads_from_root (concatenation a (more t ts)) e =
+      either_way t (listed ts) (is_separator t) refl (bounded t e)
   leads_from_root (repetition a t low high) e =
       either_way (repetition a t low high) [] false refl (bounded (repetition a t low high) e)

@@ -9,7 +9,8 @@ use Rattle.wax_token.specs.Reads.{Span}
 use Rattle.wax_tree.specs.declared.steps.DepthRange.{DepthRange}
 use Rattle.wax_tree.specs.Whole.{is_in}
 use Rattle.wax_walk.specs.Given.{Facts, Given, alone, entry, fault, kept, no_memory, with_tree}
-use Rattle.wax_exclude.specs.Wanted.{Filter, Wanted, excludes, is_wanted, none_excludes, not_ignored, not_meant}
+use Rattle.wax_exclude.specs.Wanted.{Filter, Wanted, excludes, is_wanted, none_excludes, not_ignored}
+use Rattle.wax_exclude.specs.Wanted.{not_meant}
 use Rattle.wax_exclude.specs.WantedEntries.{IsExcludedBy, IsWantedEntry, Selects}
 use Rattle.wax_exclude.proofs.LastMatch.{last_match_decides}
 
@@ -86,8 +87,10 @@ module _ (w : Wanted Span) (range : DepthRange) where
 
   tested : (x : Given) → (test x ≡ true) ↔ IsWantedEntry w range x
   tested (entry kept f) = (entry_so f, entry_if f)
-  tested (entry alone f) = ((λ e. false≢true (and_parts (is_in range (entry alone f)) false e).1), (λ h. absurd h))
-  tested (entry with_tree f) = ((λ e. false≢true (and_parts (is_in range (entry with_tree f)) false e).1), (λ h. absurd h))
+  tested (entry alone f) =
+      ((λ e. false≢true (and_parts (is_in range (entry alone f)) false e).1), (λ h. absurd h))
+  tested (entry with_tree f) =
+      ((λ e. false≢true (and_parts (is_in range (entry with_tree f)) false e).1), (λ h. absurd h))
   tested (fault kind path depth) = ((λ e. false≢true e), (λ h. absurd h))
   tested no_memory = ((λ e. false≢true e), (λ h. absurd h))
 

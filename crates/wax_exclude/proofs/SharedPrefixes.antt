@@ -1,11 +1,14 @@
 -- What the prefixes of several globs share.
-use Rattle.std.proofs.Common.{◌≡◌, ◌∙◌, ◌<◌, ◌≤◌, ◌+◌, ℕ, zero, suc, Bool, false, List, [], ◌∷◌, ◌++◌, Option, Some, None, map, length, take, take_all, get_or, inl, inr, refl, sym, subst, ap, arith, append_assoc, append-nil, chars, String}
+use Rattle.std.proofs.Common.{◌≡◌, ◌∙◌, ◌<◌, ◌≤◌, ◌+◌, ℕ, zero, suc, Bool, false, List, [], ◌∷◌, ◌++◌, Option}
+use Rattle.std.proofs.Common.{Some, None, map, length, take, take_all, get_or, inl, inr, refl, sym, subst, ap}
+use Rattle.std.proofs.Common.{arith, append_assoc, append-nil, chars, String}
 use Rattle.std.specs.Prelude.{MatchOption, unwrap_or}
 use Rattle.std.proofs.Math.Seq.{take-suc}
 use Rattle.std.specs.List.{Contains}
 use Rattle.std.specs.declared.alloc.Global.{Global}
 use Rattle.std.proofs.lemmas.List.{map-append}
-use Rattle.std.proofs.lemmas.List.Elements.{Contains-append_cases, Contains-append_left, Contains-append_right}
+use Rattle.std.proofs.lemmas.List.Elements.{Contains-append_cases, Contains-append_left}
+use Rattle.std.proofs.lemmas.List.Elements.{Contains-append_right}
 use Rattle.wax_facts.specs.Prefix.{Prefix}
 use Rattle.wax_token.specs.Meaning.{Means, MeansSome}
 use Rattle.wax_token.specs.Reads.{Span}
@@ -14,14 +17,16 @@ use Rattle.wax_token.specs.Words.{trees}
 use Rattle.wax_tree.specs.Prefix.{from_last}
 use Rattle.wax_exclude.specs.Candidates.{text_at}
 use Rattle.wax_exclude.specs.Premises.{BeginsWith, IsUnmeant}
-use Rattle.wax_exclude.specs.Prefix.{AreShared, HasEmptyName, HasPrefixNames, IsCommonPrefix, longest, mixed, no_names, PrefixSplitsInto}
+use Rattle.wax_exclude.specs.Prefix.{AreShared, HasEmptyName, HasPrefixNames, IsCommonPrefix, longest, mixed}
+use Rattle.wax_exclude.specs.Prefix.{no_names, PrefixSplitsInto}
 use Rattle.wax_exclude.specs.declared.prefixes.PrefixNames.{PrefixNames}
 use Rattle.wax_exclude.specs.inner.Shared.{IsBeginning, IsCommonBeginning, NarrowsTo, ShareNothing}
 use Rattle.wax_exclude.proofs.SplitPrefixes.{same_split}
 
 -- ---- lists of names that begin with others
 
-begins_over : (front names more : List (List ℕ)) → IsBeginning front names → IsBeginning names more → IsBeginning front more
+begins_over : (front names more : List (List ℕ)) → IsBeginning front names → IsBeginning names more
+    → IsBeginning front more
 begins_over front names more h k = (h.0 ++ k.0, k.1 ∙ ap (λ v. v ++ k.0) h.1 ∙ append_assoc front h.0 k.0)
 
 begins_none : (front : List (List ℕ)) → IsBeginning front [] → front ≡ []
@@ -38,23 +43,27 @@ pub no_text : (names : List (String Global)) → length names ≡ 0 → from_las
 no_text [] e = refl
 no_text (n ∷ names) e = absurd (omega (arith, e))
 
-pub apart_first : (n m : List ℕ) (names others : List (List ℕ)) → ¬ (n ≡ m) → ShareNothing (n ∷ names) (m ∷ others)
+pub apart_first : (n m : List ℕ) (names others : List (List ℕ)) → ¬ (n ≡ m)
+    → ShareNothing (n ∷ names) (m ∷ others)
 apart_first n m names others d [] h k = refl
 apart_first n m names others d (f ∷ front) h k =
     let e : n ≡ f = (let w : n ∷ names ≡ f ∷ (front ++ h.0) = h.1 in cc) in
     let g : m ≡ f = (let w : m ∷ others ≡ f ∷ (front ++ k.0) = k.1 in cc) in
     absurd (d (e ∙ sym g))
 
-within : (done front names others r q : List (List ℕ)) → ShareNothing names others → done ++ names ≡ front ++ r → done ++ others ≡ front ++ q → IsBeginning front done
+within : (done front names others r q : List (List ℕ)) → ShareNothing names others
+    → done ++ names ≡ front ++ r → done ++ others ≡ front ++ q → IsBeginning front done
 within done [] names others r q s e g = (done, refl)
-within [] (f ∷ front) names others r q s e g = absurd (let w : f ∷ front ≡ [] = s (f ∷ front) (r, e) (q, g) in cc)
+within [] (f ∷ front) names others r q s e g =
+    absurd (let w : f ∷ front ≡ [] = s (f ∷ front) (r, e) (q, g) in cc)
 within (d ∷ done) (f ∷ front) names others r q s e g =
     let same : d ≡ f = cc in
     let k : IsBeginning front done = within done front names others r q s (cc) (cc) in
     (k.0, (λ i. same i ∷ k.1 i))
 
 -- names that were found in both, before what shares no more
-pub common_after : (done names others xs ys : List (List ℕ)) → xs ≡ done ++ names → ys ≡ done ++ others → ShareNothing names others → IsCommonBeginning xs ys done
+pub common_after : (done names others xs ys : List (List ℕ)) → xs ≡ done ++ names → ys ≡ done ++ others
+    → ShareNothing names others → IsCommonBeginning xs ys done
 common_after done names others xs ys e g s = record {
   first = (names, e);
   second = (others, g);
@@ -65,7 +74,8 @@ nothing_more : (names more rest : List (List ℕ)) → names ≡ (names ++ more)
 nothing_more [] more rest e = begins_none more (rest, e)
 nothing_more (n ∷ names) more rest e = nothing_more names more rest (cc)
 
-begins_mapped : (front names : List (List ℕ)) → IsBeginning front names → IsBeginning (map chars front) (map chars names)
+begins_mapped : (front names : List (List ℕ)) → IsBeginning front names
+    → IsBeginning (map chars front) (map chars names)
 begins_mapped front names h = (map chars h.0, ap (map chars) h.1 ∙ map-append chars front h.0)
 
 -- ---- what is known of one glob, and of those until now
@@ -82,7 +92,8 @@ pub record HasOwnNames {A : Type 0} (t : Tree A) (rooted : Bool) (names : List (
   pub begins : BeginsWith rooted t (map chars names)
 
 -- some prefix splits into names, and these are the longest that all of them share
-pub record SharesNames {A : Type 0} (ts : List (Tree A)) (rooted : Bool) (names : List (List ℕ)) : Type 0 where
+pub record SharesNames {A : Type 0} (ts : List (Tree A)) (rooted : Bool)
+    (names : List (List ℕ)) : Type 0 where
   pub shared : AreShared ts rooted names
   pub greatest : (front : List (List ℕ)) → AreShared ts rooted front → IsBeginning front names
   pub some : (t : Tree A) × Contains ts t × ((own : List (List ℕ)) × HasPrefixNames t rooted own)
@@ -94,8 +105,10 @@ SharesUntil {A = A} ts None = (t : Tree A) → Contains ts t → IsPassedOver t
 SharesUntil ts (Some shared) = SharesNames ts shared.is_rooted (from_last shared.names.items)
 
 pub own_names : {A : Type 0} (t : Tree A) (o : Option PrefixNames) → ((n : ℕ) × (p : List ℕ) × Prefix t n p) →
-    ((n : ℕ) (p : List ℕ) → Prefix t n p → MatchOption o (HasEmptyName p) (λ w. PrefixSplitsInto p w.is_rooted (from_last w.names.items))) →
-    MatchOption o ((rooted : Bool) → IsUnmeant rooted t) (λ w. BeginsWith w.is_rooted t (map chars (from_last w.names.items))) →
+    ((n : ℕ) (p : List ℕ) → Prefix t n p
+    → MatchOption o (HasEmptyName p) (λ w. PrefixSplitsInto p w.is_rooted (from_last w.names.items))) →
+    MatchOption o ((rooted : Bool) → IsUnmeant rooted t)
+    (λ w. BeginsWith w.is_rooted t (map chars (from_last w.names.items))) →
     MatchOption o (IsPassedOver t) (λ w. HasOwnNames t w.is_rooted (from_last w.names.items))
 own_names t None is names meant = record {
   nameless = λ rooted own h. h.3.unbroken (names h.0 h.1 h.2);
@@ -123,14 +136,16 @@ module _ {A : Type 0} (ts : List (Tree A)) (t : Tree A) where
   alone x (zero, l, e) = e
   alone x (suc k, l, e) = absurd (omega (arith, l))
 
-  each : (P : Tree A → Type 0) → ((x : Tree A) → Contains ts x → P x) → P t → (x : Tree A) → Contains longer x → P x
+  each : (P : Tree A → Type 0) → ((x : Tree A) → Contains ts x → P x) → P t → (x : Tree A)
+      → Contains longer x → P x
   each P h k x i = elim (Contains-append_cases ts (t ∷ []) x i) [
     | inl j ↦ h x j
     | inr j ↦ subst P (alone x j) k
   ]
 
   abbrev Sharing : Bool → List (List ℕ) → Tree A → Type 0
-  Sharing rooted names x = (r : Bool) (own : List (List ℕ)) → HasPrefixNames x r own → (r ≡ rooted) × IsBeginning names own
+  Sharing rooted names x = (r : Bool) (own : List (List ℕ)) → HasPrefixNames x r own
+      → (r ≡ rooted) × IsBeginning names own
 
   pub pass_over : (o : Option PrefixNames) → SharesUntil ts o → IsPassedOver t → SharesUntil longer o
   pass_over None h p = each IsPassedOver h p
@@ -140,51 +155,69 @@ module _ {A : Type 0} (ts : List (Tree A)) (t : Tree A) where
         shared = each (Sharing rooted names) h.shared (λ r own k. absurd (p.nameless r own k));
         greatest = λ front k. h.greatest front (λ x i. k x (before x i));
         some = (h.some.0, before h.some.0 h.some.1, h.some.2);
-        begins = each (λ x. BeginsWith rooted x (map chars names)) h.begins (λ others are m. absurd (p.unmeant rooted others are m));
+        begins = each (λ x. BeginsWith rooted x (map chars names)) h.begins
+            (λ others are m. absurd (p.unmeant rooted others are m));
       }
 
-  pub take_first : (rooted : Bool) (names : List (List ℕ)) → ((x : Tree A) → Contains ts x → IsPassedOver x) → HasOwnNames t rooted names → SharesNames longer rooted names
+  pub take_first : (rooted : Bool) (names : List (List ℕ)) → ((x : Tree A) → Contains ts x → IsPassedOver x)
+      → HasOwnNames t rooted names → SharesNames longer rooted names
   take_first rooted names h k = record {
-    shared = each (Sharing rooted names) (λ x i r own j. absurd ((h x i).nameless r own j)) (λ r own j. let e = k.only r own j in (e.0, ([], e.1 ∙ sym (append-nil names))));
+    shared = each (Sharing rooted names) (λ x i r own j. absurd ((h x i).nameless r own j))
+        (λ r own j. let e = k.only r own j in (e.0, ([], e.1 ∙ sym (append-nil names))));
     greatest = λ front j. (j t last rooted names k.has).1;
     some = (t, last, (names, k.has));
-    begins = each (λ x. BeginsWith rooted x (map chars names)) (λ x i others are m. absurd ((h x i).unmeant rooted others are m)) k.begins;
+    begins = each (λ x. BeginsWith rooted x (map chars names))
+        (λ x i others are m. absurd ((h x i).unmeant rooted others are m)) k.begins;
   }
 
-  pub narrow : (rooted : Bool) (names own common : List (List ℕ)) → SharesNames ts rooted names → HasOwnNames t rooted own → IsCommonBeginning names own common → SharesNames longer rooted common
+  pub narrow : (rooted : Bool) (names own common : List (List ℕ)) → SharesNames ts rooted names
+      → HasOwnNames t rooted own → IsCommonBeginning names own common → SharesNames longer rooted common
   narrow rooted names own common h k c =
-      let cut : (x : Tree A) (more : List (List ℕ)) → IsBeginning common more → BeginsWith rooted x (map chars more) → BeginsWith rooted x (map chars common) =
-      λ x more b w others are m. begins_over (map chars common) (map chars more) others (begins_mapped common more b) (w others are m) in record {
-        shared = each (Sharing rooted common) (λ x i r o j. let s = h.shared x i r o j in (s.0, begins_over common names o c.first s.1))
+      let cut : (x : Tree A) (more : List (List ℕ)) → IsBeginning common more
+      → BeginsWith rooted x (map chars more) → BeginsWith rooted x (map chars common) =
+      λ x more b w others are m. begins_over (map chars common) (map chars more) others
+      (begins_mapped common more b) (w others are m) in record {
+        shared = each (Sharing rooted common) (λ x i r o j. let s = h.shared x i r o j in
+            (s.0, begins_over common names o c.first s.1))
             (λ r o j. let e = k.only r o j in (e.0, subst (IsBeginning common) (sym e.1) c.second));
-        greatest = λ front j. c.greatest front (h.greatest front (λ x i. j x (before x i))) (j t last rooted own k.has).1;
+        greatest = λ front j. c.greatest front (h.greatest front (λ x i. j x (before x i)))
+            (j t last rooted own k.has).1;
         some = (h.some.0, before h.some.0 h.some.1, h.some.2);
-        begins = each (λ x. BeginsWith rooted x (map chars common)) (λ x i. cut x names c.first (h.begins x i)) (cut t own c.second k.begins);
+        begins = each (λ x. BeginsWith rooted x (map chars common))
+            (λ x i. cut x names c.first (h.begins x i)) (cut t own c.second k.begins);
       }
 
 -- ---- what is told at the end
 
-pub mixed_roots : {A : Type 0} (all ts : List (Tree A)) (t : Tree A) (rooted r : Bool) (names own : List (List ℕ)) → ((x : Tree A) → Contains ts x → Contains all x) → Contains all t →
+pub mixed_roots : {A : Type 0} (all ts : List (Tree A)) (t : Tree A) (rooted r : Bool)
+    (names own : List (List ℕ)) → ((x : Tree A) → Contains ts x → Contains all x) → Contains all t →
     SharesNames ts rooted names → HasOwnNames t r own → ¬ (rooted ≡ r) → (b : Bool) → ¬ (AreShared all b [])
 mixed_roots all ts t rooted r names own among at h k apart b shared =
-    apart ((shared h.some.0 (among h.some.0 h.some.1) rooted h.some.2.0 h.some.2.1).0 ∙ sym (shared t at r own k.has).0)
+    apart ((shared h.some.0 (among h.some.0 h.some.1) rooted h.some.2.0 h.some.2.1).0
+    ∙ sym (shared t at r own k.has).0)
 
-pub longest_shared : {A : Type 0} (ts : List (Tree A)) (rooted : Bool) (names : List (List ℕ)) → SharesNames ts rooted names → IsCommonPrefix ts rooted names
-longest_shared ts rooted names h = longest h.shared (λ more k. let b : IsBeginning (names ++ more) names = h.greatest (names ++ more) k in nothing_more names more b.0 b.1)
+pub longest_shared : {A : Type 0} (ts : List (Tree A)) (rooted : Bool) (names : List (List ℕ))
+    → SharesNames ts rooted names → IsCommonPrefix ts rooted names
+longest_shared ts rooted names h = longest h.shared (λ more k. let b : IsBeginning (names ++ more) names =
+    h.greatest (names ++ more) k in nothing_more names more b.0 b.1)
 
-meant_by : {A : Type 0} (ts : List (Tree A)) (b f : Bool) (s : List ℕ) → MeansSome (trees ts) b f s → (t : Tree A) × Contains ts t × Means t b f s
+meant_by : {A : Type 0} (ts : List (Tree A)) (b f : Bool) (s : List ℕ) → MeansSome (trees ts) b f s
+    → (t : Tree A) × Contains ts t × Means t b f s
 meant_by {A = A} [] b f s m = absurd m
 meant_by {A = A} (t ∷ ts) b f s (inl m) = (t, (0, omega arith, refl), m)
 meant_by {A = A} (t ∷ ts) b f s (inr m) =
     let k : (u : Tree A) × Contains ts u × Means u b f s = meant_by ts b f s m in
     (k.0, (suc k.1.0, omega (arith, k.1.1), k.1.2), k.2)
 
-pub all_begin : (ts : List (Tree Span)) (rooted : Bool) (names : List (List ℕ)) → SharesNames ts rooted names → (a : Span) → BeginsWith rooted (alternation a (trees ts)) (map chars names)
+pub all_begin : (ts : List (Tree Span)) (rooted : Bool) (names : List (List ℕ)) → SharesNames ts rooted names
+    → (a : Span) → BeginsWith rooted (alternation a (trees ts)) (map chars names)
 all_begin ts rooted names h a others are m =
-    let k : (u : Tree Span) × Contains ts u × Means u false false (text_at rooted others) = meant_by ts false false (text_at rooted others) m in
+    let k : (u : Tree Span) × Contains ts u × Means u false false (text_at rooted others) =
+    meant_by ts false false (text_at rooted others) m in
     h.begins k.0 k.1 others are k.2
 
-pub none_begin : {A : Type 0} (t : Tree A) (rooted : Bool) (names : List (List ℕ)) → names ≡ [] → BeginsWith rooted t (map chars names)
+pub none_begin : {A : Type 0} (t : Tree A) (rooted : Bool) (names : List (List ℕ)) → names ≡ []
+    → BeginsWith rooted t (map chars names)
 none_begin t rooted names e others are m = (others, ap (λ v. map chars v ++ others) (sym e))
 
 -- ---- the loop over the globs
@@ -197,8 +230,10 @@ contained {A = A} (t ∷ ts) (suc i) x (suc k, l, e) =
     let r : Contains ts x = contained ts i x (k, omega (arith, l), e) in
     (suc r.0, omega (arith, r.1), r.2)
 
-module _ (ts : List (Tree Span)) (i : ℕ) (t : Tree Span) (less : i < length ts) (here : t ≡ get_or ts i t) (o : Option PrefixNames)
-    (known : MatchOption o (IsPassedOver t) (λ w. HasOwnNames t w.is_rooted (from_last w.names.items))) (state : Option PrefixNames) (until : SharesUntil (take i ts) state) where
+module _ (ts : List (Tree Span)) (i : ℕ) (t : Tree Span) (less : i < length ts) (here : t ≡ get_or ts i t)
+    (o : Option PrefixNames)
+    (known : MatchOption o (IsPassedOver t) (λ w. HasOwnNames t w.is_rooted (from_last w.names.items)))
+    (state : Option PrefixNames) (until : SharesUntil (take i ts) state) where
   one_more : take (i + 1) ts ≡ take i ts ++ t ∷ []
   one_more =
       let n : i + 1 ≡ suc i = omega arith in
@@ -206,47 +241,69 @@ module _ (ts : List (Tree Span)) (i : ℕ) (t : Tree Span) (less : i < length ts
 
   pub passed_on : o ≡ None → SharesUntil (take (i + 1) ts) state
   passed_on e = subst (λ v. SharesUntil v state) (sym one_more)
-      (pass_over (take i ts) t state until (subst (λ v. MatchOption v (IsPassedOver t) (λ w. HasOwnNames t w.is_rooted (from_last w.names.items))) e known))
+      (pass_over (take i ts) t state until (subst (λ v.
+      MatchOption v (IsPassedOver t) (λ w. HasOwnNames t w.is_rooted (from_last w.names.items))) e known))
 
   module _ (own : PrefixNames) (is : o ≡ Some own) where
     has_own : HasOwnNames t own.is_rooted (from_last own.names.items)
-    has_own = subst (λ v. MatchOption v (IsPassedOver t) (λ w. HasOwnNames t w.is_rooted (from_last w.names.items))) is known
+    has_own = subst (λ v.
+        MatchOption v (IsPassedOver t) (λ w. HasOwnNames t w.is_rooted (from_last w.names.items))) is known
 
-    narrower_by : (s : Option PrefixNames) → SharesUntil (take i ts) s → (narrower : PrefixNames) → NarrowsTo s own (Some narrower) → SharesUntil (take i ts ++ t ∷ []) (Some narrower)
+    narrower_by : (s : Option PrefixNames) → SharesUntil (take i ts) s → (narrower : PrefixNames)
+        → NarrowsTo s own (Some narrower) → SharesUntil (take i ts ++ t ∷ []) (Some narrower)
     narrower_by None h narrower k =
         let e : narrower ≡ own = cc in
-        subst (λ v. SharesUntil (take i ts ++ t ∷ []) (Some v)) (sym e) (take_first (take i ts) t own.is_rooted (from_last own.names.items) h has_own)
+        subst (λ v. SharesUntil (take i ts ++ t ∷ []) (Some v)) (sym e)
+        (take_first (take i ts) t own.is_rooted (from_last own.names.items) h has_own)
     narrower_by (Some s) h narrower k =
         let names = from_last narrower.names.items in
-        let one : HasOwnNames t s.is_rooted (from_last own.names.items) = subst (λ b. HasOwnNames t b (from_last own.names.items)) (sym k.0) has_own in
+        let one : HasOwnNames t s.is_rooted (from_last own.names.items) =
+        subst (λ b. HasOwnNames t b (from_last own.names.items)) (sym k.0) has_own in
         subst (λ b. SharesNames (take i ts ++ t ∷ []) b names) (sym k.1)
-        (narrow (take i ts) t s.is_rooted (from_last s.names.items) (from_last own.names.items) names h one k.2)
+        (narrow (take i ts) t s.is_rooted (from_last s.names.items)
+        (from_last own.names.items) names h one k.2)
 
-    pub narrowed_on : (narrower : PrefixNames) → NarrowsTo state own (Some narrower) → SharesUntil (take (i + 1) ts) (Some narrower)
-    narrowed_on narrower k = subst (λ v. SharesUntil v (Some narrower)) (sym one_more) (narrower_by state until narrower k)
+    pub narrowed_on : (narrower : PrefixNames) → NarrowsTo state own (Some narrower)
+        → SharesUntil (take (i + 1) ts) (Some narrower)
+    narrowed_on narrower k =
+        subst (λ v. SharesUntil v (Some narrower)) (sym one_more) (narrower_by state until narrower k)
 
-    refused : (s : Option PrefixNames) → SharesUntil (take i ts) s → NarrowsTo s own None → (b : Bool) → ¬ (AreShared ts b [])
+    refused : (s : Option PrefixNames) → SharesUntil (take i ts) s → NarrowsTo s own None → (b : Bool)
+        → ¬ (AreShared ts b [])
     refused None h k = absurd (let f : ⊥ = cc in f)
     refused (Some s) h k =
-        mixed_roots ts (take i ts) t s.is_rooted own.is_rooted (from_last s.names.items) (from_last own.names.items) (contained ts i) (i, less, sym here) h has_own k
+        mixed_roots ts (take i ts) t s.is_rooted own.is_rooted (from_last s.names.items)
+        (from_last own.names.items) (contained ts i) (i, less, sym here) h has_own k
 
-    pub refused_on : (rooted : Bool) (names : List (List ℕ)) → NarrowsTo state own None → rooted ≡ false → names ≡ [] → IsCommonPrefix ts rooted names
+    pub refused_on : (rooted : Bool) (names : List (List ℕ)) → NarrowsTo state own None → rooted ≡ false
+        → names ≡ [] → IsCommonPrefix ts rooted names
     refused_on rooted names k r n = mixed (refused state until k) r n
 
-module _ (ts : List (Tree Span)) (i : ℕ) (past : length ts ≤ i) (default : PrefixNames) (unrooted : default.is_rooted ≡ false) (nameless : from_last default.names.items ≡ []) where
+module _ (ts : List (Tree Span)) (i : ℕ) (past : length ts ≤ i) (default : PrefixNames)
+    (unrooted : default.is_rooted ≡ false) (nameless : from_last default.names.items ≡ []) where
   all_taken : (s : Option PrefixNames) → SharesUntil (take i ts) s → SharesUntil ts s
   all_taken s h = subst (λ v. SharesUntil v s) (take_all i ts past) h
 
-  common_of : (s : Option PrefixNames) → SharesUntil ts s → IsCommonPrefix ts (unwrap_or s default).is_rooted (from_last (unwrap_or s default).names.items)
+  common_of : (s : Option PrefixNames) → SharesUntil ts s
+      → IsCommonPrefix ts (unwrap_or s default).is_rooted (from_last (unwrap_or s default).names.items)
   common_of None h = no_names (λ t c. (h t c).nameless) unrooted nameless
   common_of (Some s) h = longest_shared ts s.is_rooted (from_last s.names.items) h
 
-  meant_of : (s : Option PrefixNames) → SharesUntil ts s → (a : Span) → BeginsWith (unwrap_or s default).is_rooted (alternation a (trees ts)) (map chars (from_last (unwrap_or s default).names.items))
-  meant_of None h a = none_begin (alternation a (trees ts)) default.is_rooted (from_last default.names.items) nameless
+  meant_of : (s : Option PrefixNames) → SharesUntil ts s → (a : Span)
+      → BeginsWith (unwrap_or s default).is_rooted (alternation a (trees ts))
+      (map chars (from_last (unwrap_or s default).names.items))
+  meant_of None h a =
+      none_begin (alternation a (trees ts)) default.is_rooted (from_last default.names.items) nameless
   meant_of (Some s) h a = all_begin ts s.is_rooted (from_last s.names.items) h a
 
-  pub ended_common : (s : Option PrefixNames) (w : PrefixNames) → SharesUntil (take i ts) s → w ≡ unwrap_or s default → IsCommonPrefix ts w.is_rooted (from_last w.names.items)
-  ended_common s w h e = subst (λ v. IsCommonPrefix ts v.is_rooted (from_last v.names.items)) (sym e) (common_of s (all_taken s h))
+  pub ended_common : (s : Option PrefixNames) (w : PrefixNames) → SharesUntil (take i ts) s
+      → w ≡ unwrap_or s default → IsCommonPrefix ts w.is_rooted (from_last w.names.items)
+  ended_common s w h e = subst (λ v. IsCommonPrefix ts v.is_rooted (from_last v.names.items)) (sym e)
+      (common_of s (all_taken s h))
 
-  pub ended_meant : (s : Option PrefixNames) (w : PrefixNames) → SharesUntil (take i ts) s → w ≡ unwrap_or s default → (a : Span) → BeginsWith w.is_rooted (alternation a (trees ts)) (map chars (from_last w.names.items))
-  ended_meant s w h e a = subst (λ v. BeginsWith v.is_rooted (alternation a (trees ts)) (map chars (from_last v.names.items))) (sym e) (meant_of s (all_taken s h) a)
+  pub ended_meant : (s : Option PrefixNames) (w : PrefixNames)
+      → SharesUntil (take i ts) s → w ≡ unwrap_or s default → (a : Span)
+      → BeginsWith w.is_rooted (alternation a (trees ts)) (map chars (from_last w.names.items))
+  ended_meant s w h e a =
+      subst (λ v. BeginsWith v.is_rooted (alternation a (trees ts)) (map chars (from_last v.names.items)))
+      (sym e) (meant_of s (all_taken s h) a)

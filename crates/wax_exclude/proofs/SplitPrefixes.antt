@@ -1,5 +1,7 @@
 -- Prefixes and their names.
-use Rattle.std.proofs.Common.{◌≡◌, ◌≢◌, ◌==◌, ◌∙◌, ℕ, Bool, true, false, cond, List, [], ◌∷◌, ◌++◌, ◌⊎◌, map, reverse, inl, inr, refl, sym, subst, ap, append_assoc, append-nil, chars, encode_utf8_all, string_bytes, String}
+use Rattle.std.proofs.Common.{◌≡◌, ◌≢◌, ◌==◌, ◌∙◌, ℕ, Bool, true, false, cond, List, [], ◌∷◌, ◌++◌, ◌⊎◌, map}
+use Rattle.std.proofs.Common.{reverse, inl, inr, refl, sym, subst, ap, append_assoc, append-nil, chars}
+use Rattle.std.proofs.Common.{encode_utf8_all, string_bytes, String}
 use Rattle.std.specs.Prelude.{filter}
 use Rattle.std.specs.Str.{IsUtf8}
 use Rattle.std.specs.List.{All, onto_first, slice_split}
@@ -33,14 +35,18 @@ some_name : (x : List ℕ) → ¬ (x ≡ []) → is_some_name x ≡ true
 some_name [] h = absurd (h refl)
 some_name (c ∷ x) h = refl
 
-first_name : (x : List ℕ) (rest : List (List ℕ)) → ¬ (x ≡ []) → filter is_some_name (x ∷ rest) ≡ x ∷ filter is_some_name rest
-first_name x rest h = ap (λ b. cond b (x ∷ filter is_some_name rest) (filter is_some_name rest)) (some_name x h)
+first_name : (x : List ℕ) (rest : List (List ℕ)) → ¬ (x ≡ [])
+    → filter is_some_name (x ∷ rest) ≡ x ∷ filter is_some_name rest
+first_name x rest h =
+    ap (λ b. cond b (x ∷ filter is_some_name rest) (filter is_some_name rest)) (some_name x h)
 
 one_name : (x : List ℕ) → ¬ (x ≡ []) → HasNoSlash x → names_in_path x ≡ x ∷ []
-one_name x some clean = ap (filter is_some_name) (slice_split_none (λ c. c == 47) x (plainly x clean)) ∙ first_name x [] some
+one_name x some clean = ap (filter is_some_name) (slice_split_none (λ c. c == 47) x (plainly x clean))
+    ∙ first_name x [] some
 
 more_names : (x y : List ℕ) → ¬ (x ≡ []) → HasNoSlash x → names_in_path (x ++ 47 ∷ y) ≡ x ∷ names_in_path y
-more_names x y some clean = ap (filter is_some_name) (slice_split_at (λ c. c == 47) x 47 y (plainly x clean) refl) ∙ first_name x (splits y) some
+more_names x y some clean = ap (filter is_some_name)
+    (slice_split_at (λ c. c == 47) x 47 y (plainly x clean) refl) ∙ first_name x (splits y) some
 
 clean_push : (x : List ℕ) (c : ℕ) → HasNoSlash x → c ≢ 47 → HasNoSlash (x ++ c ∷ [])
 clean_push [] c h n = (n, tt)
@@ -86,7 +92,8 @@ record Told (p : List ℕ) : Type 0 where
   whole : (p ≡ joined_names (first ∷ others)) ⊎ (p ≡ joined_names (first ∷ others) ++ 47 ∷ [])
 
 after_slash : (x y : List ℕ) → ¬ (HasEmptyName (x ++ 47 ∷ y)) → ¬ (HasEmptyName y)
-after_slash x y h k = h (x ++ 47 ∷ k.0, k.1, ap (λ v. x ++ 47 ∷ v) k.2 ∙ sym (append_assoc x (47 ∷ k.0) (47 ∷ 47 ∷ k.1)))
+after_slash x y h k =
+    h (x ++ 47 ∷ k.0, k.1, ap (λ v. x ++ 47 ∷ v) k.2 ∙ sym (append_assoc x (47 ∷ k.0) (47 ∷ 47 ∷ k.1)))
 
 not_again : (x : List ℕ) (d : ℕ) (r : List ℕ) → ¬ (HasEmptyName (x ++ 47 ∷ d ∷ r)) → d ≢ 47
 not_again x d r h e = h (x, r, ap (λ v. x ++ 47 ∷ v ∷ r) e)
@@ -99,7 +106,8 @@ one_more x y some clean t = record {
   parts = more_names x y some clean ∙ ap (λ v. x ∷ v) t.parts;
   whole = elim t.whole [
     | inl e ↦ inl (ap (λ v. x ++ 47 ∷ v) e)
-    | inr e ↦ inr (ap (λ v. x ++ 47 ∷ v) e ∙ sym (append_assoc x (47 ∷ joined_names (t.first ∷ t.others)) (47 ∷ [])))
+    | inr e ↦ inr (ap (λ v. x ++ 47 ∷ v) e
+        ∙ sym (append_assoc x (47 ∷ joined_names (t.first ∷ t.others)) (47 ∷ [])))
   ];
 }
 
@@ -131,10 +139,12 @@ told x some clean (c ∷ d ∷ r) h = elim (cases_eq c 47) [
   | inl e ↦ (
       let k : ¬ (HasEmptyName (x ++ 47 ∷ d ∷ r)) = subst (λ v. ¬ (HasEmptyName (x ++ v ∷ d ∷ r))) e h in
       subst (λ v. Told (x ++ v ∷ d ∷ r)) (sym e)
-      (one_more x (d ∷ r) some clean (told (d ∷ []) (λ q. (cc)) (not_again x d r k, tt) r (after_slash x (d ∷ r) k))))
+      (one_more x (d ∷ r) some clean
+      (told (d ∷ []) (λ q. (cc)) (not_again x d r k, tt) r (after_slash x (d ∷ r) k))))
   | inr n ↦ (
       let a : (x ++ c ∷ []) ++ d ∷ r ≡ x ++ c ∷ d ∷ r = append_assoc x (c ∷ []) (d ∷ r) in
-      subst Told a (told (x ++ c ∷ []) (some_push x c) (clean_push x c clean n) (d ∷ r) (subst (λ v. ¬ (HasEmptyName v)) (sym a) h)))
+      subst Told a (told (x ++ c ∷ []) (some_push x c) (clean_push x c clean n) (d ∷ r)
+      (subst (λ v. ¬ (HasEmptyName v)) (sym a) h)))
 ]
 
 some_first : (t : List ℕ) (ts : List (List ℕ)) → ¬ (t ∷ ts ≡ [])
@@ -144,7 +154,8 @@ relative : (p : List ℕ) → is_rooted p ≡ false → Told p → SplitsInto p 
 relative p e t = record {
   root = refl;
   parts = refl;
-  whole = subst (λ b. (p ≡ text_at b (names_in_path p)) ⊎ (¬ (names_in_path p ≡ []) × (p ≡ text_at b (names_in_path p) ++ 47 ∷ []))) (sym e)
+  whole = subst (λ b. (p ≡ text_at b (names_in_path p))
+      ⊎ (¬ (names_in_path p ≡ []) × (p ≡ text_at b (names_in_path p) ++ 47 ∷ []))) (sym e)
       (subst (λ ns. (p ≡ joined_names ns) ⊎ (¬ (ns ≡ []) × (p ≡ joined_names ns ++ 47 ∷ []))) (sym t.parts)
       (elim t.whole [ inl w ↦ inl w | inr w ↦ inr (some_first t.first t.others, w) ]));
 }
@@ -153,14 +164,19 @@ rooted : (p : List ℕ) → Told p → SplitsInto (47 ∷ p) true (names_in_path
 rooted p t = record {
   root = refl;
   parts = refl;
-  whole = subst (λ ns. (47 ∷ p ≡ 47 ∷ joined_names ns) ⊎ (¬ (ns ≡ []) × (47 ∷ p ≡ 47 ∷ (joined_names ns ++ 47 ∷ [])))) (sym t.parts)
-      (elim t.whole [ inl w ↦ inl (ap (λ v. 47 ∷ v) w) | inr w ↦ inr (some_first t.first t.others, ap (λ v. 47 ∷ v) w) ]);
+  whole = subst (λ ns. (47 ∷ p ≡ 47 ∷ joined_names ns)
+      ⊎ (¬ (ns ≡ []) × (47 ∷ p ≡ 47 ∷ (joined_names ns ++ 47 ∷ [])))) (sym t.parts)
+      (elim t.whole [
+        | inl w ↦ inl (ap (λ v. 47 ∷ v) w)
+        | inr w ↦ inr (some_first t.first t.others, ap (λ v. 47 ∷ v) w)
+      ]);
 }
 
 pub splits_into : (p : List ℕ) → ¬ (HasEmptyName p) → SplitsInto p (is_rooted p) (names_in_path p)
 splits_into [] h = record { root = refl; parts = refl; whole = inl refl }
 splits_into (c ∷ []) h = elim (cases_eq c 47) [
-  | inl e ↦ subst (λ v. SplitsInto (v ∷ []) (is_rooted (v ∷ [])) (names_in_path (v ∷ []))) (sym e) (record { root = refl; parts = refl; whole = inl refl })
+  | inl e ↦ subst (λ v. SplitsInto (v ∷ []) (is_rooted (v ∷ [])) (names_in_path (v ∷ []))) (sym e)
+      (record { root = refl; parts = refl; whole = inl refl })
   | inr n ↦ relative (c ∷ []) (differ c n) (told (c ∷ []) (λ q. (cc)) (n, tt) [] h)
 ]
 splits_into (c ∷ d ∷ p) h = elim (cases_eq c 47) [
@@ -176,7 +192,8 @@ splits_into (c ∷ d ∷ p) h = elim (cases_eq c 47) [
 same_text : (x y p : List ℕ) → IsUtf8 x → IsUtf8 y → chars x ≡ p → chars y ≡ p → x ≡ y
 same_text x y p u v e f = sym (encodes-chars x u) ∙ ap encode_utf8_all (e ∙ sym f) ∙ encodes-chars y v
 
-pub same_split : (p : List ℕ) (b c : Bool) (names others : List (List ℕ)) → PrefixSplitsInto p b names → PrefixSplitsInto p c others → (b ≡ c) × (names ≡ others)
+pub same_split : (p : List ℕ) (b c : Bool) (names others : List (List ℕ)) → PrefixSplitsInto p b names
+    → PrefixSplitsInto p c others → (b ≡ c) × (names ≡ others)
 same_split p b c names others h k =
     let e : h.text ≡ k.text = same_text h.text k.text p h.encoded k.encoded h.characters k.characters in
     (h.split.root ∙ ap is_rooted e ∙ sym k.split.root, h.split.parts ∙ ap names_in_path e ∙ sym k.split.parts)
@@ -185,7 +202,8 @@ same_split p b c names others h k =
 
 pub reversed_last : (xs : List (String Global)) → from_last (reverse xs) ≡ map string_bytes xs
 reversed_last [] = refl
-reversed_last (x ∷ xs) = ap from_last (reverse-append (x ∷ []) xs) ∙ from_last_end (reverse xs) x ∙ ap (λ v. string_bytes x ∷ v) (reversed_last xs)
+reversed_last (x ∷ xs) = ap from_last (reverse-append (x ∷ []) xs) ∙ from_last_end (reverse xs) x
+    ∙ ap (λ v. string_bytes x ∷ v) (reversed_last xs)
 
 -- ---- two `/` side by side
 
@@ -195,7 +213,8 @@ empty_first p = ([], p, refl)
 pub empty_later : (c : ℕ) (p : List ℕ) → HasEmptyName p → HasEmptyName (c ∷ p)
 empty_later c p h = (c ∷ h.0, h.1, ap (λ v. c ∷ v) h.2)
 
-pub empty_past : (c : ℕ) (p : List ℕ) → HasEmptyName (c ∷ p) → HasEmptyName p ⊎ ((d : List ℕ) × (c ∷ p ≡ 47 ∷ 47 ∷ d))
+pub empty_past : (c : ℕ) (p : List ℕ) → HasEmptyName (c ∷ p)
+    → HasEmptyName p ⊎ ((d : List ℕ) × (c ∷ p ≡ 47 ∷ 47 ∷ d))
 empty_past c p h = past h.0 h.2 where
   past : (x : List ℕ) → c ∷ p ≡ x ++ 47 ∷ 47 ∷ h.1 → HasEmptyName p ⊎ ((d : List ℕ) × (c ∷ p ≡ 47 ∷ 47 ∷ d))
   past [] e = inr (h.1, e)
@@ -205,7 +224,8 @@ pub pair_here : (c : ℕ) (p : List ℕ) → c ≡ 47 → is_rooted p ≡ true �
 pair_here c [] e f = absurd (false≢true f)
 pair_here c (d ∷ p) e f = ([], p, (let g : d ≡ 47 = eqb-true d 47 f in λ i. e i ∷ g i ∷ p))
 
-pub pair_past : (c : ℕ) (p : List ℕ) → (c ≡ 47 → is_rooted p ≡ true → ⊥) → HasEmptyName (c ∷ p) → HasEmptyName p
+pub pair_past : (c : ℕ) (p : List ℕ) → (c ≡ 47 → is_rooted p ≡ true → ⊥)
+    → HasEmptyName (c ∷ p) → HasEmptyName p
 pair_past c p n h = elim (empty_past c p h) [
   | inl k ↦ k
   | inr k ↦ absurd (apart p k.0 k.1 n)

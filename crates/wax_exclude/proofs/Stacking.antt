@@ -6,7 +6,8 @@ use Rattle.wax_walk.specs.Forest.{Forest, nothing, item, lists, preorder, filter
 use Rattle.wax_walk.specs.Given.{Facts, Mark, kept, alone, with_tree, Given, entry, fault, no_memory}
 use Rattle.wax_walk.specs.Given.{combined_mark, is_cut, changed_by, cut_by}
 use Rattle.wax_exclude.specs.Wanted.{stacked, is_kept_entry}
-use Rattle.wax_exclude.specs.inner.Stacks.{keeps, all_keep, is_left, LeavesOutWhole, LeavesOutAll, IsEntryLeftOut}
+use Rattle.wax_exclude.specs.inner.Stacks.{keeps, all_keep, is_left, LeavesOutWhole, LeavesOutAll}
+use Rattle.wax_exclude.specs.inner.Stacks.{IsEntryLeftOut}
 use Rattle.wax_exclude.specs.inner.Stacks.{PassesDown, AllPassDown}
 
 module _ (rule : Facts → Mark) (rules : List (Facts → Mark)) where

@@ -2,7 +2,8 @@
 use Rattle.std.proofs.Common.{◌≡◌, cond, List, [], ◌∷◌, ◌++◌, map, refl, sym, ap, ◌∙◌}
 use Rattle.wax_walk.specs.Candidates.{Candidate, of_candidate}
 use Rattle.wax_walk.specs.Forest.{Forest, nothing, item, lists}
-use Rattle.wax_walk.specs.Given.{Facts, Mark, kept, alone, with_tree, combined_mark, Given, entry, fault, no_memory}
+use Rattle.wax_walk.specs.Given.{Facts, Mark, kept, alone, with_tree, combined_mark, Given, entry, fault}
+use Rattle.wax_walk.specs.Given.{no_memory}
 use Rattle.wax_walk.specs.Given.{changed_by, cut_by}
 use Rattle.wax_exclude.specs.Wanted.{Filter, filter_mark, filter_rules, stacked}
 use Rattle.wax_tree.specs.Programs.{any_mark}
@@ -37,7 +38,8 @@ unruled nothing = refl
 unruled (lists path after) = ap (lists path) (unruled after)
 unruled (item x below after) = changed_nothing item nothing x (unruled below) (unruled after)
 
-pub stacked_any : (rules : List (Facts → Mark)) (f : Forest Given) → stacked rules f ≡ ruled (any_mark rules) f
+pub stacked_any : (rules : List (Facts → Mark)) (f : Forest Given)
+    → stacked rules f ≡ ruled (any_mark rules) f
 stacked_any [] f = sym (unruled f)
 stacked_any (rule ∷ rules) f = stacked_any rules (ruled rule f) ∙ filtered_twice rule (any_mark rules) f
 
@@ -78,7 +80,8 @@ any_both (rule ∷ rules) others f = combined_thrice (rule f) (any_mark rules f)
 -- ---- courses
 
 pub course_more : (rules others : List (Facts → Mark)) (c : Course)
-    → ruled_course (any_mark others) (ruled_course (any_mark rules) c) ≡ ruled_course (any_mark (rules ++ others)) c
+    → ruled_course (any_mark others) (ruled_course (any_mark rules) c)
+    ≡ ruled_course (any_mark (rules ++ others)) c
 course_more rules others c = course_twice (any_mark rules) (any_mark others) c
     ∙ (λ i. ruled_course (λ f. any_both rules others f i) c)
 
@@ -87,4 +90,5 @@ pub course_unruled : (c : Course) → ruled_course (any_mark []) c ≡ c
 course_unruled stop = refl
 course_unruled unknown = refl
 course_unruled (asks q c) = ap (asks q) (course_unruled c)
-course_unruled (yields x below after) = changed_nothing yields stop x (course_unruled below) (course_unruled after)
+course_unruled (yields x below after) =
+    changed_nothing yields stop x (course_unruled below) (course_unruled after)

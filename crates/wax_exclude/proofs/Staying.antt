@@ -30,7 +30,8 @@ Each P nothing = ⊤
 Each P (item x below after) = Each P below × Each P after
 Each P (lists path after) = P path × Each P after
 
-pub each_more : (P Q : List ℕ → Type 0) → ((path : List ℕ) → P path → Q path) → (f : Forest Given) → Each P f → Each Q f
+pub each_more : (P Q : List ℕ → Type 0) → ((path : List ℕ) → P path → Q path) → (f : Forest Given)
+    → Each P f → Each Q f
 each_more P Q g nothing h = tt
 each_more P Q g (item x below after) h = (each_more P Q g below h.0, each_more P Q g after h.1)
 each_more P Q g (lists path after) h = (g path h.0, each_more P Q g after h.1)
@@ -46,7 +47,8 @@ module _ (P : List ℕ → Type 0) where
   each_unless true x below after h k = each_followed below after h k
   each_unless false x below after h k = (h, k)
 
-  each_if : (b : Bool) (path : List ℕ) (f : Forest Given) → P path → Each P f → Each P (cond b (lists path f) nothing)
+  each_if : (b : Bool) (path : List ℕ) (f : Forest Given) → P path → Each P f
+      → Each P (cond b (lists path f) nothing)
   each_if true path f p h = (p, h)
   each_if false path f p h = tt
 
@@ -87,7 +89,8 @@ module _ (Of : Facts → List ℕ → Type 0) where
   lie_followed (item x below after) g h k = (h.0, h.1, lie_followed after g h.2 k)
   lie_followed (lists path after) g h k = lie_followed after g h k
 
-  pub lie_unless : (b : Bool) (x : Given) (below after : Forest Given) → Each (OfItem x) below → Lie below → Lie after
+  pub lie_unless : (b : Bool) (x : Given) (below after : Forest Given) → Each (OfItem x) below
+      → Lie below → Lie after
       → Lie (cond b (followed_by below after) (item x below after))
   lie_unless true x below after e h k = lie_followed below after h k
   lie_unless false x below after e h k = (e, h, k)
@@ -119,7 +122,8 @@ module _ (Of : Facts → List ℕ → Type 0) where
   still rule (fault kind depth at) path h = h
   still rule no_memory path h = h
 
-  pub lie_ruled : (rule : Facts → Mark) (f : Forest Given) → Lie f → Lie (filtered (changed_by rule) (cut_by rule) f)
+  pub lie_ruled : (rule : Facts → Mark) (f : Forest Given) → Lie f
+      → Lie (filtered (changed_by rule) (cut_by rule) f)
   lie_ruled rule f h = lie_filtered (changed_by rule) (cut_by rule) (still rule) f h
 
 -- ---- a filter
@@ -149,13 +153,15 @@ module _ (change : Given → Given) (cut : Given → Bool) (Gone : List ℕ → 
       (All-weaker (Stays next) (Stays (now ++ next)) (stays_right now next) ys k)
 
   stay_item : (below after : Forest Given) (b : Bool) → (b ≡ true → All Gone (listings below)) → Stay below
-      → Stay after → All (Stays (listings (cond b nothing (after_filter below)) ++ listings (after_filter after)))
+      → Stay after
+      → All (Stays (listings (cond b nothing (after_filter below)) ++ listings (after_filter after)))
       (listings below ++ listings after)
   stay_item below after true g h k =
       stay_both (listings below) (listings after) [] (listings (after_filter after))
       (All-weaker Gone (Stays []) (λ path z. inr z) (listings below) (g refl)) k
   stay_item below after false g h k =
-      stay_both (listings below) (listings after) (listings (after_filter below)) (listings (after_filter after))
+      stay_both (listings below) (listings after) (listings (after_filter below))
+      (listings (after_filter after))
       h k
 
   stay_lists : (path : List ℕ) (f : Forest Given) → Stay f → Stay (lists path f)
@@ -167,14 +173,17 @@ module _ (change : Given → Given) (cut : Given → Bool) (Gone : List ℕ → 
 
   module _ (Of : Facts → List ℕ → Type 0)
       (gone : (m : Mark) (f : Facts) (path : List ℕ) → Of f path → cut (entry m f) ≡ true → Gone path) where
-    all_gone : (x : Given) (below : Forest Given) → Each (OfItem Of x) below → cut x ≡ true → All Gone (listings below)
+    all_gone : (x : Given) (below : Forest Given) → Each (OfItem Of x) below → cut x ≡ true
+        → All Gone (listings below)
     all_gone (entry m f) below h e =
         all_listed Gone below (each_more (Of f) Gone (λ path o. gone m f path o e) below h)
     all_gone (fault kind path depth) below h e =
         all_listed Gone below (each_more (λ path. ⊥) Gone (λ path o. absurd o) below h)
-    all_gone no_memory below h e = all_listed Gone below (each_more (λ path. ⊥) Gone (λ path o. absurd o) below h)
+    all_gone no_memory below h e =
+        all_listed Gone below (each_more (λ path. ⊥) Gone (λ path o. absurd o) below h)
 
-    -- if what lies below the items that are cut is lost, each folder is still listed, or was lost to the filter
+    -- if what lies below the items that are cut is lost, each folder is still
+    -- listed, or was lost to the filter
     pub stay : (f : Forest Given) → Lie Of f → Stay f
     stay nothing h = All-nil (Stays [])
     stay (item x below after) h =
@@ -187,12 +196,14 @@ module _ (Of : Facts → List ℕ → Type 0) (Gone : List ℕ → Type 0) where
   -- what lies below the entries that the rules exclude with everything below them is lost
   abbrev pub AllLose : List (Facts → Mark) → Type 0
   AllLose [] = ⊤
-  AllLose (rule ∷ rules) = ((f : Facts) (path : List ℕ) → Of f path → rule f ≡ with_tree → Gone path) × AllLose rules
+  AllLose (rule ∷ rules) =
+      ((f : Facts) (path : List ℕ) → Of f path → rule f ≡ with_tree → Gone path) × AllLose rules
 
   pub stay_stacked : (rules : List (Facts → Mark)) → AllLose rules → (f : Forest Given) → Lie Of f
       → All (λ path. Contains (listings (stacked rules f)) path ⊎ Gone path) (listings f)
   stay_stacked [] g f h =
-      All-weaker (Contains (listings f)) (λ path. Contains (listings f) path ⊎ Gone path) (λ path c. inl c) (listings f)
+      All-weaker (Contains (listings f)) (λ path. Contains (listings f) path ⊎ Gone path)
+      (λ path c. inl c) (listings f)
       (All-contains_itself (listings f))
   stay_stacked (rule ∷ rules) g f h =
       let change = changed_by rule in
@@ -234,7 +245,8 @@ module _ (scope : WalkScope) (start : List ℕ) (rooted : Bool) (prefix : List (
         (at_join rooted at (prefix ++ names) x a.place p);
   }
 
-  under_more : (names : List (List ℕ)) (x : List ℕ) → IsPlain x → (path : List ℕ) → Under (names ++ x ∷ []) path
+  under_more : (names : List (List ℕ)) (x : List ℕ) → IsPlain x → (path : List ℕ)
+      → Under (names ++ x ∷ []) path
       → Under names path
   under_more names x p path (more, plain, e) =
       (x ∷ more, (p, plain), e ∙ ap (path_from start) (append_assoc names (x ∷ []) more))
@@ -283,7 +295,8 @@ module _ (scope : WalkScope) (start : List ℕ) (rooted : Bool) (prefix : List (
   abbrev Lies : Forest Given → Type 0
   Lies f = Lie OfNames f
 
-  lie_folder : (at : Location) (names : List (List ℕ)) (b c : Bool) (inner rest : Forest Given) → IsAt at names
+  lie_folder : (at : Location) (names : List (List ℕ)) (b c : Bool) (inner rest : Forest Given)
+      → IsAt at names
       → Each (Under names) inner → Lies inner → Lies rest
       → Lies (cond b (followed_by (cond c (lists at.path inner) nothing) rest)
       (item (plain_entry at Folder) (cond c (lists at.path inner) nothing) rest))
@@ -302,17 +315,20 @@ module _ (scope : WalkScope) (start : List ℕ) (rooted : Bool) (prefix : List (
   lie_inside at names end a t = tt
   lie_inside at names (leaf x link rest) a t =
       let c = child_location at x in
-      lie_leaf c (leaf_kind link) (nat_lt c.depth scope.min) (in_folder at rest) (lie_inside at names rest a t.1)
+      lie_leaf c (leaf_kind link) (nat_lt c.depth scope.min) (in_folder at rest)
+      (lie_inside at names rest a t.1)
   lie_inside at names (folder x inner rest) a t =
       let c = child_location at x in
       let h = at_child at names x a t.0 in
       lie_folder c (names ++ x ∷ []) (nat_lt c.depth scope.min) (nat_lt c.depth scope.max) (in_folder c inner)
-      (in_folder at rest) h (under_items c (names ++ x ∷ []) inner h t.1) (lie_inside c (names ++ x ∷ []) inner h t.1)
+      (in_folder at rest) h (under_items c (names ++ x ∷ []) inner h t.1)
+      (lie_inside c (names ++ x ∷ []) inner h t.1)
       (lie_inside at names rest a t.2)
   lie_inside at names (sealed x rest) a t =
       let c = child_location at x in
       lie_folder c (names ++ x ∷ []) (nat_lt c.depth scope.min) (nat_lt c.depth scope.max)
-      (item (fault Listing c.path c.depth) nothing nothing) (in_folder at rest) (at_child at names x a t.0) (tt, tt)
+      (item (fault Listing c.path c.depth) nothing nothing) (in_folder at rest)
+      (at_child at names x a t.0) (tt, tt)
       (tt, tt, tt) (lie_inside at names rest a t.1)
   lie_inside at names (misnamed x kind rest) a t = (tt, tt, lie_inside at names rest a t)
   lie_inside at names (unread rest) a t = (tt, tt, lie_inside at names rest a t)
@@ -323,11 +339,13 @@ module _ (scope : WalkScope) (start : List ℕ) (rooted : Bool) (prefix : List (
       → Lies (plain_at scope at s nothing)
   lie_at at (a_leaf link) e a t = lie_leaf at (leaf_kind link) (nat_lt at.depth scope.min) nothing tt
   lie_at at (a_folder l) e a t =
-      let h : IsAt at [] = record { path_is = e; place = subst (λ v. At rooted at v) (sym (append-nil prefix)) a } in
+      let h : IsAt at [] =
+      record { path_is = e; place = subst (λ v. At rooted at v) (sym (append-nil prefix)) a } in
       lie_folder at [] (nat_lt at.depth scope.min) (nat_lt at.depth scope.max) (in_folder at l) nothing h
       (under_items at [] l h t) (lie_inside at [] l h t) tt
   lie_at at a_sealed e a t =
-      let h : IsAt at [] = record { path_is = e; place = subst (λ v. At rooted at v) (sym (append-nil prefix)) a } in
+      let h : IsAt at [] =
+      record { path_is = e; place = subst (λ v. At rooted at v) (sym (append-nil prefix)) a } in
       lie_folder at [] (nat_lt at.depth scope.min) (nat_lt at.depth scope.max)
       (item (fault Listing at.path at.depth) nothing nothing) nothing h (tt, tt) (tt, tt, tt) tt
   lie_at at missing e a t = (tt, tt, tt)

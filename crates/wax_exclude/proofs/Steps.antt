@@ -1,5 +1,7 @@
 -- Steps of loops over tokens, components and programs.
-use Rattle.std.proofs.Common.{◌≡◌, ◌≢◌, ◌↔◌, ◌∙◌, ◌+◌, ◌-◌, ◌<◌, ℕ, suc, Bool, true, false, List, [], ◌∷◌, ◌++◌, Some, length, take, drop, get_or, slice_get, inl, inr, refl, sym, ap, subst, arith, append_assoc}
+use Rattle.std.proofs.Common.{◌≡◌, ◌≢◌, ◌↔◌, ◌∙◌, ◌+◌, ◌-◌, ◌<◌, ℕ, suc, Bool, true, false, List, [], ◌∷◌}
+use Rattle.std.proofs.Common.{◌++◌, Some, length, take, drop, get_or, slice_get, inl, inr, refl, sym, ap}
+use Rattle.std.proofs.Common.{subst, arith, append_assoc}
 use Rattle.std.specs.List.{before_first, position_or_len}
 use Rattle.std.proofs.lemmas.List.{drop_more}
 use Rattle.wax_program.specs.Machine.{Accepts}
@@ -15,37 +17,49 @@ use Rattle.wax_exclude.specs.Compiled.{SomeAccepts}
 one_more : {X : Type 0} (n : ℕ) (x : X) (xs : List X) → take (1 + n) (x ∷ xs) ≡ x ∷ take n xs
 one_more n x xs = let e : 1 + n ≡ suc n = omega arith in ap (λ k. take k (x ∷ xs)) e
 
-first_kept : {X : Type 0} (p : X → Bool) (x : X) (xs : List X) → p x ≡ false → before_first p (x ∷ xs) ≡ x ∷ before_first p xs
+first_kept : {X : Type 0} (p : X → Bool) (x : X) (xs : List X) → p x ≡ false
+    → before_first p (x ∷ xs) ≡ x ∷ before_first p xs
 first_kept p x xs e = rw e (one_more (position_or_len p xs) x xs)
 
 first_cut : {X : Type 0} (p : X → Bool) (x : X) (xs : List X) → p x ≡ true → before_first p (x ∷ xs) ≡ []
 first_cut p x xs e = rw e refl
 
-module _ {X : Type 0} (p : X → Bool) (found xs all : List X) (i : ℕ) (x : X) (in' : i < length xs) (here : x ≡ get_or xs i x) where
+module _ {X : Type 0} (p : X → Bool) (found xs all : List X) (i : ℕ) (x : X) (in' : i < length xs)
+    (here : x ≡ get_or xs i x) where
   split : drop i xs ≡ x ∷ drop (i + 1) xs
   split = drop_more xs i x in' ∙ ap (λ z. z ∷ drop (i + 1) xs) (sym here)
 
-  pub kept_next : p x ≡ false → found ++ before_first p (drop i xs) ≡ all → (found ++ x ∷ []) ++ before_first p (drop (i + 1) xs) ≡ all
-  kept_next e h = append_assoc found (x ∷ []) (before_first p (drop (i + 1) xs)) ∙ ap (λ z. found ++ z) (sym (ap (before_first p) split ∙ first_kept p x (drop (i + 1) xs) e)) ∙ h
+  pub kept_next : p x ≡ false → found ++ before_first p (drop i xs) ≡ all
+      → (found ++ x ∷ []) ++ before_first p (drop (i + 1) xs) ≡ all
+  kept_next e h = append_assoc found (x ∷ []) (before_first p (drop (i + 1) xs))
+      ∙ ap (λ z. found ++ z) (sym (ap (before_first p) split ∙ first_kept p x (drop (i + 1) xs) e)) ∙ h
 
   pub cut_here : p x ≡ true → found ++ before_first p (drop i xs) ≡ all → found ++ [] ≡ all
-  cut_here e h = ap (λ z. found ++ z) (sym (ap (before_first p) split ∙ first_cut p x (drop (i + 1) xs) e)) ∙ h
+  cut_here e h =
+      ap (λ z. found ++ z) (sym (ap (before_first p) split ∙ first_cut p x (drop (i + 1) xs) e)) ∙ h
 
 -- ---- programs
 
-module _ (s : List ℕ) (programs : List Instructions) (i : ℕ) (p : Instructions) (in' : i < length programs) (here : p ≡ get_or programs i p) where
+module _ (s : List ℕ) (programs : List Instructions) (i : ℕ) (p : Instructions) (in' : i < length programs)
+    (here : p ≡ get_or programs i p) where
   at_next : drop i programs ≡ p ∷ drop (i + 1) programs
   at_next = drop_more programs i p in' ∙ ap (λ z. z ∷ drop (i + 1) programs) (sym here)
 
-  pub refused_next : (Accepts p.0 0 s → ⊥) → SomeAccepts (drop i programs) s ↔ SomeAccepts programs s → SomeAccepts (drop (i + 1) programs) s ↔ SomeAccepts programs s
-  refused_next n h = ((λ k. h.0 (subst (λ z. SomeAccepts z s) (sym at_next) (inr k))), (λ k. elim (subst (λ z. SomeAccepts z s) at_next (h.1 k)) [ inl a ↦ absurd (n a) | inr q ↦ q ]))
+  pub refused_next : (Accepts p.0 0 s → ⊥) → SomeAccepts (drop i programs) s ↔ SomeAccepts programs s
+      → SomeAccepts (drop (i + 1) programs) s ↔ SomeAccepts programs s
+  refused_next n h = (
+    (λ k. h.0 (subst (λ z. SomeAccepts z s) (sym at_next) (inr k))),
+    (λ k. elim (subst (λ z. SomeAccepts z s) at_next (h.1 k)) [ inl a ↦ absurd (n a) | inr q ↦ q ]),
+  )
 
-  pub accepted_here : Accepts p.0 0 s → SomeAccepts (drop i programs) s ↔ SomeAccepts programs s → SomeAccepts programs s
+  pub accepted_here : Accepts p.0 0 s → SomeAccepts (drop i programs) s ↔ SomeAccepts programs s
+      → SomeAccepts programs s
   accepted_here a h = h.0 (subst (λ z. SomeAccepts z s) (sym at_next) (inl a))
 
 -- ---- the last token, and the only one
 
-pub wild_last : {A : Type 0} (ts : List (Tree A)) (x : Tree A) → slice_get ts (length ts - 1) ≡ Some x → ends_wild (trees ts) ≡ is_tree_wildcard x
+pub wild_last : {A : Type 0} (ts : List (Tree A)) (x : Tree A) → slice_get ts (length ts - 1) ≡ Some x
+    → ends_wild (trees ts) ≡ is_tree_wildcard x
 wild_last [] x e = cc
 wild_last (t ∷ []) x e = let f : t ≡ x = cc in ap is_tree_wildcard f
 wild_last (t ∷ u ∷ ts) x e =

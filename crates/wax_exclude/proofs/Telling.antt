@@ -1,10 +1,12 @@
 -- What a walk yielded is the walk of a tree that answers as the directory did.
-use Rattle.std.proofs.Common.{◌≡◌, ◌∙◌, ◌⊎◌, Bool, true, false, List, [], ◌∷◌, filter, refl, sym, ap, subst, inl, inr, arith}
+use Rattle.std.proofs.Common.{◌≡◌, ◌∙◌, ◌⊎◌, Bool, true, false, List, [], ◌∷◌, filter, refl, sym, ap, subst}
+use Rattle.std.proofs.Common.{inl, inr, arith}
 use Rattle.std.specs.Prelude.{if◌then◌else◌}
 use Rattle.std.proofs.lemmas.Bool.{le-ltb, lt-ltb}
 use Rattle.wax_directory.specs.History.{Answer}
 use Rattle.wax_directory.specs.Law.{Law}
-use Rattle.wax_directory.specs.Shown.{Items, Shown, a_folder, a_leaf, a_sealed, end, failing, folder, leaf, misnamed}
+use Rattle.wax_directory.specs.Shown.{Items, Shown, a_folder, a_leaf, a_sealed, end, failing, folder, leaf}
+use Rattle.wax_directory.specs.Shown.{misnamed}
 use Rattle.wax_directory.specs.Shown.{missing, not_text, sealed, unread}
 use Rattle.wax_tree.specs.Programs.{any_mark}
 use Rattle.wax_tree.proofs.Answered.{along_yields, cutting_kept, lacks_alone, nothing_yields}
@@ -15,10 +17,12 @@ use Rattle.wax_tree.specs.Prefix.{ArePlain}
 use Rattle.wax_tree.specs.Courses.{AreNamed, IsNamed}
 use Rattle.wax_tree.specs.Follows.{AreDistinctAlong}
 use Rattle.wax_walk.proofs.Courses.{begins_whole, comes_first}
-use Rattle.wax_walk.proofs.Filtered.{Yields, filtered_begins, opened_yields, pruned_begins, pruned_ruled, ruled_course, ruled_yields, yields_items}
+use Rattle.wax_walk.proofs.Filtered.{Yields, filtered_begins, opened_yields, pruned_begins, pruned_ruled}
+use Rattle.wax_walk.proofs.Filtered.{ruled_course, ruled_yields, yields_items}
 use Rattle.wax_walk.proofs.Following.{lacks_filtered}
 use Rattle.wax_walk.specs.Candidates.{Candidate, of_candidate}
-use Rattle.wax_walk.specs.Pruned.{IsPrunedBy, all_folders, opened_forest, opened_course, pruned_course, these_folders}
+use Rattle.wax_walk.specs.Pruned.{IsPrunedBy, all_folders, opened_forest, opened_course, pruned_course}
+use Rattle.wax_walk.specs.Pruned.{these_folders}
 use Rattle.wax_walk.specs.Ruled.{IsMarkBy}
 use Rattle.wax_walk.specs.Collected.{EndsThere, Took, TookCourse, cut_short, whole}
 use Rattle.wax_walk.specs.Course.{Course, CutsShort, IsFiltered, IsStartOf, answers, calls_of, items_of}
@@ -34,7 +38,8 @@ use Rattle.wax_exclude.specs.Feeds.{ruled_feed}
 use Rattle.wax_exclude.specs.GlobRequests.{CanBegin, GlobRequest, is_beyond, walk_for}
 use Rattle.wax_exclude.specs.Law.{WalkLaw}
 use Rattle.wax_exclude.specs.Premises.{ArePlainItems, IsPlainShown}
-use Rattle.wax_exclude.specs.RuledWalks.{RuledWalk, WalkTakes, exceeds_range, lacking, origin_course, ruled_forest}
+use Rattle.wax_exclude.specs.RuledWalks.{RuledWalk, WalkTakes, exceeds_range, lacking, origin_course}
+use Rattle.wax_exclude.specs.RuledWalks.{ruled_forest}
 use Rattle.wax_exclude.specs.RuledWalks.{walk_course, walks}
 use Rattle.wax_exclude.specs.Told.{Answering, FeedsAnswered, KeepsAnswered, LeavesAnswered, ToldInPart}
 use Rattle.wax_exclude.specs.Told.{as_told, in_part, keeps_all, keeps_in_part, ruled_kept, walk_calls}
@@ -75,20 +80,24 @@ module _ (walk : RuledWalk) (filters : Course → Course → Type 0) where
       (omega (arith, short)) h in
       let course : left d ≡ walk_course walk s.shown =
       (λ i. left (s.course i))
-      ∙ ap (λ b. if b then stop else left (origin_course walk.walked walk.origin s.shown)) (sym (le-ltb _ _ fits)) in
+      ∙ ap (λ b. if b then stop else left (origin_course walk.walked walk.origin s.shown))
+      (sym (le-ltb _ _ fits)) in
       walks s.shown s.named s.distinct (subst (IsStartOf e) course (starts c d e f b))
   origin_takes starts lacks stops c e plain (begin.lacking b) f = lacking (lacks c e f b)
   origin_takes starts lacks stops c e plain (beyond l b) f =
       let course : left stop ≡ walk_course walk missing =
-      stops ∙ ap (λ b. if b then stop else left (origin_course walk.walked walk.origin missing)) (sym (lt-ltb _ _ l)) in
+      stops ∙ ap (λ b. if b then stop else left (origin_course walk.walked walk.origin missing))
+      (sym (lt-ltb _ _ l)) in
       walks missing tt (distinct_missing walk.origin.names) (subst (IsStartOf e) course (starts c stop e f b))
 
 -- what its rules leave of what its origin may take, if it opens all folders
 pub ruled_takes : (walk : RuledWalk) (rule : Candidate → Mark) (c e : Course) → walk.opening ≡ all_folders
-    → ArePlain walk.origin.names → of_candidate rule ≡ any_mark walk.rules → OriginTakes walk.origin walk.walked c
+    → ArePlain walk.origin.names → of_candidate rule ≡ any_mark walk.rules
+    → OriginTakes walk.origin walk.walked c
     → IsFiltered (IsMarkBy (of_candidate rule)) c e → WalkTakes walk e
 ruled_takes walk rule c e all plain says takes f =
-    let so : (d : Course) → ruled_course (of_candidate rule) d ≡ left walk (IsFiltered (IsMarkBy (of_candidate rule))) d =
+    let so : (d : Course) → ruled_course (of_candidate rule) d
+    ≡ left walk (IsFiltered (IsMarkBy (of_candidate rule))) d =
     λ d. (λ i. ruled_course (says i) (opened_course (sym all i) d)) in
     origin_takes walk (IsFiltered (IsMarkBy (of_candidate rule)))
     (λ c d e f b. subst (IsStartOf e) (so d) (filtered_begins (of_candidate rule) c d e f b))
@@ -96,7 +105,8 @@ ruled_takes walk rule c e all plain says takes f =
 
 -- what its rules leave of what its origin may take, if it opens these folders alone
 pub selected_takes : (walk : RuledWalk) (rule : Candidate → Mark) (opens : Facts → Bool) (c d e : Course)
-    → walk.opening ≡ these_folders opens → ArePlain walk.origin.names → of_candidate rule ≡ any_mark walk.rules
+    → walk.opening ≡ these_folders opens → ArePlain walk.origin.names
+    → of_candidate rule ≡ any_mark walk.rules
     → OriginTakes walk.origin walk.walked c → IsFiltered (IsMarkBy (of_candidate rule)) c d
     → IsFiltered (IsPrunedBy opens) d e → WalkTakes walk e
 selected_takes walk rule opens c d e these plain says takes f g =
@@ -104,11 +114,14 @@ selected_takes walk rule opens c d e these plain says takes f g =
     let prunes = IsFiltered (IsPrunedBy opens) in
     let filters : Course → Course → Type 0 = λ x z. (y : Course) × marks x y × prunes y z in
     let so : (x : Course) → pruned_course opens (ruled_course (of_candidate rule) x) ≡ left walk filters x =
-    λ x. pruned_ruled opens (of_candidate rule) x ∙ (λ i. ruled_course (says i) (opened_course (sym these i) x)) in
+    λ x. pruned_ruled opens (of_candidate rule) x
+    ∙ (λ i. ruled_course (says i) (opened_course (sym these i) x)) in
     origin_takes walk filters
-    (λ x y z h b. subst (IsStartOf z) (so y) (pruned_begins opens h.0 (ruled_course (of_candidate rule) y) z h.2
+    (λ x y z h b.
+    subst (IsStartOf z) (so y) (pruned_begins opens h.0 (ruled_course (of_candidate rule) y) z h.2
     (filtered_begins (of_candidate rule) x y h.0 h.1 b)))
-    (λ x z h b. lacks_filtered (IsPrunedBy opens) h.0 z (lacks_filtered (IsMarkBy (of_candidate rule)) x h.0 b h.1) h.2)
+    (λ x z h b. lacks_filtered (IsPrunedBy opens) h.0 z
+    (lacks_filtered (IsMarkBy (of_candidate rule)) x h.0 b h.1) h.2)
     (sym (so stop)) c e plain takes (d, f, g)
 
 -- ---- what was answered
@@ -120,15 +133,18 @@ module _ (walk : RuledWalk) where
   course_yields : (s : Shown) → Yields (walk_course walk s) (ruled_forest walk s)
   course_yields s = go (exceeds_range walk) where
     go : (b : Bool)
-        → Yields (if b then stop else ruled_course rule (opened_course walk.opening (origin_course walk.walked walk.origin s)))
-        (if b then nothing else stacked walk.rules (opened_forest walk.opening (origin_walk walk.walked walk.origin s)))
+        → Yields (if b then stop
+        else ruled_course rule (opened_course walk.opening (origin_course walk.walked walk.origin s)))
+        (if b then nothing
+        else stacked walk.rules (opened_forest walk.opening (origin_walk walk.walked walk.origin s)))
     go true = nothing_yields
     go false =
         let f = origin_walk walk.walked walk.origin s in
         let c = origin_course walk.walked walk.origin s in
         subst (Yields (ruled_course rule (opened_course walk.opening c)))
         (sym (stacked_any walk.rules (opened_forest walk.opening f)))
-        (ruled_yields rule (opened_course walk.opening c) (opened_forest walk.opening f) (opened_yields walk.opening c f
+        (ruled_yields rule (opened_course walk.opening c)
+        (opened_forest walk.opening f) (opened_yields walk.opening c f
         (along_yields (scope_in walk.walked) walk.origin.names (origin_location walk.origin) s)))
 
   items_fed : (s : Shown) → items_of (walk_course walk s) ≡ ruled_feed walk s
@@ -252,6 +268,7 @@ keeps_answered laws request law view new xs can takes took = record {
 }
 
 -- over a walk that another one is seen as
-pub answered_before : {D C : Type 0} (law : Law D C) (old other new : D) (holds : List Answer → Type 0) → other ≡ old
+pub answered_before : {D C : Type 0} (law : Law D C) (old other new : D) (holds : List Answer → Type 0)
+    → other ≡ old
     → Answering law other new holds → Answering law old new holds
 answered_before law old other new holds same a = subst (λ d. Answering law d new holds) same a

@@ -1,5 +1,6 @@
 -- A plain walk is the walk of `**`.
-use Rattle.std.proofs.Common.{◌≡◌, ◌∙◌, ◌<◌, ◌&&◌, ◌∷◌, [], ℕ, true, false, List, ap, arith, chars, filter, inl, refl, sym, subst}
+use Rattle.std.proofs.Common.{◌≡◌, ◌∙◌, ◌<◌, ◌&&◌, ◌∷◌, [], ℕ, true, false, List, ap, arith, chars, filter}
+use Rattle.std.proofs.Common.{inl, refl, sym, subst}
 use Rattle.std.specs.Prelude.{if◌then◌else◌}
 use Rattle.std.proofs.lemmas.Bool.{ltb-true}
 use Rattle.wax_directory.specs.Law.{Law}
@@ -22,7 +23,8 @@ use Rattle.wax_tree.specs.Programs.{any_mark}
 use Rattle.wax_exclude.proofs.StackingRequests.{any_alone, course_unruled, unruled}
 use Rattle.wax_exclude.specs.Marks.{glob_mark, led_mark}
 use Rattle.wax_exclude.specs.TreeRequests.{WantsUnfiltered, is_unfiltered, tree_request, tree_alone}
-use Rattle.wax_exclude.specs.GlobRequests.{ComesWanted, CanBegin, GlobRequest, goes, is_beyond, request_excluding, walk_for}
+use Rattle.wax_exclude.specs.GlobRequests.{ComesWanted, CanBegin, GlobRequest, goes, is_beyond}
+use Rattle.wax_exclude.specs.GlobRequests.{request_excluding, walk_for}
 use Rattle.wax_exclude.specs.RuledWalks.{lacking, origin_course, walk_course, walks}
 use Rattle.wax_exclude.specs.Walked.{glob_walk}
 use Rattle.wax_exclude.specs.Wanted.{Filter, is_wanted, none_excludes, rules_of}
@@ -39,7 +41,8 @@ all_kept f = λ i. led_mark true (all_meant (candidate_of f).text i)
 unchanged : (f : Forest Given) → ruled (of_candidate (glob_mark false tree_alone)) f ≡ f
 unchanged f = (λ i. ruled (λ facts. all_kept facts i) f) ∙ unruled f
 
-unchanged_course : (c : Course) → ruled_course (any_mark (of_candidate (glob_mark false tree_alone) ∷ [])) c ≡ c
+unchanged_course : (c : Course)
+    → ruled_course (any_mark (of_candidate (glob_mark false tree_alone) ∷ [])) c ≡ c
 unchanged_course c = ap (λ r. ruled_course r c) (any_alone (of_candidate (glob_mark false tree_alone)))
     ∙ ((λ i. ruled_course (λ facts. all_kept facts i) c) ∙ course_unruled c)
 
@@ -52,7 +55,8 @@ not_beyond range start = elim (is_beyond (tree_request range start)) as
       | false ↦ λ e. e
     ] refl
 
-pub plain_comes : {D C : Type 0} (law : Law D C) (d : D) (range : DepthRange) (start : List ℕ) (view : WalkView D)
+pub plain_comes : {D C : Type 0} (law : Law D C) (d : D) (range : DepthRange)
+    (start : List ℕ) (view : WalkView D)
     → Begins law d start range view → ComesWanted law d (tree_request range start) view
 plain_comes law d range start view begins = record {
   comes = λ s listed shows told.
@@ -95,7 +99,8 @@ module _ (filters : List (Filter Span)) (range : DepthRange) (start : List ℕ) 
   request = request_excluding (tree_request range start) filters
 
   same_wanted : (x : Given) → is_wanted request.wanted x ≡ is_unfiltered filters x
-  same_wanted (entry kept f) = λ i. all_meant (chars f.candidate) i && none_excludes filters (chars f.candidate)
+  same_wanted (entry kept f) =
+      λ i. all_meant (chars f.candidate) i && none_excludes filters (chars f.candidate)
   same_wanted (entry alone f) = refl
   same_wanted (entry with_tree f) = refl
   same_wanted (fault kind path depth) = refl

@@ -11,7 +11,8 @@ use Rattle.wax_directory.specs.Shown.{a_leaf, a_folder, a_sealed, missing, faili
 use Rattle.wax_token.specs.Decided.{means_test}
 use Rattle.wax_token.specs.Spelled.{LiteralsHaveNoSlash}
 use Rattle.wax_token.specs.Syntax.{Tree}
-use Rattle.wax_tree.specs.Plain.{WalkScope, Location, one_deeper, plain_entry, unlisted, items_forest, below_forest}
+use Rattle.wax_tree.specs.Plain.{WalkScope, Location, one_deeper, plain_entry, unlisted, items_forest}
+use Rattle.wax_tree.specs.Plain.{below_forest}
 use Rattle.wax_tree.specs.Plain.{plain_at}
 use Rattle.wax_walk.specs.Candidates.{Candidate}
 use Rattle.wax_walk.specs.declared.error.FaultKind.{FaultKind}
@@ -66,7 +67,8 @@ module _ (p q : Given → Bool) where
   -- on entries of names that have Good, and on faults
   module _ (rooted : Bool) (scope : WalkScope) (Good : List (List ℕ) → Type 0)
       (good_more : (names : List (List ℕ)) (x : List ℕ) → Good names → Good (names ++ x ∷ []))
-      (of_entries : (at : Location) (kind : FileType) (names : List (List ℕ)) → At rooted at names → Good names
+      (of_entries : (at : Location) (kind : FileType) (names : List (List ℕ))
+      → At rooted at names → Good names
       → p (plain_entry at kind) ≡ q (plain_entry at kind))
       (of_faults : (kind : FaultKind) (path : List ℕ) (depth : ℕ)
       → p (fault kind path depth) ≡ q (fault kind path depth)) where
@@ -84,7 +86,8 @@ module _ (p q : Given → Bool) where
     agree_sealed true path depth = (of_faults _ path depth, tt, tt)
     agree_sealed false path depth = tt
 
-    pub agree_inside : (at : Location) (names : List (List ℕ)) (l : Items) → At rooted at names → ArePlainItems l
+    pub agree_inside : (at : Location) (names : List (List ℕ)) (l : Items)
+        → At rooted at names → ArePlainItems l
         → ((x : List ℕ) → Good (names ++ x ∷ [])) → Agree p q (in_folder at l)
     agree_inside at names end h t g = tt
     agree_inside at names (leaf x link rest) h t g =
@@ -139,7 +142,8 @@ glob_keep rooted t at names p h =
     ∙ sym (ap (λ (c : Candidate). means_test t false false c.text) e)
 
 module _ {A : Type 0} (w : Wanted A) (scope : WalkScope) where
-  pub pass_filters : (at : Location) (names : List (List ℕ)) (s : Shown) → At w.rooted at names → IsPlainShown s
+  pub pass_filters : (at : Location) (names : List (List ℕ)) (s : Shown)
+      → At w.rooted at names → IsPlainShown s
       → (filters : List (Filter A)) → AllPassDown (filter_rules filters) (plain_at scope at s nothing)
   pass_filters at names s h x [] = tt
   pass_filters at names s h x (y ∷ filters) = (

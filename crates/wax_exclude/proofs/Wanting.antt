@@ -24,23 +24,29 @@ use Rattle.wax_walk.proofs.Taking.{course_seen}
 use Rattle.wax_walk.specs.Course.{Course, IsFiltered, IsStartOf, stop}
 use Rattle.wax_walk.specs.Forest.{Forest, Pending, filtered_pending, nothing, pending, preorder}
 use Rattle.wax_walk.specs.Pruned.{opened_forest, opened_course}
-use Rattle.wax_walk.specs.Given.{Facts, Mark, Given, changed_by, combined_mark, cut_by, fault, no_memory, is_kept}
+use Rattle.wax_walk.specs.Given.{Facts, Mark, Given, changed_by, combined_mark, cut_by, fault, no_memory}
+use Rattle.wax_walk.specs.Given.{is_kept}
 use Rattle.wax_walk.specs.Ruled.{IsMarkBy, ruled_view}
 use Rattle.wax_walk.specs.View.{WalkView, CountsFaults, IsSeenAs, MayFail, MayTake}
 use Rattle.wax_exclude.proofs.KeptItems.{cut_kept, kept_entries}
 use Rattle.wax_exclude.specs.Law.{WalkLaw}
 use Rattle.wax_exclude.specs.Premises.{IsPlainShown, IsWellNamed}
-use Rattle.wax_exclude.specs.Pruned.{CanWalkBy, ListsBy, Pruning, by_components, by_matches, first_rule, opening_by, rules_by}
+use Rattle.wax_exclude.specs.Pruned.{CanWalkBy, ListsBy, Pruning, by_components, by_matches, first_rule}
+use Rattle.wax_exclude.specs.Pruned.{opening_by, rules_by}
 use Rattle.wax_exclude.specs.Walked.{wanted_entries, origin_walk, MayList}
 use Rattle.wax_exclude.specs.Wanted.{Filter, Wanted, filter_mark, filter_rules, is_kept_entry, stacked}
 use Rattle.wax_tree.specs.Programs.{any_mark}
 use Rattle.wax_exclude.specs.Due as due
-use Rattle.wax_exclude.specs.GlobRequests.{AreRulesOf, CanBegin, ComesExcluding, ComesWanted, GlobRequest, IsRuleOf, KeepsWanted}
-use Rattle.wax_exclude.specs.GlobRequests.{goes, is_beyond, request_excluding, request_pending, unmeant, walk_for}
-use Rattle.wax_exclude.specs.RuledWalks.{ComesRuled, RuledWalk, exceeds_range, lacking, origin_course, ruled_items, ruled_pending}
+use Rattle.wax_exclude.specs.GlobRequests.{AreRulesOf, CanBegin, ComesExcluding, ComesWanted, GlobRequest}
+use Rattle.wax_exclude.specs.GlobRequests.{IsRuleOf, KeepsWanted}
+use Rattle.wax_exclude.specs.GlobRequests.{goes, is_beyond, request_excluding, request_pending, unmeant}
+use Rattle.wax_exclude.specs.GlobRequests.{walk_for}
+use Rattle.wax_exclude.specs.RuledWalks.{ComesRuled, RuledWalk, exceeds_range, lacking, origin_course}
+use Rattle.wax_exclude.specs.RuledWalks.{ruled_items, ruled_pending}
 use Rattle.wax_exclude.specs.RuledWalks.{walk_course, walks, with_rule}
 use Rattle.wax_tree.proofs.Combining.{ruled}
-use Rattle.wax_exclude.proofs.StackingRequests.{any_alone, any_both, any_filters, any_of_candidates, course_more, filter_rules_more}
+use Rattle.wax_exclude.proofs.StackingRequests.{any_alone, any_both, any_filters, any_of_candidates}
+use Rattle.wax_exclude.proofs.StackingRequests.{course_more, filter_rules_more}
 use Rattle.wax_exclude.proofs.StackingRequests.{stacked_any, stacked_more}
 use Rattle.wax_exclude.proofs.Reaching.{distinct_along}
 
@@ -49,13 +55,14 @@ use Rattle.wax_exclude.proofs.Reaching.{distinct_along}
 module _ {D C : Type 0} (law : Law D C) where
   folders_seen : (this that : WalkView D) (xs : List Given) → IsSeenAs this that
       → AreOfFolders (MayFail that) that.may_open xs → AreOfFolders (MayFail this) this.may_open xs
-  folders_seen this that xs seen are before after x path depth e i = elim (are before after x path depth e i) [
-    | inl may ↦ inl (elim may [
-      | inl f ↦ inl (seen.may_fail path depth f)
-      | inr f ↦ inr (seen.may_fail_below path depth f)
-    ])
-    | inr has ↦ inr (subst (λ most. HasFolder most path depth before) seen.may_open has)
-  ]
+  folders_seen this that xs seen are before after x path depth e i =
+      elim (are before after x path depth e i) [
+        | inl may ↦ inl (elim may [
+          | inl f ↦ inl (seen.may_fail path depth f)
+          | inr f ↦ inr (seen.may_fail_below path depth f)
+        ])
+        | inr has ↦ inr (subst (λ most. HasFolder most path depth before) seen.may_open has)
+      ]
 
   -- what a walk yielded, by a view that this one implies
   pub took_seen : (this that : WalkView D) (new : D) (xs : List Given) → IsSeenAs this that
@@ -108,12 +115,14 @@ module _ {D C : Type 0} (law : Law D C) where
 -- ---- what comes
 
 -- a walk whose rules say the same all at once
-comes_same : {D C : Type 0} (law : Law D C) (d : D) (walk : RuledWalk) (rules : List (Facts → Mark)) (view : WalkView D)
+comes_same : {D C : Type 0} (law : Law D C) (d : D) (walk : RuledWalk)
+    (rules : List (Facts → Mark)) (view : WalkView D)
     → any_mark walk.rules ≡ any_mark rules → ComesRuled law d walk view
     → ComesRuled law d (record walk { rules = rules }) view
 comes_same law d walk rules view same h = record {
   comes = λ s listed shows told.
-      subst (λ f. view.to_come (pending nothing f listed (ruled_items walk s))) (forest s (exceeds_range walk))
+      subst (λ f. view.to_come (pending nothing f listed (ruled_items walk s)))
+      (forest s (exceeds_range walk))
       (h.comes s listed shows told);
   takes = λ c t. elim (h.takes c t) [
     | walks s n e b ↦ walks s n e (subst (IsStartOf c) (course s (exceeds_range walk)) b)
@@ -122,20 +131,26 @@ comes_same law d walk rules view same h = record {
   listings = h.listings;
 } where
   forest : (s : Shown) (b : Bool)
-      → (if b then nothing else stacked walk.rules (opened_forest walk.opening (origin_walk walk.walked walk.origin s)))
-      ≡ (if b then nothing else stacked rules (opened_forest walk.opening (origin_walk walk.walked walk.origin s)))
+      → (if b then nothing
+      else stacked walk.rules (opened_forest walk.opening (origin_walk walk.walked walk.origin s)))
+      ≡ (if b then nothing
+      else stacked rules (opened_forest walk.opening (origin_walk walk.walked walk.origin s)))
   forest s true = refl
   forest s false =
       let f = opened_forest walk.opening (origin_walk walk.walked walk.origin s) in
       stacked_any walk.rules f ∙ (ap (λ r. ruled r f) same ∙ sym (stacked_any rules f))
 
   course : (s : Shown) (b : Bool)
-      → (if b then stop else ruled_course (any_mark walk.rules) (opened_course walk.opening (origin_course walk.walked walk.origin s)))
-      ≡ (if b then stop else ruled_course (any_mark rules) (opened_course walk.opening (origin_course walk.walked walk.origin s)))
-  course s b = ap (λ r. if b then stop else ruled_course r (opened_course walk.opening (origin_course walk.walked walk.origin s))) same
+      → (if b then stop else ruled_course (any_mark walk.rules)
+      (opened_course walk.opening (origin_course walk.walked walk.origin s)))
+      ≡ (if b then stop else ruled_course (any_mark rules)
+      (opened_course walk.opening (origin_course walk.walked walk.origin s)))
+  course s b = ap (λ r. if b then stop
+      else ruled_course r (opened_course walk.opening (origin_course walk.walked walk.origin s))) same
 
 -- a filter that leaves of a walk what one more rule does
-pub comes_filtered : {D C : Type 0} (law : Law D C) (d : D) (walk : RuledWalk) (rule : Facts → Mark) (v u : WalkView D)
+pub comes_filtered : {D C : Type 0} (law : Law D C) (d : D) (walk : RuledWalk)
+    (rule : Facts → Mark) (v u : WalkView D)
     → ((p : Pending Given) → v.to_come p → u.to_come (filtered_pending (changed_by rule) (cut_by rule) p))
     → ((e : Course) → MayTake u e → (c : Course) × MayTake v c × IsFiltered (IsMarkBy rule) c e)
     → u.listings_left ≡ v.listings_left → ComesRuled law d walk v → ComesRuled law d (with_rule walk rule) u
@@ -153,10 +168,13 @@ comes_filtered law d walk rule v u to_come takes left h = record {
   listings = left ∙ h.listings;
 } where
   forest : (s : Shown) (b : Bool)
-      → ruled rule (if b then nothing else stacked walk.rules (opened_forest walk.opening (origin_walk walk.walked walk.origin s)))
-      ≡ (if b then nothing else stacked (walk.rules ++ rule ∷ []) (opened_forest walk.opening (origin_walk walk.walked walk.origin s)))
+      → ruled rule (if b then nothing
+      else stacked walk.rules (opened_forest walk.opening (origin_walk walk.walked walk.origin s)))
+      ≡ (if b then nothing else stacked (walk.rules ++ rule ∷ [])
+      (opened_forest walk.opening (origin_walk walk.walked walk.origin s)))
   forest s true = refl
-  forest s false = sym (stacked_more walk.rules (rule ∷ []) (opened_forest walk.opening (origin_walk walk.walked walk.origin s)))
+  forest s false = sym (stacked_more walk.rules (rule ∷ [])
+      (opened_forest walk.opening (origin_walk walk.walked walk.origin s)))
 
   course : (s : Shown) (b : Bool)
       → ruled_course rule (if b then stop else ruled_course (any_mark walk.rules)
@@ -170,7 +188,8 @@ comes_filtered law d walk rule v u to_come takes left h = record {
       ∙ course_more walk.rules (rule ∷ []) c
 
 -- what one rule takes of a walk comes of it
-comes_by_rule : {D C : Type 0} (law : Law D C) (d : D) (walk : RuledWalk) (rule : Candidate → Mark) (v u : WalkView D)
+comes_by_rule : {D C : Type 0} (law : Law D C) (d : D) (walk : RuledWalk)
+    (rule : Candidate → Mark) (v u : WalkView D)
     → IsSeenAs (ruled_view v rule false) u → ComesRuled law d walk v
     → ComesRuled law d (with_rule walk (of_candidate rule)) u
 comes_by_rule law d walk rule v u seen h =
@@ -179,7 +198,8 @@ comes_by_rule law d walk rule v u seen h =
 
 module _ {D C : Type 0} (law : Law D C) (d : D) where
   -- a rule that does what filters do turns the walk of a request into that of the request with these filters
-  comes_ruled : (request : GlobRequest) (filters : List (Filter Span)) (rule : Candidate → Mark) (v u : WalkView D)
+  comes_ruled : (request : GlobRequest) (filters : List (Filter Span))
+      (rule : Candidate → Mark) (v u : WalkView D)
       → of_candidate rule ≡ any_mark (filter_rules filters)
       → ComesWanted law d request v → IsSeenAs (ruled_view v rule false) u
       → ComesWanted law d (request_excluding request filters) u
@@ -216,7 +236,8 @@ module _ {D C : Type 0} (law : Law D C) (d : D) where
       (all (ruled_pending walk s listed) (h.comes s listed shows told))
 
 -- the rule of one filter does so
-pub comes_excluding : {D C : Type 0} (law : Law D C) (x : Filter Span) (rule : Candidate → Mark) (v u : WalkView D)
+pub comes_excluding : {D C : Type 0} (law : Law D C) (x : Filter Span)
+    (rule : Candidate → Mark) (v u : WalkView D)
     → IsRuleOf x rule → IsSeenAs (ruled_view v rule false) u → ComesExcluding law x v u
 comes_excluding law x rule v u says seen = λ d request h.
     comes_ruled law d request (x ∷ []) rule v u
@@ -232,7 +253,8 @@ module _ (laws : WalkLaw) where
   module _ (w : Wanted Span) (asked walked : DepthRange) (origin : Origin) (s : Shown) where
     abbrev walk_by : Pruning → Forest Given
     walk_by pruning =
-        stacked (rules_by pruning asked.min w) (opened_forest (opening_by pruning w.glob) (origin_walk walked origin s))
+        stacked (rules_by pruning asked.min w)
+        (opened_forest (opening_by pruning w.glob) (origin_walk walked origin s))
 
     gives_by : (pruning : Pruning) → CanWalkBy pruning w asked walked origin → IsPlainShown s
         → AreDistinctAlong origin.names s → length origin.names ≤ walked.max
@@ -252,7 +274,8 @@ module _ (laws : WalkLaw) where
     lists_by by_matches c named = laws.lists_exactly w asked walked origin s c named
 
     -- beyond the greatest depth there is nothing to list
-    lists_none : (pruning : Pruning) → walked.max < length origin.names → ListsBy pruning w walked origin s nothing
+    lists_none : (pruning : Pruning) → walked.max < length origin.names
+        → ListsBy pruning w walked origin s nothing
     lists_none by_components less = All-nil (MayList w walked origin)
     lists_none by_matches less = λ path. (
       λ c. absurd (contains_none path c),
@@ -265,32 +288,40 @@ module _ (laws : WalkLaw) where
       → filter is_kept_entry (preorder (if b then nothing else
       walk_by request.wanted request.asked request.walked request.origin s request.pruning))
       ≡ wanted_entries request.wanted request.asked request.origin s
-  entries_wanted request s (goes c) plain distinct true e = sym (nothing_by request.wanted request.asked request.walked
+  entries_wanted request s (goes c) plain distinct true e =
+      sym (nothing_by request.wanted request.asked request.walked
       request.origin s request.pruning c plain (ltb-true _ _ e))
-  entries_wanted request s (goes c) plain distinct false e = gives_by request.wanted request.asked request.walked
+  entries_wanted request s (goes c) plain distinct false e =
+      gives_by request.wanted request.asked request.walked
       request.origin s request.pruning c plain distinct (ltb-false _ _ e)
-  entries_wanted request s (unmeant n c m) plain distinct true e = sym (laws.nothing request.wanted request.asked
+  entries_wanted request s (unmeant n c m) plain distinct true e =
+      sym (laws.nothing request.wanted request.asked
       request.origin s plain c (inr n))
   entries_wanted request s (unmeant n c m) plain distinct false e =
-      let l : length request.origin.names ≤ request.walked.max = ltb-false _ _ e in absurd (omega (arith, l, m))
+      let l : length request.origin.names ≤ request.walked.max = ltb-false _ _ e in
+      absurd (omega (arith, l, m))
 
   few_listed : (request : GlobRequest) (s : Shown) → CanBegin request
       → IsWellNamed s → (b : Bool) → is_beyond request ≡ b
       → ListsBy request.pruning request.wanted request.walked request.origin s
-      (if b then nothing else walk_by request.wanted request.asked request.walked request.origin s request.pruning)
+      (if b then nothing
+      else walk_by request.wanted request.asked request.walked request.origin s request.pruning)
   few_listed request s can named true e =
       lists_none request.wanted request.asked request.walked request.origin s request.pruning (ltb-true _ _ e)
   few_listed request s (goes c) named false e =
       lists_by request.wanted request.asked request.walked request.origin s request.pruning c named
   few_listed request s (unmeant n c m) named false e =
-      let l : length request.origin.names ≤ request.walked.max = ltb-false _ _ e in absurd (omega (arith, l, m))
+      let l : length request.origin.names ≤ request.walked.max = ltb-false _ _ e in
+      absurd (omega (arith, l, m))
 
-  items_few : (request : GlobRequest) (s : Shown) (b : Bool) → request.walked.budget + 1 ≤ (if b then 0 else count_shown s)
+  items_few : (request : GlobRequest) (s : Shown) (b : Bool)
+      → request.walked.budget + 1 ≤ (if b then 0 else count_shown s)
       → request.walked.budget < count_shown s
   items_few request s true l = absurd (omega (arith, l))
   items_few request s false l = omega (arith, l)
 
-  pub keeps_wanted : (tells : List (List ℕ) → Type 0) (request : GlobRequest) (s : Shown) (listed : List (List ℕ))
+  pub keeps_wanted : (tells : List (List ℕ) → Type 0) (request : GlobRequest) (s : Shown)
+      (listed : List (List ℕ))
       (xs : List Given) → CanBegin request → IsWellNamed s
       → Yielded tells (request.walked.budget + 1) (request_pending request s listed) xs
       → KeepsWanted tells request s listed (filter is_kept xs)

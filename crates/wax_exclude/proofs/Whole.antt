@@ -11,7 +11,8 @@ use Rattle.wax_directory.specs.Shown.{Items, end, leaf, folder, sealed, misnamed
 use Rattle.wax_directory.specs.Shown.{a_leaf, a_folder, a_sealed, missing, failing, leaf_kind}
 use Rattle.wax_tree.specs.Begins.{scope_in}
 use Rattle.wax_tree.specs.declared.steps.DepthRange.{DepthRange}
-use Rattle.wax_tree.specs.Plain.{WalkScope, Location, item_location, one_deeper, items_forest, below_forest, unlisted, plain_entry}
+use Rattle.wax_tree.specs.Plain.{WalkScope, Location, item_location, one_deeper, items_forest, below_forest}
+use Rattle.wax_tree.specs.Plain.{unlisted, plain_entry}
 use Rattle.wax_tree.specs.Plain.{plain_at}
 use Rattle.wax_tree.specs.Whole.{whole_items, whole_at, is_in}
 use Rattle.wax_walk.specs.declared.error.FaultKind.{FaultKind}

@@ -26,12 +26,16 @@ skipped_lines = refl
 
 -- one carriage return is dropped at a line's end, also at the end of the text, and before the line is read
 pub returns_dropped :
-    written_lines (codes "a" ++ return_feed ++ return_feed ++ codes "b" ++ 13 ∷ return_feed ++ codes "!" ++ 13 ∷ [])
+    written_lines
+    (codes "a" ++ return_feed ++ return_feed ++ codes "b" ++ 13 ∷ return_feed ++ codes "!" ++ 13 ∷ [])
     ≡ ignores_at 1 (codes "a") ∷ ignores_at 3 (codes "b" ++ 13 ∷ []) ∷ reincludes_at 4 [] ∷ []
 returns_dropped = refl
 
--- `!` alone takes back the empty glob; a second `!` and a `#` after it are parts of the glob, and so is a space
+-- `!` alone takes back the empty glob; a second `!` and a `#` after it are parts of
+-- the glob, and so is a space
 pub parts_of_globs :
-    written_lines (codes "!" ++ feed ++ codes "!!a" ++ feed ++ codes "!#a" ++ feed ++ codes " #a" ++ feed ++ codes "(?-i)#a")
-    ≡ reincludes_at 1 [] ∷ reincludes_at 2 (codes "!a") ∷ reincludes_at 3 (codes "#a") ∷ ignores_at 4 (codes " #a") ∷ ignores_at 5 (codes "(?-i)#a") ∷ []
+    written_lines (codes "!" ++ feed ++ codes "!!a" ++ feed ++ codes "!#a" ++ feed ++ codes " #a"
+    ++ feed ++ codes "(?-i)#a")
+    ≡ reincludes_at 1 [] ∷ reincludes_at 2 (codes "!a") ∷ reincludes_at 3 (codes "#a")
+    ∷ ignores_at 4 (codes " #a") ∷ ignores_at 5 (codes "(?-i)#a") ∷ []
 parts_of_globs = refl

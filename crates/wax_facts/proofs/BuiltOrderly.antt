@@ -9,4 +9,5 @@ use Rattle.wax_facts.proofs.ReadsFull.{reads_full}
 use Rattle.wax_facts.proofs.ReadsWorded.{reads_worded}
 
 pub built_orderly : (c : ℕ) (cs : List ℕ) (t : Tree Span) → Reads (c ∷ cs) t → broken t ≡ [] → Orderly t
-built_orderly c cs t r b = let k : Full t × Flat t = reads_full (c ∷ cs) t r in (k.0, k.1, reads_worded c cs t r, broken_apart t k.1 b)
+built_orderly c cs t r b = let k : Full t × Flat t = reads_full (c ∷ cs) t r in
+    (k.0, k.1, reads_worded c cs t r, broken_apart t k.1 b)

@@ -15,7 +15,8 @@ pub sizes_of_copies : SizesOfCopies
 sizes_of_copies low size high None = ((λ e. (cc)), (λ h. (cc)))
 sizes_of_copies low size None (Some n) = ((λ e. (cc)), (λ h. (cc)))
 sizes_of_copies low size (Some high) (Some n) =
-    let chosen : Bool → Option ℕ = λ b. if b then Some (low * n) else None in elim (cases_Bool (low == high)) [
+    let chosen : Bool → Option ℕ = λ b. if b then Some (low * n) else None in
+    elim (cases_Bool (low == high)) [
       | inl e ↦ (
         (λ h. (let is : Some (low * n) ≡ Some size = sym (ap chosen e) ∙ h in
             let product : size ≡ low * n = cc in

@@ -14,7 +14,8 @@ use Rattle.wax_facts.proofs.Truths.{true_false}
 
 abbrev pub EndsAt : {A : Type 0} → Trees A → Option (ℕ × List ℕ) → Type 0
 EndsAt ts None = Unit {0}
-EndsAt ts (Some cut) = IsSome (after cut.0 ts) → begins_with_tree (after cut.0 ts) ≡ false → EndsWithSlash cut.1
+EndsAt ts (Some cut) = IsSome (after cut.0 ts) → begins_with_tree (after cut.0 ts) ≡ false
+    → EndsWithSlash cut.1
 
 separator_text : {A : Type 0} (t : Tree A) (x : List ℕ) → is_separator t ≡ true → Text t x → EndsWithSlash x
 separator_text (leaf a (literal i t)) x e h = true_false (sym e)
@@ -31,9 +32,11 @@ pub ends_at : {A : Type 0} (ts : Trees A) (cut : Option (ℕ × List ℕ)) → C
 ends_at none cut c = subst (EndsAt none) (sym c) (λ some e. absurd some)
 ends_at (more t ts) cut (inl c) = subst (EndsAt (more t ts)) (sym c.1) (λ some e. true_false (sym c.0 ∙ e))
 ends_at (more t ts) cut (inr (inl c)) = subst (EndsAt (more t ts)) (sym c.2) tt
-ends_at (more t ts) cut (inr (inr c)) = subst (EndsAt (more t ts)) (sym c.4) (both (is_separator t) refl c.1 (ends_at ts c.1 c.3))
+ends_at (more t ts) cut (inr (inr c)) =
+    subst (EndsAt (more t ts)) (sym c.4) (both (is_separator t) refl c.1 (ends_at ts c.1 c.3))
   where
-    both : (b : Bool) → is_separator t ≡ b → (later : Option (ℕ × List ℕ)) → EndsAt ts later → EndsAt (more t ts) (taken b c.0 later)
+    both : (b : Bool) → is_separator t ≡ b → (later : Option (ℕ × List ℕ)) → EndsAt ts later
+        → EndsAt (more t ts) (taken b c.0 later)
     both b g (Some cut) k = λ some e. ends_append c.0 cut.1 (k some e)
     both true g None k = λ some e. separator_text t c.0 g c.2
     both false g None k = tt

@@ -21,7 +21,8 @@ pub ends_back : (x y : List ℕ) → y ≢ [] → EndsWithSlash (x ++ y) → End
 ends_back [] y some h = h
 ends_back (c ∷ x) y some h = back h.0 h.1 (λ k. ends_back x y some k)
   where
-    back : (t : List ℕ) → (c ∷ x) ++ y ≡ t ++ 47 ∷ [] → (EndsWithSlash (x ++ y) → EndsWithSlash y) → EndsWithSlash y
+    back : (t : List ℕ) → (c ∷ x) ++ y ≡ t ++ 47 ∷ []
+        → (EndsWithSlash (x ++ y) → EndsWithSlash y) → EndsWithSlash y
     back [] e onward = absurd (let f : x ++ y ≡ [] = cc in some (nil_right x y f))
     back (d ∷ t) e onward = let f : x ++ y ≡ t ++ 47 ∷ [] = cc in onward (t, f)
 

@@ -81,6 +81,7 @@ never : (end_of (leaf 0 (literal false [])) ≡ Never)
 never = (refl, refl, refl, refl, refl, refl, refl)
 
 -- ---- roots: `<</a:1,>:0,1>b`, and `</a:2>*`
-roots : (start_of (glob (copies (copies (slash ∷ letter ∷ []) 1 None ∷ []) 0 (Some 1) ∷ letter ∷ [])) ≡ Sometimes)
+roots :
+    (start_of (glob (copies (copies (slash ∷ letter ∷ []) 1 None ∷ []) 0 (Some 1) ∷ letter ∷ [])) ≡ Sometimes)
     × (start_of (glob (copies (slash ∷ letter ∷ []) 2 (Some 2) ∷ star ∷ [])) ≡ Always)
 roots = (refl, refl)

@@ -1,5 +1,6 @@
 -- The first row of a table that holds.
-use Rattle.std.proofs.Common.{◌≡◌, true, false, List, [], ◌∷◌, Option, Some, None, refl, ap, inl, inr, subst, sym}
+use Rattle.std.proofs.Common.{◌≡◌, true, false, List, [], ◌∷◌, Option, Some, None, refl, ap, inl, inr, subst}
+use Rattle.std.proofs.Common.{sym}
 use Rattle.std.specs.Prelude.{All, MatchOption, if◌then◌else◌}
 use Rattle.std.proofs.lemmas.Bool.{cases_Bool}
 use Rattle.std.proofs.lemmas.List.Elements.{All-cons, All-nil}

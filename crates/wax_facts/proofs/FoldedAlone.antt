@@ -1,10 +1,12 @@
 -- Characters that share their folding with no other.
-use Rattle.std.proofs.Common.{◌≡◌, ℕ, zero, suc, ◌+◌, ◌<◌, ◌≤◌, List, [], ◌∷◌, length, drop, get_or, sym, subst, arith}
+use Rattle.std.proofs.Common.{◌≡◌, ℕ, zero, suc, ◌+◌, ◌<◌, ◌≤◌, List, [], ◌∷◌, length, drop, get_or, sym}
+use Rattle.std.proofs.Common.{subst, arith}
 use Rattle.std.proofs.lemmas.List.{drop_all}
 use Rattle.wax_facts.specs.InvariantText.{FoldsAlone, AllFoldAlone}
 use Rattle.wax_facts.proofs.TextSteps.{drop_here}
 
-pub alone_step : (cs : List ℕ) (i c : ℕ) → i < length cs → c ≡ get_or cs i c → FoldsAlone c → AllFoldAlone (drop (i + 1) cs) → AllFoldAlone (drop i cs)
+pub alone_step : (cs : List ℕ) (i c : ℕ) → i < length cs → c ≡ get_or cs i c → FoldsAlone c
+    → AllFoldAlone (drop (i + 1) cs) → AllFoldAlone (drop i cs)
 alone_step cs i c lt e k h = subst AllFoldAlone (sym (drop_here cs i c lt e)) (k, h)
 
 pub alone_at : (cs : List ℕ) (i c : ℕ) → i < length cs → c ≡ get_or cs i c → AllFoldAlone cs → FoldsAlone c

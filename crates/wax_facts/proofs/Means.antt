@@ -10,13 +10,15 @@ use Rattle.wax_facts.specs.Alternatives.{MeansOneOf, alternatives, beside, is_ex
 use Rattle.wax_facts.specs.Alternatives.{levels, levels_each}
 
 -- ---- what is within a token
-pub as_members : {A : Type 0} (t : Tree A) (b a : Bool) (s : List ℕ) → Means t b a s → MeansEach (members t) b a s
+pub as_members : {A : Type 0} (t : Tree A) (b a : Bool) (s : List ℕ) → Means t b a s
+    → MeansEach (members t) b a s
 as_members (leaf x l) b a s h = h
 as_members (alternation x ts) b a s h = h
 as_members (concatenation x ts) b a s h = h
 as_members (repetition x t low high) b a s h = h
 
-pub of_members : {A : Type 0} (t : Tree A) (b a : Bool) (s : List ℕ) → MeansEach (members t) b a s → Means t b a s
+pub of_members : {A : Type 0} (t : Tree A) (b a : Bool) (s : List ℕ)
+    → MeansEach (members t) b a s → Means t b a s
 of_members (leaf x l) b a s h = h
 of_members (alternation x ts) b a s h = h
 of_members (concatenation x ts) b a s h = h

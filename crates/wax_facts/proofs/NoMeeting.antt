@@ -28,36 +28,50 @@ token_last (concatenation a ts) e b = true_false (sym e)
 token_last (repetition a t low high) e b = b
 
 mutual
-  no_start : (c : Situated) (t : Tree Span) → Flat t → FirstBare (members t) → Lawful c t → side_has_boundary c.left ≡ true → starts_with_leaf is_boundary_leaf t ≡ false
+  no_start : (c : Situated) (t : Tree Span) → Flat t → FirstBare (members t) → Lawful c t
+      → side_has_boundary c.left ≡ true → starts_with_leaf is_boundary_leaf t ≡ false
   no_start c (leaf a x) w b h e = b
   no_start c (alternation a ts) w b h e = some_no_start a c ts w h.0 h.1 e
   no_start c (concatenation a ts) w b h e = first_no_start c ts w b h.1 e
-  no_start c (repetition a t low high) w b h e = let k : Bare c (members t) = bare_of (repetition_bare a c t low high h.1) in no_start c t w (k.0 e) h.2 e
+  no_start c (repetition a t low high) w b h e = let k : Bare c (members t) =
+      bare_of (repetition_bare a c t low high h.1) in no_start c t w (k.0 e) h.2 e
 
-  some_no_start : (a : Span) (c : Situated) (ts : Trees Span) → FlatSome ts → alternative_breaks a c.left c.right ts ≡ [] → LawfulSome c ts → side_has_boundary c.left ≡ true → some_starts_in is_boundary_leaf ts ≡ false
+  some_no_start : (a : Span) (c : Situated) (ts : Trees Span) → FlatSome ts
+      → alternative_breaks a c.left c.right ts ≡ [] → LawfulSome c ts → side_has_boundary c.left ≡ true
+      → some_starts_in is_boundary_leaf ts ≡ false
   some_no_start a c none w g h e = refl
   some_no_start a c (more t ts) w g h e =
-      let p : Bare c (members t) × (alternative_breaks a c.left c.right ts ≡ []) = alternative_parts a c t ts g in
-      false_or (starts_with_leaf is_boundary_leaf t) (some_starts_in is_boundary_leaf ts) (no_start c t w.0 (p.0.0 e) h.0 e) (some_no_start a c ts w.1 p.1 h.1 e)
+      let p : Bare c (members t) × (alternative_breaks a c.left c.right ts ≡ []) =
+      alternative_parts a c t ts g in
+      false_or (starts_with_leaf is_boundary_leaf t) (some_starts_in is_boundary_leaf ts)
+      (no_start c t w.0 (p.0.0 e) h.0 e) (some_no_start a c ts w.1 p.1 h.1 e)
 
-  first_no_start : (c : Situated) (ts : Trees Span) → FlatEach ts → FirstBare ts → LawfulEach c ts → side_has_boundary c.left ≡ true → first_starts_in is_boundary_leaf ts ≡ false
+  first_no_start : (c : Situated) (ts : Trees Span) → FlatEach ts → FirstBare ts → LawfulEach c ts
+      → side_has_boundary c.left ≡ true → first_starts_in is_boundary_leaf ts ≡ false
   first_no_start c none w b h e = refl
   first_no_start c (more t ts) w b h e = no_start (before_these c ts) t w.1 (token_first t w.0 b) h.0 e
 
 mutual
-  no_end : (c : Situated) (t : Tree Span) → Flat t → LastBare (members t) → Lawful c t → side_has_boundary c.right ≡ true → ends_in is_boundary_leaf t ≡ false
+  no_end : (c : Situated) (t : Tree Span) → Flat t → LastBare (members t) → Lawful c t
+      → side_has_boundary c.right ≡ true → ends_in is_boundary_leaf t ≡ false
   no_end c (leaf a x) w b h e = b
   no_end c (alternation a ts) w b h e = some_no_end a c ts w h.0 h.1 e
   no_end c (concatenation a ts) w b h e = last_no_end c ts w b h.1 e
-  no_end c (repetition a t low high) w b h e = let k : Bare c (members t) = bare_of (repetition_bare a c t low high h.1) in no_end c t w (k.1 e) h.2 e
+  no_end c (repetition a t low high) w b h e = let k : Bare c (members t) =
+      bare_of (repetition_bare a c t low high h.1) in no_end c t w (k.1 e) h.2 e
 
-  some_no_end : (a : Span) (c : Situated) (ts : Trees Span) → FlatSome ts → alternative_breaks a c.left c.right ts ≡ [] → LawfulSome c ts → side_has_boundary c.right ≡ true → some_ends_in is_boundary_leaf ts ≡ false
+  some_no_end : (a : Span) (c : Situated) (ts : Trees Span) → FlatSome ts
+      → alternative_breaks a c.left c.right ts ≡ [] → LawfulSome c ts → side_has_boundary c.right ≡ true
+      → some_ends_in is_boundary_leaf ts ≡ false
   some_no_end a c none w g h e = refl
   some_no_end a c (more t ts) w g h e =
-      let p : Bare c (members t) × (alternative_breaks a c.left c.right ts ≡ []) = alternative_parts a c t ts g in
-      false_or (ends_in is_boundary_leaf t) (some_ends_in is_boundary_leaf ts) (no_end c t w.0 (p.0.1 e) h.0 e) (some_no_end a c ts w.1 p.1 h.1 e)
+      let p : Bare c (members t) × (alternative_breaks a c.left c.right ts ≡ []) =
+      alternative_parts a c t ts g in
+      false_or (ends_in is_boundary_leaf t) (some_ends_in is_boundary_leaf ts)
+      (no_end c t w.0 (p.0.1 e) h.0 e) (some_no_end a c ts w.1 p.1 h.1 e)
 
-  last_no_end : (c : Situated) (ts : Trees Span) → FlatEach ts → LastBare ts → LawfulEach c ts → side_has_boundary c.right ≡ true → last_ends_in is_boundary_leaf ts ≡ false
+  last_no_end : (c : Situated) (ts : Trees Span) → FlatEach ts → LastBare ts → LawfulEach c ts
+      → side_has_boundary c.right ≡ true → last_ends_in is_boundary_leaf ts ≡ false
   last_no_end c none w b h e = refl
   last_no_end c (more t none) w b h e = no_end (before_these c none) t w.1 (token_last t w.0 b) h.0 e
   last_no_end c (more t (more u us)) w b h e = last_no_end (after_this c t) (more u us) w.2 b h.1 e
@@ -72,15 +86,22 @@ not_both : (b : Bool) (s : Span) → boundary_break (if b then Some s else None)
 not_both true s e = absurd (let f : ⊥ = cc in f)
 not_both false s e = refl
 
-pub meet : (c d : Situated) (t u : Tree Span) → is_token t ≡ true → is_token u ≡ true → Flat t → Flat u → boundary_break (adjacent_span t u) ≡ [] →
-    Lawful c t → Lawful d u → side_has_boundary c.right ≡ starts_with_leaf is_boundary_leaf u → side_has_boundary d.left ≡ ends_in is_boundary_leaf t →
+pub meet : (c d : Situated) (t u : Tree Span) → is_token t ≡ true → is_token u ≡ true → Flat t → Flat u
+    → boundary_break (adjacent_span t u) ≡ [] →
+    Lawful c t → Lawful d u → side_has_boundary c.right ≡ starts_with_leaf is_boundary_leaf u
+    → side_has_boundary d.left ≡ ends_in is_boundary_leaf t →
     ends_in is_boundary_leaf t ≡ true → starts_with_leaf is_boundary_leaf u ≡ false
-meet c d t u i j v w g h k x y e = elim (is_such is_boundary_leaf u) as (λ b. is_such is_boundary_leaf u ≡ b → starts_with_leaf is_boundary_leaf u ≡ false) [
-  | false ↦ λ f. no_start d u w (token_first u j f) k (y ∙ e)
-  | true ↦ λ f. at_leaf f (is_such is_boundary_leaf t) refl
-] refl
+meet c d t u i j v w g h k x y e = elim (is_such is_boundary_leaf u)
+    as (λ b. is_such is_boundary_leaf u ≡ b → starts_with_leaf is_boundary_leaf u ≡ false) [
+      | false ↦ λ f. no_start d u w (token_first u j f) k (y ∙ e)
+      | true ↦ λ f. at_leaf f (is_such is_boundary_leaf t) refl
+    ] refl
   where
-    at_leaf : is_such is_boundary_leaf u ≡ true → (b : Bool) → is_such is_boundary_leaf t ≡ b → starts_with_leaf is_boundary_leaf u ≡ false
+    at_leaf : is_such is_boundary_leaf u ≡ true → (b : Bool) → is_such is_boundary_leaf t ≡ b
+        → starts_with_leaf is_boundary_leaf u ≡ false
     at_leaf f true m =
-        true_false (sym f ∙ and_right (is_such is_boundary_leaf t) (is_such is_boundary_leaf u) (not_both (is_such is_boundary_leaf t && is_such is_boundary_leaf u) (span_union (annotation_of t) (annotation_of u)) g) m)
-    at_leaf f false m = true_false (sym e ∙ no_end c t v (token_last t i m) h (x ∙ such_starts is_boundary_leaf u f))
+        true_false (sym f ∙ and_right (is_such is_boundary_leaf t) (is_such is_boundary_leaf u)
+        (not_both (is_such is_boundary_leaf t && is_such is_boundary_leaf u)
+        (span_union (annotation_of t) (annotation_of u)) g) m)
+    at_leaf f false m =
+        true_false (sym e ∙ no_end c t v (token_last t i m) h (x ∙ such_starts is_boundary_leaf u f))

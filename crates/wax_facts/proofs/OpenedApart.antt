@@ -30,10 +30,12 @@ or_nil b true e = e
 or_nil b false e = e
 
 mutual
-  opened_first : {A : Type 0} (t : Tree A) → first_starts_in is_boundary_leaf (opened t) ≡ starts_with_leaf is_boundary_leaf t
+  opened_first : {A : Type 0} (t : Tree A) → first_starts_in is_boundary_leaf (opened t)
+      ≡ starts_with_leaf is_boundary_leaf t
   opened_first (leaf a l) = refl
   opened_first (alternation a none) = refl
-  opened_first (alternation a (more t none)) = or_nil (first_starts_in is_boundary_leaf (opened t)) (starts_with_leaf is_boundary_leaf t) (opened_first t)
+  opened_first (alternation a (more t none)) = or_nil (first_starts_in is_boundary_leaf (opened t))
+      (starts_with_leaf is_boundary_leaf t) (opened_first t)
   opened_first (alternation a (more t (more u us))) = refl
   opened_first (concatenation a ts) = last_first ts
   opened_first (repetition a t zero high) = refl
@@ -43,7 +45,8 @@ mutual
   opened_first (repetition a t (suc zero) (Some (suc (suc n)))) = refl
   opened_first (repetition a t (suc (suc low)) high) = refl
 
-  last_first : {A : Type 0} (ts : Trees A) → first_starts_in is_boundary_leaf (opened_last ts) ≡ first_starts_in is_boundary_leaf ts
+  last_first : {A : Type 0} (ts : Trees A) → first_starts_in is_boundary_leaf (opened_last ts)
+      ≡ first_starts_in is_boundary_leaf ts
   last_first none = refl
   last_first (more t none) = opened_first t
   last_first (more t (more u us)) = refl

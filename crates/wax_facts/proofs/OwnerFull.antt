@@ -21,7 +21,8 @@ abbrev FullOwner : {A : Type 0} → Option (Tree A × ℕ) → Type 0
 FullOwner None = Unit {0}
 FullOwner (Some o) = Full o.0
 
-pub full_here : {A : Type 0} (o : Option (Tree A × ℕ)) (t : Tree A) (n : ℕ) → Full t → FullOwner o → Full (or_here (t, n) o).0
+pub full_here : {A : Type 0} (o : Option (Tree A × ℕ)) (t : Tree A) (n : ℕ) → Full t → FullOwner o
+    → Full (or_here (t, n) o).0
 full_here None t n w h = w
 full_here (Some o) t n w h = h
 
@@ -34,13 +35,15 @@ mutual
   pub inner_full : {A : Type 0} (t : Tree A) → Full t → (n : ℕ) → FullOwner (inner_cut t n)
   inner_full (leaf a l) w n = tt
   inner_full (alternation a none) w n = tt
-  inner_full (alternation a (more t none)) w n = full_entered n (begins_with_tree (opened t)) (or_here (t, n) (inner_cut t n)) (full_here (inner_cut t n) t n w.1.0 (inner_full t w.1.0 n))
+  inner_full (alternation a (more t none)) w n = full_entered n (begins_with_tree (opened t))
+      (or_here (t, n) (inner_cut t n)) (full_here (inner_cut t n) t n w.1.0 (inner_full t w.1.0 n))
   inner_full (alternation a (more t (more u us))) w n = tt
   inner_full (concatenation a ts) w n = last_full ts w.1 n
   inner_full (repetition a t zero high) w n = tt
   inner_full (repetition a t (suc zero) None) w n = tt
   inner_full (repetition a t (suc zero) (Some zero)) w n = tt
-  inner_full (repetition a t (suc zero) (Some (suc zero))) w n = full_entered n (begins_with_tree (opened t)) (or_here (t, n) (inner_cut t n)) (full_here (inner_cut t n) t n w (inner_full t w n))
+  inner_full (repetition a t (suc zero) (Some (suc zero))) w n = full_entered n (begins_with_tree (opened t))
+      (or_here (t, n) (inner_cut t n)) (full_here (inner_cut t n) t n w (inner_full t w n))
   inner_full (repetition a t (suc zero) (Some (suc (suc m)))) w n = tt
   inner_full (repetition a t (suc (suc low)) high) w n = tt
 

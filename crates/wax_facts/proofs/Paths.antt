@@ -27,8 +27,10 @@ is_47 c e = search rules
 
 pub path_bare : (p r : List ℕ) → p ≢ [] → (EndsWithSlash p → ⊥) → path p r ≡ p ++ 47 ∷ r
 path_bare [] r some h = absurd (some refl)
-path_bare (c ∷ []) r some h = elim (c == 47) as (λ b. (c == 47) ≡ b → (if b then c ∷ r else c ∷ 47 ∷ r) ≡ c ∷ 47 ∷ r) [
-  | true ↦ λ e. absurd (h ([], ap (λ z. z ∷ []) (is_47 c e)))
-  | false ↦ λ e. refl
-] refl
-path_bare (c ∷ d ∷ p) r some h = ap (λ z. c ∷ z) (path_bare (d ∷ p) r (λ e. cc) (λ e. h (c ∷ e.0, ap (λ z. c ∷ z) e.1)))
+path_bare (c ∷ []) r some h =
+    elim (c == 47) as (λ b. (c == 47) ≡ b → (if b then c ∷ r else c ∷ 47 ∷ r) ≡ c ∷ 47 ∷ r) [
+      | true ↦ λ e. absurd (h ([], ap (λ z. z ∷ []) (is_47 c e)))
+      | false ↦ λ e. refl
+    ] refl
+path_bare (c ∷ d ∷ p) r some h =
+    ap (λ z. c ∷ z) (path_bare (d ∷ p) r (λ e. cc) (λ e. h (c ∷ e.0, ap (λ z. c ∷ z) e.1)))

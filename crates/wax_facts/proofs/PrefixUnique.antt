@@ -32,9 +32,11 @@ cut_unique (more t ts) c d (inr (inl h)) (inr (inr k)) = absurd (h.1 k.0 k.2)
 cut_unique (more t ts) c d (inr (inr h)) (inl k) = absurd (tree_text t h.0 k.0 h.2)
 cut_unique (more t ts) c d (inr (inr h)) (inr (inl k)) = absurd (k.1 h.0 h.2)
 cut_unique (more t ts) c d (inr (inr h)) (inr (inr k)) =
-    h.4 ∙ ap (λ z. taken (is_separator t) z h.1) (text_unique t h.0 k.0 h.2 k.2) ∙ ap (taken (is_separator t) k.0) (cut_unique ts h.1 k.1 h.3 k.3) ∙ sym k.4
+    h.4 ∙ ap (λ z. taken (is_separator t) z h.1) (text_unique t h.0 k.0 h.2 k.2)
+    ∙ ap (taken (is_separator t) k.0) (cut_unique ts h.1 k.1 h.3 k.3) ∙ sym k.4
 
-list_unique : {A : Type 0} (ts : Trees A) → (n m : ℕ) (p q : List ℕ) → PrefixOf ts n p → PrefixOf ts m q → (n ≡ m) × (p ≡ q)
+list_unique : {A : Type 0} (ts : Trees A) → (n m : ℕ) (p q : List ℕ) → PrefixOf ts n p
+    → PrefixOf ts m q → (n ≡ m) × (p ≡ q)
 list_unique ts n m p q (inl h) (inl k) = (h.1 ∙ sym k.1, h.2 ∙ sym k.2)
 list_unique ts n m p q (inl h) (inr k) = absurd (k.0 h.0)
 list_unique ts n m p q (inr h) (inl k) = absurd (h.0 k.0)
@@ -42,5 +44,6 @@ list_unique ts n m p q (inr h) (inr k) =
     let e : h.1.0 ≡ k.1.0 = cut_unique ts h.1.0 k.1.0 h.1.1 k.1.1 in
     (h.1.2 ∙ ap (λ z. (or_nothing z).0) e ∙ sym k.1.2, h.1.3 ∙ ap (λ z. (or_nothing z).1) e ∙ sym k.1.3)
 
-pub prefix_unique : {A : Type 0} (t : Tree A) → (n m : ℕ) (p q : List ℕ) → Prefix t n p → Prefix t m q → (n ≡ m) × (p ≡ q)
+pub prefix_unique : {A : Type 0} (t : Tree A) → (n m : ℕ) (p q : List ℕ) → Prefix t n p
+    → Prefix t m q → (n ≡ m) × (p ≡ q)
 prefix_unique t n m p q h k = list_unique (opened t) n m p q h k

@@ -5,7 +5,8 @@ use Rattle.wax_token.specs.Syntax.{one, repetition, separator, tree, zero_or_mor
 use Rattle.wax_token.specs.Words.{members}
 use Rattle.wax_facts.specs.Orderly.{IsSome, Orderly, OrderlyEach}
 use Rattle.wax_facts.specs.Prefix.{opened}
-use Rattle.wax_facts.specs.Rest.{after, begins_with_tree, entered, inner_cut, inner_last, or_here, owner, rest}
+use Rattle.wax_facts.specs.Rest.{after, begins_with_tree, entered, inner_cut, inner_last, or_here, owner}
+use Rattle.wax_facts.specs.Rest.{rest}
 use Rattle.wax_facts.specs.Rest.{unrooted}
 use Rattle.wax_facts.proofs.Owners.{owner_opened}
 use Rattle.wax_facts.proofs.WrittenRest.{not_none}
@@ -14,7 +15,8 @@ abbrev OrderlyOwner : {A : Type 0} → Option (Tree A × ℕ) → Type 0
 OrderlyOwner None = Unit {0}
 OrderlyOwner (Some o) = Orderly o.0
 
-here : {A : Type 0} (o : Option (Tree A × ℕ)) (t : Tree A) (n : ℕ) → Orderly t → OrderlyOwner o → Orderly (or_here (t, n) o).0
+here : {A : Type 0} (o : Option (Tree A × ℕ)) (t : Tree A) (n : ℕ) → Orderly t → OrderlyOwner o
+    → Orderly (or_here (t, n) o).0
 here None t n w h = w
 here (Some o) t n w h = h
 
@@ -30,14 +32,17 @@ mutual
   inner_orderly : {A : Type 0} (t : Tree A) → Orderly t → (n : ℕ) → OrderlyOwner (inner_cut t n)
   inner_orderly (leaf a l) o n = tt
   inner_orderly (alternation a none) o n = tt
-  inner_orderly (alternation a (more t none)) o n = into n (begins_with_tree (opened t)) (or_here (t, n) (inner_cut t n)) (here (inner_cut t n) t n (only_branch a t o) (inner_orderly t (only_branch a t o) n))
+  inner_orderly (alternation a (more t none)) o n =
+      into n (begins_with_tree (opened t)) (or_here (t, n) (inner_cut t n))
+      (here (inner_cut t n) t n (only_branch a t o) (inner_orderly t (only_branch a t o) n))
   inner_orderly (alternation a (more t (more u us))) o n = tt
   inner_orderly (concatenation a ts) o n = last_orderly ts (o.0.1, o.1, o.2, o.3) n
   inner_orderly (repetition a t zero high) o n = tt
   inner_orderly (repetition a t (suc zero) None) o n = tt
   inner_orderly (repetition a t (suc zero) (Some zero)) o n = tt
   inner_orderly (repetition a t (suc zero) (Some (suc zero))) o n =
-      into n (begins_with_tree (opened t)) (or_here (t, n) (inner_cut t n)) (here (inner_cut t n) t n (o.0, o.1, o.2, o.3.1) (inner_orderly t (o.0, o.1, o.2, o.3.1) n))
+      into n (begins_with_tree (opened t)) (or_here (t, n) (inner_cut t n))
+      (here (inner_cut t n) t n (o.0, o.1, o.2, o.3.1) (inner_orderly t (o.0, o.1, o.2, o.3.1) n))
   inner_orderly (repetition a t (suc zero) (Some (suc (suc m)))) o n = tt
   inner_orderly (repetition a t (suc (suc low)) high) o n = tt
 
@@ -65,7 +70,8 @@ unrooted_orderly (more (leaf a (class n xs)) ts) o = o
 unrooted_orderly (more (leaf a separator) ts) o = o
 unrooted_orderly (more (leaf a one) ts) o = o
 unrooted_orderly (more (leaf a (zero_or_more v)) ts) o = o
-unrooted_orderly (more (leaf a (tree rooted)) ts) o = ((tt, o.0.1), (refl, tt, o.1.2), (tt, o.2.1), (tt, o.3.1, o.3.2))
+unrooted_orderly (more (leaf a (tree rooted)) ts) o =
+    ((tt, o.0.1), (refl, tt, o.1.2), (tt, o.2.1), (tt, o.3.1, o.3.2))
 unrooted_orderly (more (alternation a us) ts) o = o
 unrooted_orderly (more (concatenation a us) ts) o = o
 unrooted_orderly (more (repetition a t low high) ts) o = o
@@ -83,9 +89,11 @@ unrooted_some (more (concatenation a us) ts) s = tt
 unrooted_some (more (repetition a t low high) ts) s = tt
 
 -- the rest, with an annotation of its own
-pub rest_orderly : {A : Type 0} (a : A) (t : Tree A) (n : ℕ) → Orderly t → IsSome (after n (opened t)) → Orderly (concatenation a (rest t n))
+pub rest_orderly : {A : Type 0} (a : A) (t : Tree A) (n : ℕ) → Orderly t → IsSome (after n (opened t))
+    → Orderly (concatenation a (rest t n))
 rest_orderly {A = A} a t n o some =
     let ts : Trees A = after (owner t n).1 (members (owner t n).0) in
-    let k : OrderlyEach (rest t n) = unrooted_orderly ts (after_orderly (owner t n).1 (members (owner t n).0) (members_orderly (owner t n).0 (here (inner_cut t n) t n o (inner_orderly t o n)))) in
+    let k : OrderlyEach (rest t n) = unrooted_orderly ts (after_orderly (owner t n).1 (members (owner t n).0)
+    (members_orderly (owner t n).0 (here (inner_cut t n) t n o (inner_orderly t o n)))) in
     let is : IsSome (rest t n) = unrooted_some ts (not_none ts (subst IsSome (owner_opened t o.1 n) some)) in
     ((is, k.0), k.1, k.2, k.3)

@@ -27,7 +27,10 @@ kind_of (c ∷ []) = one_kind (c == 47) refl
 
     one_kind : (b : Bool) → (c == 47) ≡ b → Kind (c ∷ [])
     one_kind true e = let f : c ≡ 47 = search (rules, e) in inl (inr ([], ap (λ z. z ∷ []) f))
-    one_kind false e = inr ((λ f. cc), λ h. (let f : (c == 47) ≡ true = ap (λ z. z == 47) (last h.0 h.1) in absurd (let g : ⊥ = cc in g)))
+    one_kind false e = inr (
+      (λ f. cc),
+      λ h. (let f : (c == 47) ≡ true = ap (λ z. z == 47) (last h.0 h.1) in absurd (let g : ⊥ = cc in g)),
+    )
 kind_of (c ∷ d ∷ p) = longer (kind_of (d ∷ p))
   where
     tail : (t : List ℕ) → c ∷ d ∷ p ≡ t ++ 47 ∷ [] → EndsWithSlash (d ∷ p)
@@ -50,7 +53,9 @@ seam_path p q seam = by_kind (kind_of p) seam
     by_kind (inr e) (inr (inl f)) = inl (ap (λ z. p ++ z) f ∙ append-nil p)
     by_kind (inr e) (inr (inr f)) = inr (f.0, ap (λ z. p ++ z) f.1 ∙ sym (path_bare p f.0 e.0 e.1))
 
-module _ {A : Type 0} (t : Tree A) (n : ℕ) (p s : List ℕ) (h : Prefix t n p) (means : (r : List ℕ) → MeansEach (rest t n) false false r ↔ Means t false false (path p r)) (m : Means t false false s) where
+module _ {A : Type 0} (t : Tree A) (n : ℕ) (p s : List ℕ) (h : Prefix t n p)
+    (means : (r : List ℕ) → MeansEach (rest t n) false false r ↔ Means t false false (path p r))
+    (m : Means t false false s) where
   abbrev pub Split : Type 0
   Split = (s ≡ p) ⊎ ((r : List ℕ) × (s ≡ path p r) × MeansEach (rest t n) false false r)
 
@@ -64,10 +69,14 @@ module _ {A : Type 0} (t : Tree A) (n : ℕ) (p s : List ℕ) (h : Prefix t n p)
   split : Split
   split = parts (prefix_seam t n p s h m)
 
-pub orderly_rest : {A : Type 0} (t : Tree A) (n : ℕ) (p r : List ℕ) → Orderly t → Prefix t n p → IsSome (after n (opened t)) →
-    (IsRooted (opened t) → begins_with_leaf (opened t) ≡ true) → MeansEach (rest t n) false false r ↔ Means t false false (path p r)
+pub orderly_rest : {A : Type 0} (t : Tree A) (n : ℕ) (p r : List ℕ) → Orderly t → Prefix t n p
+    → IsSome (after n (opened t)) →
+    (IsRooted (opened t) → begins_with_leaf (opened t) ≡ true) → MeansEach (rest t n) false false r
+    ↔ Means t false false (path p r)
 orderly_rest t n p r o x some first = rest_means t n p r o.0 o.1 first x some (orderly_free t n p o x)
 
-pub orderly_split : {A : Type 0} (t : Tree A) (n : ℕ) (p s : List ℕ) → Orderly t → Prefix t n p → IsSome (after n (opened t)) →
-    (IsRooted (opened t) → begins_with_leaf (opened t) ≡ true) → Means t false false s → (s ≡ p) ⊎ ((r : List ℕ) × (s ≡ path p r) × MeansEach (rest t n) false false r)
+pub orderly_split : {A : Type 0} (t : Tree A) (n : ℕ) (p s : List ℕ) → Orderly t → Prefix t n p
+    → IsSome (after n (opened t)) →
+    (IsRooted (opened t) → begins_with_leaf (opened t) ≡ true) → Means t false false s
+    → (s ≡ p) ⊎ ((r : List ℕ) × (s ≡ path p r) × MeansEach (rest t n) false false r)
 orderly_split t n p s o x some first m = split t n p s x (λ r. orderly_rest t n p r o x some first) m

@@ -1,9 +1,12 @@
 -- The texts of branches and of tokens one after another, token by token.
-use Rattle.std.proofs.Common.{◌≡◌, ℕ, zero, suc, ◌+◌, ◌<◌, ◌≤◌, List, [], ◌∷◌, ◌++◌, length, take, drop, get_or, refl, sym, ◌∙◌, ap, subst}
-use Rattle.std.proofs.Common.{arith, append-nil, drop-cons, chars, IsUtf8, Option, Some, None, IfSome, false, encode_utf8, encode_utf8_all}
+use Rattle.std.proofs.Common.{◌≡◌, ℕ, zero, suc, ◌+◌, ◌<◌, ◌≤◌, List, [], ◌∷◌, ◌++◌, length, take, drop}
+use Rattle.std.proofs.Common.{get_or, refl, sym, ◌∙◌, ap, subst}
+use Rattle.std.proofs.Common.{arith, append-nil, drop-cons, chars, IsUtf8, Option, Some, None, IfSome, false}
+use Rattle.std.proofs.Common.{encode_utf8, encode_utf8_all}
 use Rattle.std.proofs.Common.{String, string_bytes}
 use Rattle.std.proofs.lemmas.List.{drop_all}
-use Rattle.std.proofs.lemmas.Str.{chars-append, chars-nil, chars_past_char, encodes-chars, IsUtf8-string_bytes}
+use Rattle.std.proofs.lemmas.Str.{chars-append, chars-nil, chars_past_char, encodes-chars}
+use Rattle.std.proofs.lemmas.Str.{IsUtf8-string_bytes}
 use Rattle.std.specs.List.{repeat}
 use Rattle.std.specs.Option.{MatchOption}
 use Rattle.wax_token.specs.Meaning.{Means}
@@ -13,13 +16,15 @@ use Rattle.wax_facts.specs.InvariantText.{times, Text, TextOfAll, TextOfEach, Va
 use Rattle.wax_facts.proofs.TextSound.{text_sound}
 use Rattle.wax_facts.proofs.TextUnique.{text_unique}
 
-pub drop_here : {A : Type 0} (ts : List A) (i : ℕ) (t : A) → i < length ts → t ≡ get_or ts i t → drop i ts ≡ t ∷ drop (i + 1) ts
+pub drop_here : {A : Type 0} (ts : List A) (i : ℕ) (t : A) → i < length ts → t ≡ get_or ts i t
+    → drop i ts ≡ t ∷ drop (i + 1) ts
 drop_here ts i t lt e =
     let n : suc i ≡ i + 1 = omega arith in
     drop-cons ts i t lt ∙ ap (λ z. z ∷ drop (suc i) ts) (sym e) ∙ ap (λ k. t ∷ drop k ts) n
 
 -- ---- branches
-all_more : {A : Type 0} (t u : Tree A) (us : Trees A) (s : List ℕ) → Text u s → TextOfAll (more t us) s → TextOfAll (more t (more u us)) s
+all_more : {A : Type 0} (t u : Tree A) (us : Trees A) (s : List ℕ) → Text u s → TextOfAll (more t us) s
+    → TextOfAll (more t (more u us)) s
 all_more t u none s k h = (h, k)
 all_more t u (more v vs) s k h = (h.0, (k, h.1))
 
@@ -28,38 +33,48 @@ all_first t none s h = h
 all_first t (more u us) s h = h.0
 
 -- one more branch of the text
-pub all_step : {A : Type 0} (t : Tree A) (us : List (Tree A)) (i : ℕ) (u : Tree A) (s : List ℕ) → i < length us → u ≡ get_or us i u → Text u s →
+pub all_step : {A : Type 0} (t : Tree A) (us : List (Tree A)) (i : ℕ) (u : Tree A) (s : List ℕ)
+    → i < length us → u ≡ get_or us i u → Text u s →
     TextOfAll (more t (trees (drop (i + 1) us))) s → TextOfAll (more t (trees (drop i us))) s
 all_step t us i u s lt e k h =
-    subst (λ z. TextOfAll (more t (trees z)) s) (sym (drop_here us i u lt e)) (all_more t u (trees (drop (i + 1) us)) s k h)
+    subst (λ z. TextOfAll (more t (trees z)) s) (sym (drop_here us i u lt e))
+    (all_more t u (trees (drop (i + 1) us)) s k h)
 
 -- if the first branch is checked apart from the others
-pub all_kept : {A : Type 0} (ts : List (Tree A)) (t : Tree A) (us : List (Tree A)) (i : ℕ) (u : Tree A) (s : List ℕ) → ts ≡ t ∷ us →
+pub all_kept : {A : Type 0} (ts : List (Tree A)) (t : Tree A) (us : List (Tree A)) (i : ℕ) (u : Tree A)
+    (s : List ℕ) → ts ≡ t ∷ us →
     i < length us → u ≡ get_or us i u → Text u s →
     TextOfAll (trees (take 1 ts ++ drop (i + 1) us)) s → TextOfAll (trees (take 1 ts ++ drop i us)) s
 all_kept ts t us i u s e lt at k =
-    subst (λ z. TextOfAll (trees (take 1 z ++ drop (i + 1) us)) s → TextOfAll (trees (take 1 z ++ drop i us)) s) (sym e) (all_step t us i u s lt at k)
+    subst (λ z. TextOfAll (trees (take 1 z ++ drop (i + 1) us)) s
+    → TextOfAll (trees (take 1 z ++ drop i us)) s) (sym e) (all_step t us i u s lt at k)
 
-pub all_at : {A : Type 0} (t : Tree A) (us : List (Tree A)) (i : ℕ) (u : Tree A) → i < length us → u ≡ get_or us i u →
+pub all_at : {A : Type 0} (t : Tree A) (us : List (Tree A)) (i : ℕ) (u : Tree A) → i < length us
+    → u ≡ get_or us i u →
     (s : List ℕ) → TextOfAll (more t (trees us)) s → Text u s
 all_at t [] i u lt e s h = absurd (omega (arith, lt))
 all_at t (v ∷ us) zero u lt e s h = subst (λ z. Text z s) (sym e) (all_first v (trees us) s h.1)
 all_at t (v ∷ us) (suc i) u lt e s h = all_at v us i u (omega (arith, lt)) e s h.1
 
 -- two branches with two texts
-pub all_same : {A : Type 0} (t : Tree A) (us : List (Tree A)) (i : ℕ) (u : Tree A) (x y s : List ℕ) → i < length us → u ≡ get_or us i u →
+pub all_same : {A : Type 0} (t : Tree A) (us : List (Tree A)) (i : ℕ) (u : Tree A) (x y s : List ℕ)
+    → i < length us → u ≡ get_or us i u →
     Text t x → Text u y → TextOfAll (trees (t ∷ us)) s → y ≡ x
 all_same t us i u x y s lt e h k m =
     text_unique u y s k (all_at t us i u lt e s m) ∙ text_unique t s x (all_first t (trees us) s m) h
 
-pub bytes_same : {Z : Type 0} (s t : String Z) → chars (string_bytes s) ≡ chars (string_bytes t) → string_bytes s ≡ string_bytes t
+pub bytes_same : {Z : Type 0} (s t : String Z) → chars (string_bytes s) ≡ chars (string_bytes t)
+    → string_bytes s ≡ string_bytes t
 bytes_same s t e =
-    sym (encodes-chars (string_bytes s) (IsUtf8-string_bytes s)) ∙ ap encode_utf8_all e ∙ encodes-chars (string_bytes t) (IsUtf8-string_bytes t)
+    sym (encodes-chars (string_bytes s) (IsUtf8-string_bytes s)) ∙ ap encode_utf8_all e
+    ∙ encodes-chars (string_bytes t) (IsUtf8-string_bytes t)
 
 -- ---- tokens one after another
-pub each_step : {A : Type 0} (ts : List (Tree A)) (i : ℕ) (u : Tree A) (x y : List ℕ) → i < length ts → u ≡ get_or ts i u → Text u x →
+pub each_step : {A : Type 0} (ts : List (Tree A)) (i : ℕ) (u : Tree A) (x y : List ℕ) → i < length ts
+    → u ≡ get_or ts i u → Text u x →
     TextOfEach (trees (drop (i + 1) ts)) y → TextOfEach (trees (drop i ts)) (x ++ y)
-each_step ts i u x y lt e k h = subst (λ z. TextOfEach (trees z) (x ++ y)) (sym (drop_here ts i u lt e)) (x, y, refl, k, h)
+each_step ts i u x y lt e k h =
+    subst (λ z. TextOfEach (trees z) (x ++ y)) (sym (drop_here ts i u lt e)) (x, y, refl, k, h)
 
 pub each_at : {A : Type 0} (ts : List (Tree A)) (i : ℕ) (u : Tree A) → i < length ts → u ≡ get_or ts i u →
     (s : List ℕ) → TextOfEach (trees ts) s → (x : List ℕ) × Text u x
@@ -76,19 +91,22 @@ chars_repeat zero bs u = chars-nil
 chars_repeat (suc n) bs u = chars-append bs (repeat n bs) u ∙ ap (λ z. chars bs ++ z) (chars_repeat n bs u)
 
 -- ---- what is known of a text that was found
-pub only_text : {A X : Type 0} (t : Tree A) (f : X → List ℕ) (o : Option X) → MatchOption o (Variant t) (λ x. Text t (f x)) →
+pub only_text : {A X : Type 0} (t : Tree A) (f : X → List ℕ) (o : Option X)
+    → MatchOption o (Variant t) (λ x. Text t (f x)) →
     IfSome o (λ x. (s : List ℕ) → Means t false false s → s ≡ f x)
 only_text t f None h = tt
 only_text t f (Some x) h = λ s m. text_sound t (f x) h false false s m
 
 pub char_text : (c : ℕ) (bs : List ℕ) → IsUtf8 bs → bs ≡ encode_utf8 c → chars bs ≡ c ∷ []
-char_text c bs u e = chars_past_char bs [] c u (e ∙ sym (append-nil (encode_utf8 c))) ∙ ap (λ z. c ∷ z) chars-nil
+char_text c bs u e = chars_past_char bs [] c u (e ∙ sym (append-nil (encode_utf8 c)))
+    ∙ ap (λ z. c ∷ z) chars-nil
 
 pub chars_slash : chars (47 ∷ []) ≡ 47 ∷ []
 unfolding lib.Utf8.encode
 chars_slash = chars_past_char (47 ∷ []) [] 47 (47 ∷ [], (refl, refl)) refl ∙ ap (λ z. 47 ∷ z) chars-nil
 
-pub found_is : {X : Type 0} (o : Option X) (x : X) (P : Type 0) (Q : X → Type 0) → o ≡ Some x → MatchOption o P Q → Q x
+pub found_is : {X : Type 0} (o : Option X) (x : X) (P : Type 0) (Q : X → Type 0) → o ≡ Some x
+    → MatchOption o P Q → Q x
 found_is o x P Q e h = subst (λ z. MatchOption z P Q) e h
 
 pub none_is : {X : Type 0} (o : Option X) (P : Type 0) (Q : X → Type 0) → o ≡ None → MatchOption o P Q → P

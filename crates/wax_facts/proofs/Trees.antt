@@ -20,18 +20,22 @@ last_tree_from true rooted r h = inr (r, refl)
 last_tree_from false true r h = (r, refl)
 last_tree_from false false r h = absurd h
 
-tree_to : (b rooted : Bool) (x : List ℕ) → Roots b rooted → TreeMeans b true rooted x → BeginsWithSlash x × EndsWithSlash x
+tree_to : (b rooted : Bool) (x : List ℕ) → Roots b rooted → TreeMeans b true rooted x
+    → BeginsWithSlash x × EndsWithSlash x
 tree_to true rooted x h m = m
 tree_to false true x h m = m
 tree_to false false x h m = absurd h
 
-tree_from : (b rooted : Bool) (x : List ℕ) → Roots b rooted → BeginsWithSlash x × EndsWithSlash x → TreeMeans b true rooted x
+tree_from : (b rooted : Bool) (x : List ℕ) → Roots b rooted → BeginsWithSlash x × EndsWithSlash x
+    → TreeMeans b true rooted x
 tree_from true rooted x h m = m
 tree_from false true x h m = m
 tree_from false false x h m = absurd h
 
-pub unrooted_to : {A : Type 0} (a : A) (rooted : Bool) (vs : Trees A) (b f : Bool) (r : List ℕ) → f ≡ false → Roots b rooted →
-    MeansEach (more (leaf a (tree rooted)) vs) b f (47 ∷ r) → MeansEach (unrooted (more (leaf a (tree rooted)) vs)) false f r
+pub unrooted_to : {A : Type 0} (a : A) (rooted : Bool) (vs : Trees A) (b f : Bool) (r : List ℕ)
+    → f ≡ false → Roots b rooted →
+    MeansEach (more (leaf a (tree rooted)) vs) b f (47 ∷ r)
+    → MeansEach (unrooted (more (leaf a (tree rooted)) vs)) false f r
 unrooted_to a rooted none b false r e h m = tt
 unrooted_to a rooted none b true r e h m = absurd (let g : ⊥ = cc in g)
 unrooted_to a rooted (more u us) b f r e h m =
@@ -43,12 +47,19 @@ unrooted_to a rooted (more u us) b f r e h m =
     tail : {s t : List ℕ} → 47 ∷ s ≡ 47 ∷ t → s ≡ t
     tail e = cc
 
-pub unrooted_from : {A : Type 0} (a : A) (rooted : Bool) (vs : Trees A) (b f : Bool) (r : List ℕ) → f ≡ false → Roots b rooted →
-    MeansEach (unrooted (more (leaf a (tree rooted)) vs)) false f r → MeansEach (more (leaf a (tree rooted)) vs) b f (47 ∷ r)
+pub unrooted_from : {A : Type 0} (a : A) (rooted : Bool) (vs : Trees A) (b f : Bool) (r : List ℕ)
+    → f ≡ false → Roots b rooted →
+    MeansEach (unrooted (more (leaf a (tree rooted)) vs)) false f r
+    → MeansEach (more (leaf a (tree rooted)) vs) b f (47 ∷ r)
 unrooted_from a rooted none b false r e h m = last_tree_from b rooted r h
 unrooted_from a rooted none b true r e h m = absurd (let g : ⊥ = cc in g)
-unrooted_from a rooted (more u us) b f r e h m =
-    (47 ∷ m.0, m.1, ap (λ z. 47 ∷ z) m.2, tree_from b rooted (47 ∷ m.0) h ((m.0, refl), cons_ends m.0 m.3), m.4)
+unrooted_from a rooted (more u us) b f r e h m = (
+  47 ∷ m.0,
+  m.1,
+  ap (λ z. 47 ∷ z) m.2,
+  tree_from b rooted (47 ∷ m.0) h ((m.0, refl), cons_ends m.0 m.3),
+  m.4,
+)
 
 pub unrooted_plain : {A : Type 0} (ts : Trees A) → begins_with_tree ts ≡ false → unrooted ts ≡ ts
 unrooted_plain none e = refl

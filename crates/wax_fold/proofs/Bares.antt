@@ -1,5 +1,6 @@
 -- Without their annotations, tokens mean what they meant.
-use Rattle.std.proofs.Common.{◌≡◌, ◌↔◌, ◌≤◌, ◌⊎◌, ◌∙◌, ℕ, Bool, true, List, [], ◌∷◌, ◌++◌, Some, map, refl, sym, subst, ap}
+use Rattle.std.proofs.Common.{◌≡◌, ◌↔◌, ◌≤◌, ◌⊎◌, ◌∙◌, ℕ, Bool, true, List, [], ◌∷◌, ◌++◌, Some, map, refl}
+use Rattle.std.proofs.Common.{sym, subst, ap}
 use Rattle.std.specs.Prelude.{⊤}
 use Rattle.wax_query.specs.Ranges.{AtMost}
 use Rattle.wax_token.specs.Meaning.{Copies, Means, MeansEach, MeansSome}
@@ -21,7 +22,8 @@ module _ {A : Type 0} where
     each_bare : (ts : Trees A) → trees (mapped_each baring ts) ≡ bare_each ts
     each_bare none = refl
     each_bare (more t ts) =
-        ap (λ z. trees (listed_term z ++ mapped_each baring ts)) (mapped_bare t) ∙ ap (more (bare t)) (each_bare ts)
+        ap (λ z. trees (listed_term z ++ mapped_each baring ts)) (mapped_bare t)
+        ∙ ap (more (bare t)) (each_bare ts)
 
   mutual
     means_bare : (t : Tree A) (b f : Bool) (s : List ℕ) → Means (bare t) b f s ≡ Means t b f s
@@ -35,11 +37,13 @@ module _ {A : Type 0} where
     some_bare none b f s = refl
     some_bare (more t ts) b f s = λ i. means_bare t b f s i ⊎ some_bare ts b f s i
 
-    means_each_bare : (ts : Trees A) (b f : Bool) (s : List ℕ) → MeansEach (bare_each ts) b f s ≡ MeansEach ts b f s
+    means_each_bare : (ts : Trees A) (b f : Bool) (s : List ℕ)
+        → MeansEach (bare_each ts) b f s ≡ MeansEach ts b f s
     means_each_bare none b f s = refl
     means_each_bare (more t none) b f s = means_bare t b f s
     means_each_bare (more t (more u us)) b f s =
-        λ i. (x : List ℕ) × (y : List ℕ) × (s ≡ x ++ y) × means_bare t b true x i × means_each_bare (more u us) true f y i
+        λ i. (x : List ℕ) × (y : List ℕ) × (s ≡ x ++ y) × means_bare t b true x i
+        × means_each_bare (more u us) true f y i
 
   -- of a list
   some_of_bare : {X : Type 0} (token : X → Tree A) (xs : List X) (b f : Bool) (s : List ℕ) →
@@ -52,4 +56,5 @@ module _ {A : Type 0} where
       Means t b f s ↔ MeansSome (trees (map token xs)) b f s
   means_combined token xs t e b f s =
       let old = MeansSome (trees (map token xs)) b f s in
-      subst (λ z. Means z b f s ↔ old) (sym e) (subst (λ Z. Z ↔ old) (sym (some_of_bare token xs b f s)) (λ m. m, λ m. m))
+      subst (λ z. Means z b f s ↔ old) (sym e)
+      (subst (λ Z. Z ↔ old) (sym (some_of_bare token xs b f s)) (λ m. m, λ m. m))

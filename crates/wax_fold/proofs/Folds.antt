@@ -1,5 +1,6 @@
 -- The fold of a branch, and how many steps it takes.
-use Rattle.std.proofs.Common.{◌≡◌, ℕ, ◌+◌, ◌<◌, ◌≤◌, List, [], ◌∷◌, ◌++◌, Option, map, refl, sym, ◌∙◌, ap, arith, append-nil}
+use Rattle.std.proofs.Common.{◌≡◌, ℕ, ◌+◌, ◌<◌, ◌≤◌, List, [], ◌∷◌, ◌++◌, Option, map, refl, sym, ◌∙◌, ap}
+use Rattle.std.proofs.Common.{arith, append-nil}
 use Rattle.std.specs.List.{flat_map}
 use Rattle.wax_token.specs.Syntax.{Tree}
 use Rattle.wax_token.specs.View.{branch_tree, topology_tree}
@@ -15,7 +16,8 @@ use Rattle.wax_fold.specs.Branches.{Branch, branch_of, picked}
 use Rattle.wax_token.specs.Words.{listed}
 use Rattle.wax_fold.specs.Folded.{Folding, listed_term, branch_term, folded, folded_each}
 use Rattle.wax_fold.specs.inner.BranchFolded.{branch_folded}
-use Rattle.wax_fold.specs.inner.OpenBranches.{OpenBranch, closing, folding, with_term, counting, branch_visits}
+use Rattle.wax_fold.specs.inner.OpenBranches.{OpenBranch, closing, folding, with_term, counting}
+use Rattle.wax_fold.specs.inner.OpenBranches.{branch_visits}
 use Rattle.wax_fold.specs.inner.Opens.{Open, closed, closed_all, results, total, steps_in, steps_left}
 use Rattle.wax_fold.proofs.Opens.{alone, entered, left, steps_entered, steps_back}
 use Rattle.wax_fold.proofs.Picking.{picked_mapped}
@@ -33,11 +35,13 @@ module _ {A T : Type 0} (chosen : Branch A → List ℕ) (f : Folding A T) where
       branch_term chosen f (record { kind = k; tokens = listed (trees ts) }) (folded_each chosen f (trees ts))
       ≡ branch_folded chosen f (record { kind = k; tokens = ts })
   of_kind k ts =
-      ap (λ z. branch_term chosen f (record { kind = k; tokens = z }) (folded_each chosen f (trees ts))) (listed_trees ts)
+      ap (λ z. branch_term chosen f (record { kind = k; tokens = z }) (folded_each chosen f (trees ts)))
+      (listed_trees ts)
       ∙ ap (branch_term chosen f (record { kind = k; tokens = ts })) (folded_trees ts)
 
   -- a branch
-  pub folded_branch : (b : BranchKind A) (a : A) → folded chosen f (branch_tree b a) ≡ branch_folded chosen f (branch_of b)
+  pub folded_branch : (b : BranchKind A) (a : A)
+      → folded chosen f (branch_tree b a) ≡ branch_folded chosen f (branch_of b)
   folded_branch (kind.Alternation x) a = of_kind Alternation x.tokens.items
   folded_branch (kind.Concatenation x) a = of_kind Concatenation x.tokens.items
   folded_branch (kind.Repetition r) a = refl
@@ -48,7 +52,8 @@ module _ {A T : Type 0} (chosen : Branch A → List ℕ) (f : Folding A T) where
       sym (folded_branch b a) ∙ ap (λ z. folded chosen f (topology_tree z a)) (sym e) ∙ ap (folded chosen f) h
 
   -- a branch that was just opened
-  pub opened : (o : OpenBranch A T) (b : Branch A) → o ≡ record { branch = b; rest = picked (chosen b) b.tokens; terms = [] } →
+  pub opened : (o : OpenBranch A T) (b : Branch A)
+      → o ≡ record { branch = b; rest = picked (chosen b) b.tokens; terms = [] } →
       closed (folded chosen f) (folding f o) ≡ branch_folded chosen f b
   opened o b e =
       ap (λ z. closed (folded chosen f) (folding f z)) e
@@ -58,7 +63,8 @@ module _ {A T : Type 0} (chosen : Branch A → List ℕ) (f : Folding A T) (w : 
   -- none is around the first
   pub begun : {X : Type 0} (view : X → Open A T) (xs : List X) (o : OpenBranch A T) (b : Branch A) → xs ≡ [] →
       o ≡ record { branch = b; rest = picked (chosen b) b.tokens; terms = [] } →
-      closed_all (folded chosen f) (map view xs) (closed (folded chosen f) (folding f o)) ≡ branch_folded chosen f b
+      closed_all (folded chosen f) (map view xs) (closed (folded chosen f) (folding f o))
+      ≡ branch_folded chosen f b
   begun view xs o b e i =
       alone (folded chosen f) view xs (closed (folded chosen f) (folding f o)) e ∙ opened chosen f o b i
 
@@ -70,7 +76,8 @@ module _ {A T : Type 0} (chosen : Branch A → List ℕ) (f : Folding A T) (w : 
       closed_all (folded chosen f) os (closed (folded chosen f) (folding f o)) ≡ w →
       closed_all (folded chosen f) all (closed (folded chosen f) (folding f inner)) ≡ w
   deeper os all o n inner t b e h i k v =
-      entered (folded chosen f) os all (folding f o) (folding f n) (folding f inner) t e h.0 (ap (closing f) h.1) h.2
+      entered (folded chosen f) os all (folding f o) (folding f n) (folding f inner) t e h.0
+      (ap (closing f) h.1) h.2
       (opened chosen f inner b i ∙ k) ∙ v
 
   -- a branch is closed
@@ -81,43 +88,57 @@ module _ {A T : Type 0} (chosen : Branch A → List ℕ) (f : Folding A T) (w : 
       closed_all (folded chosen f) os (closed (folded chosen f) (folding f new)) ≡ w
   back os all o n around new g x e h s k i v =
       left (folded chosen f) os all (folding f o) (folding f around) (folding f new) x e h.0
-      (k ∙ ap (λ z. closing z n.branch n.terms) s ∙ ap (λ z. closing f z.branch z.terms) h.1) (ap (folding f) i) ∙ v
+      (k ∙ ap (λ z. closing z n.branch n.terms) s ∙ ap (λ z. closing f z.branch z.terms) h.1)
+      (ap (folding f) i) ∙ v
 
 total-append : (xs ys : List ℕ) → total (xs ++ ys) ≡ total xs + total ys
 total-append [] ys = omega arith
 total-append (x ∷ xs) ys = omega (arith, total-append xs ys)
 
 module _ {A : Type 0} (chosen : Branch A → List ℕ) where
-  total_visits : (ts : List (Tree A)) → total (map (branch_visits chosen) ts) ≡ total (results (folded chosen counting) ts)
+  total_visits : (ts : List (Tree A)) → total (map (branch_visits chosen) ts)
+      ≡ total (results (folded chosen counting) ts)
   total_visits [] = refl
   total_visits (t ∷ ts) =
-      omega (arith, total-append (listed_term (folded chosen counting t)) (results (folded chosen counting) ts), total_visits ts)
+      omega (
+        arith,
+        total-append (listed_term (folded chosen counting t)) (results (folded chosen counting) ts),
+        total_visits ts,
+      )
 
   -- the tokens of a branch take fewer steps than the branch
   pub visits_inside : {T : Type 0} (o : OpenBranch A T) (b : Branch A) (t : Tree A) →
       o ≡ record { branch = b; rest = picked (chosen b) b.tokens; terms = [] } →
-      branch_folded chosen counting b ≡ folded chosen counting t → total (map (branch_visits chosen) o.rest) + 2 ≤ branch_visits chosen t
+      branch_folded chosen counting b ≡ folded chosen counting t
+      → total (map (branch_visits chosen) o.rest) + 2 ≤ branch_visits chosen t
   visits_inside o b t e h =
-      let inside : List ℕ = flat_map listed_term (picked (chosen b) (map (folded chosen counting) b.tokens)) in
+      let inside : List ℕ =
+      flat_map listed_term (picked (chosen b) (map (folded chosen counting) b.tokens)) in
       let here : total (inside ++ []) + 2 + 0 ≡ branch_visits chosen t = ap (λ z. total (listed_term z)) h in
-      let within : total (inside ++ []) ≡ total (results (folded chosen counting) (picked (chosen b) b.tokens)) =
+      let within : total (inside ++ [])
+      ≡ total (results (folded chosen counting) (picked (chosen b) b.tokens)) =
       ap total (append-nil inside ∙ picked_mapped listed_term (folded chosen counting) (chosen b) b.tokens) in
-      let rest : total (map (branch_visits chosen) o.rest) ≡ total (map (branch_visits chosen) (picked (chosen b) b.tokens)) =
+      let rest : total (map (branch_visits chosen) o.rest)
+      ≡ total (map (branch_visits chosen) (picked (chosen b) b.tokens)) =
       ap (λ z. total (map (branch_visits chosen) z.rest)) e in
       omega (arith, here, within, rest, total_visits (picked (chosen b) b.tokens))
 
-  pub fewer_deeper : {T : Type 0} (f : Folding A T) (os all : List (Open A T)) (o n inner : OpenBranch A T) (t : Tree A) (b : Branch A) →
+  pub fewer_deeper : {T : Type 0} (f : Folding A T) (os all : List (Open A T)) (o n inner : OpenBranch A T)
+      (t : Tree A) (b : Branch A) →
       all ≡ os ++ folding f n ∷ [] → o.rest ≡ t ∷ n.rest →
       inner ≡ record { branch = b; rest = picked (chosen b) b.tokens; terms = [] } →
       branch_folded chosen counting b ≡ folded chosen counting t →
       steps_left (branch_visits chosen) all + steps_in (branch_visits chosen) (folding f inner)
       < steps_left (branch_visits chosen) os + steps_in (branch_visits chosen) (folding f o)
   fewer_deeper f os all o n inner t b e r i k =
-      steps_entered (branch_visits chosen) os all (folding f o) (folding f n) (folding f inner) t e r (visits_inside inner b t i k)
+      steps_entered (branch_visits chosen) os all (folding f o) (folding f n) (folding f inner) t e r
+      (visits_inside inner b t i k)
 
-  pub fewer_back : {T : Type 0} (f : Folding A T) (os all : List (Open A T)) (o around new : OpenBranch A T) (x : Option T) →
+  pub fewer_back : {T : Type 0} (f : Folding A T) (os all : List (Open A T))
+      (o around new : OpenBranch A T) (x : Option T) →
       all ≡ os ++ folding f around ∷ [] → new ≡ with_term around x →
       steps_left (branch_visits chosen) os + steps_in (branch_visits chosen) (folding f new)
       < steps_left (branch_visits chosen) all + steps_in (branch_visits chosen) (folding f o)
   fewer_back f os all o around new x e i =
-      steps_back (branch_visits chosen) os all (folding f o) (folding f around) (folding f new) e (ap (λ z. z.rest) i)
+      steps_back (branch_visits chosen) os all (folding f o) (folding f around)
+      (folding f new) e (ap (λ z. z.rest) i)

@@ -1,5 +1,6 @@
 -- A tree that is built anew, and how many steps it takes.
-use Rattle.std.proofs.Common.{◌≡◌, ◌+◌, ◌*◌, ◌<◌, ◌≤◌, List, [], ◌∷◌, ◌++◌, Option, Some, map, refl, sym, ◌∙◌, ap, arith, append-nil}
+use Rattle.std.proofs.Common.{◌≡◌, ◌+◌, ◌*◌, ◌<◌, ◌≤◌, List, [], ◌∷◌, ◌++◌, Option, Some, map, refl, sym, ◌∙◌}
+use Rattle.std.proofs.Common.{ap, arith, append-nil}
 use Rattle.wax_token.specs.Syntax.{Tree, trees_size}
 use Rattle.wax_token.specs.View.{branch_tree, topology_tree}
 use Rattle.wax_token.specs.Words.{trees}
@@ -40,13 +41,15 @@ module _ {A X : Type 0} (f : Mapping A X) where
 
 module _ {A X : Type 0} (f : Mapping A X) (w : Option X) where
   -- none is around the first
-  pub begun : {Y : Type 0} (view : Y → Open A X) (ys : List Y) (o : OpenToken A X) (b : BranchKind A) (a : A) → ys ≡ [] →
+  pub begun : {Y : Type 0} (view : Y → Open A X) (ys : List Y) (o : OpenToken A X) (b : BranchKind A) (a : A)
+      → ys ≡ [] →
       o ≡ record { annotation = a; kind = (branch_of b).kind; rest = (branch_of b).tokens; done = [] } →
       closed_all (mapped f) (map view ys) (closed (mapped f) (mapping f o)) ≡ mapped f (branch_tree b a)
   begun view ys o b a e i = alone (mapped f) view ys (closed (mapped f) (mapping f o)) e ∙ opened f o b a i
 
   -- a token that is a branch is opened
-  pub deeper : (os all : List (Open A X)) (o n inner : OpenToken A X) (t : Tree A) (b : BranchKind A) (a : A) →
+  pub deeper : (os all : List (Open A X)) (o n inner : OpenToken A X) (t : Tree A) (b : BranchKind A) (a : A)
+      →
       all ≡ os ++ mapping f n ∷ [] → NextToken o (Some t) n →
       inner ≡ record { annotation = a; kind = (branch_of b).kind; rest = (branch_of b).tokens; done = [] } →
       mapped f (branch_tree b a) ≡ mapped f t →
@@ -71,30 +74,39 @@ visits_trees : {A : Type 0} (ts : List (Tree A)) → total (map tree_visits ts) 
 visits_trees [] = omega arith
 visits_trees (t ∷ ts) = omega (arith, visits_trees ts)
 
-visits_branch : {A : Type 0} (b : BranchKind A) (a : A) → total (map tree_visits (branch_of b).tokens) + 2 ≤ tree_visits (branch_tree b a)
+visits_branch : {A : Type 0} (b : BranchKind A) (a : A)
+    → total (map tree_visits (branch_of b).tokens) + 2 ≤ tree_visits (branch_tree b a)
 visits_branch (kind.Alternation x) a = omega (arith, visits_trees x.tokens.items)
 visits_branch (kind.Concatenation x) a = omega (arith, visits_trees x.tokens.items)
 visits_branch (kind.Repetition r) a = omega arith
 
 -- the tokens of a branch take fewer steps than the branch
-pub visits_inside : {A X : Type 0} (o : OpenToken A X) (x : Topology (BranchKind A) LeafKind) (b : BranchKind A) (t : Tree A) (a : A) →
+pub visits_inside : {A X : Type 0} (o : OpenToken A X) (x : Topology (BranchKind A) LeafKind)
+    (b : BranchKind A) (t : Tree A) (a : A) →
     o ≡ record { annotation = a; kind = (branch_of b).kind; rest = (branch_of b).tokens; done = [] } →
     x ≡ BranchOf b → topology_tree x a ≡ t → total (map tree_visits o.rest) + 2 ≤ tree_visits t
 visits_inside o x b t a e i h =
-    let rest : total (map tree_visits o.rest) ≡ total (map tree_visits (branch_of b).tokens) = ap (λ z. total (map tree_visits z.rest)) e in
-    let token : tree_visits (branch_tree b a) ≡ tree_visits t = ap (λ z. tree_visits (topology_tree z a)) (sym i) ∙ ap tree_visits h in
+    let rest : total (map tree_visits o.rest) ≡ total (map tree_visits (branch_of b).tokens) =
+    ap (λ z. total (map tree_visits z.rest)) e in
+    let token : tree_visits (branch_tree b a) ≡ tree_visits t =
+    ap (λ z. tree_visits (topology_tree z a)) (sym i) ∙ ap tree_visits h in
     omega (arith, rest, token, visits_branch b a)
 
-pub fewer_deeper : {A X : Type 0} (f : Mapping A X) (os all : List (Open A X)) (o n inner : OpenToken A X) (x : Topology (BranchKind A) LeafKind)
+pub fewer_deeper : {A X : Type 0} (f : Mapping A X) (os all : List (Open A X)) (o n inner : OpenToken A X)
+    (x : Topology (BranchKind A) LeafKind)
     (b : BranchKind A) (t : Tree A) (a : A) → all ≡ os ++ mapping f n ∷ [] → o.rest ≡ t ∷ n.rest →
     inner ≡ record { annotation = a; kind = (branch_of b).kind; rest = (branch_of b).tokens; done = [] } →
     x ≡ BranchOf b → topology_tree x a ≡ t →
-    steps_left tree_visits all + steps_in tree_visits (mapping f inner) < steps_left tree_visits os + steps_in tree_visits (mapping f o)
+    steps_left tree_visits all + steps_in tree_visits (mapping f inner)
+    < steps_left tree_visits os + steps_in tree_visits (mapping f o)
 fewer_deeper f os all o n inner x b t a e r i k h =
-    steps_entered tree_visits os all (mapping f o) (mapping f n) (mapping f inner) t e r (visits_inside inner x b t a i k h)
+    steps_entered tree_visits os all (mapping f o) (mapping f n) (mapping f inner) t e r
+    (visits_inside inner x b t a i k h)
 
-pub fewer_back : {A X : Type 0} (f : Mapping A X) (os all : List (Open A X)) (o around new : OpenToken A X) (x : Option X) →
+pub fewer_back : {A X : Type 0} (f : Mapping A X) (os all : List (Open A X))
+    (o around new : OpenToken A X) (x : Option X) →
     all ≡ os ++ mapping f around ∷ [] → new ≡ with_token around x →
-    steps_left tree_visits os + steps_in tree_visits (mapping f new) < steps_left tree_visits all + steps_in tree_visits (mapping f o)
+    steps_left tree_visits os + steps_in tree_visits (mapping f new)
+    < steps_left tree_visits all + steps_in tree_visits (mapping f o)
 fewer_back f os all o around new x e i =
     steps_back tree_visits os all (mapping f o) (mapping f around) (mapping f new) e (ap (λ z. z.rest) i)

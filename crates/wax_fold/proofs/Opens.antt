@@ -1,8 +1,10 @@
 -- What the outermost of open branches has doesn't change while its tokens are gone through.
-use Rattle.std.proofs.Common.{◌≡◌, ℕ, ◌+◌, ◌<◌, ◌≤◌, List, [], ◌∷◌, ◌++◌, Option, map, refl, sym, ◌∙◌, ap, arith, append_assoc, append-nil}
+use Rattle.std.proofs.Common.{◌≡◌, ℕ, ◌+◌, ◌<◌, ◌≤◌, List, [], ◌∷◌, ◌++◌, Option, map, refl, sym, ◌∙◌, ap}
+use Rattle.std.proofs.Common.{arith, append_assoc, append-nil}
 use Rattle.wax_token.specs.Syntax.{Tree}
 use Rattle.wax_fold.specs.Folded.{listed_term}
-use Rattle.wax_fold.specs.inner.Opens.{Open, with_one, results, closed, closed_all, total, steps_in, steps_left}
+use Rattle.wax_fold.specs.inner.Opens.{Open, with_one, results, closed, closed_all, total, steps_in}
+use Rattle.wax_fold.specs.inner.Opens.{steps_left}
 
 module _ {A T : Type 0} (result : Tree A → Option T) where
   -- all tokens have been gone through
@@ -10,7 +12,8 @@ module _ {A T : Type 0} (result : Tree A → Option T) where
   all_gone o e = ap (λ z. o.close (o.done ++ results result z)) e ∙ ap o.close (append-nil o.done)
 
   -- one token less, and what it has more
-  pub took : (o n : Open A T) (t : Tree A) (x : Option T) → o.rest ≡ t ∷ n.rest → n.close ≡ o.close → n.done ≡ o.done →
+  pub took : (o n : Open A T) (t : Tree A) (x : Option T) → o.rest ≡ t ∷ n.rest
+      → n.close ≡ o.close → n.done ≡ o.done →
       x ≡ result t → closed result (with_one n x) ≡ closed result o
   took o n t x e c d h =
       ap (λ z. n.close ((n.done ++ listed_term z) ++ results result n.rest)) h
@@ -25,7 +28,8 @@ module _ {A T : Type 0} (result : Tree A → Option T) where
   innermost (p ∷ os) o x = ap (λ z. closed result (with_one p z)) (innermost os o x)
 
   -- no branch is around
-  pub alone : {X : Type 0} (view : X → Open A T) (xs : List X) (x : Option T) → xs ≡ [] → closed_all result (map view xs) x ≡ x
+  pub alone : {X : Type 0} (view : X → Open A T) (xs : List X) (x : Option T) → xs ≡ []
+      → closed_all result (map view xs) x ≡ x
   alone view xs x e = ap (λ z. closed_all result (map view z) x) e
 
   -- a token that is a branch is opened
@@ -59,11 +63,13 @@ module _ {A T : Type 0} (count : Tree A → ℕ) where
   steps_entered os all o n inner t e r h =
       omega (arith, ap (steps_left count) e, steps-innermost os n, ap (λ z. total (map count z)) r, h)
 
-  pub steps_taken : (os : List (Open A T)) (o new : Open A T) (t : Tree A) → o.rest ≡ t ∷ new.rest → 1 ≤ count t →
+  pub steps_taken : (os : List (Open A T)) (o new : Open A T) (t : Tree A)
+      → o.rest ≡ t ∷ new.rest → 1 ≤ count t →
       steps_left count os + steps_in count new < steps_left count os + steps_in count o
   steps_taken os o new t r h = omega (arith, ap (λ z. total (map count z)) r, h)
 
   pub steps_back : (os all : List (Open A T)) (o around new : Open A T) → all ≡ os ++ around ∷ [] →
-      new.rest ≡ around.rest → steps_left count os + steps_in count new < steps_left count all + steps_in count o
+      new.rest ≡ around.rest → steps_left count os + steps_in count new
+      < steps_left count all + steps_in count o
   steps_back os all o around new e r =
       omega (arith, ap (steps_left count) e, steps-innermost os around, ap (λ z. total (map count z)) r)

@@ -1,5 +1,6 @@
 -- Items that are taken from a list one by one, or picked by their places.
-use Rattle.std.proofs.Common.{◌≡◌, ℕ, ◌+◌, List, [], ◌∷◌, ◌++◌, map, drop, take, get_or, slice_get, length, ◌<◌, arith, zero, suc, refl, sym, ◌∙◌, ap, reverse}
+use Rattle.std.proofs.Common.{◌≡◌, ℕ, ◌+◌, List, [], ◌∷◌, ◌++◌, map, drop, take, get_or, slice_get, length}
+use Rattle.std.proofs.Common.{◌<◌, arith, zero, suc, refl, sym, ◌∙◌, ap, reverse}
 use Rattle.std.proofs.lemmas.List.{map-append, reverse-append}
 use Rattle.std.proofs.lemmas.Grind.{flat_map-append}
 use Rattle.std.specs.List.{flat_map}
@@ -8,7 +9,8 @@ use Rattle.wax_fold.specs.Folded.{listed_term}
 use Rattle.wax_fold.specs.Sequences.{places}
 
 -- the item at an index, and those after it
-pub next_given : {X Y : Type 0} (f : X → Y) (xs : List X) (i : ℕ) (x : X) → i < length xs → x ≡ get_or xs i x →
+pub next_given : {X Y : Type 0} (f : X → Y) (xs : List X) (i : ℕ) (x : X) → i < length xs
+    → x ≡ get_or xs i x →
     drop i (map f xs) ≡ f x ∷ drop (i + 1) (map f xs)
 next_given f [] i x h e = absurd (omega (arith, h))
 next_given f (y ∷ xs) zero x h e = ap (λ z. f z ∷ map f xs) (sym e)
@@ -54,5 +56,6 @@ pub last_first : {X : Type 0} (old new : List X) (x : X) → old ≡ new ++ x �
 last_first old new x e = ap reverse e ∙ reverse-append new (x ∷ [])
 
 -- one more item at the end
-pub mapped_last : {X Y : Type 0} (f : X → Y) (all xs : List X) (x : X) → all ≡ xs ++ x ∷ [] → map f all ≡ map f xs ++ f x ∷ []
+pub mapped_last : {X Y : Type 0} (f : X → Y) (all xs : List X) (x : X) → all ≡ xs ++ x ∷ []
+    → map f all ≡ map f xs ++ f x ∷ []
 mapped_last f all xs x e = ap (map f) e ∙ map-append f xs (x ∷ [])

@@ -1,5 +1,6 @@
 -- Each token that a walk gives is the first of those that were to come.
-use Rattle.std.proofs.Common.{◌≡◌, ℕ, ◌<◌, List, ◌∷◌, ◌++◌, Option, Some, None, IsSome, length, sym, ◌∙◌, ap, arith}
+use Rattle.std.proofs.Common.{◌≡◌, ℕ, ◌<◌, List, ◌∷◌, ◌++◌, Option, Some, None, IsSome, length, sym, ◌∙◌, ap}
+use Rattle.std.proofs.Common.{arith}
 use Rattle.wax_fold.specs.Branches.{Branch}
 use Rattle.wax_fold.specs.Folded.{listed_term}
 use Rattle.wax_fold.specs.Order.{Entry, breadth_first}

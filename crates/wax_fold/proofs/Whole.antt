@@ -1,15 +1,18 @@
 -- A walk forward gives each token of a tree once.
-use Rattle.std.proofs.Common.{◌≡◌, ℕ, ◌+◌, zero, suc, List, [], ◌∷◌, ◌++◌, map, length, refl, sym, ◌∙◌, ap, subst, arith, append-nil}
+use Rattle.std.proofs.Common.{◌≡◌, ℕ, ◌+◌, zero, suc, List, [], ◌∷◌, ◌++◌, map, length, refl, sym, ◌∙◌, ap}
+use Rattle.std.proofs.Common.{subst, arith, append-nil}
 use Rattle.std.proofs.lemmas.Grind.{flat_map-append}
 use Rattle.std.proofs.lemmas.List.{length-append}
-use Rattle.std.proofs.lemmas.List.Sorted.{IsPermutation-refl, IsPermutation-cons, IsPermutation-trans, IsPermutation-append_comm}
+use Rattle.std.proofs.lemmas.List.Sorted.{IsPermutation-refl, IsPermutation-cons, IsPermutation-trans}
+use Rattle.std.proofs.lemmas.List.Sorted.{IsPermutation-append_comm}
 use Rattle.std.specs.List.{flat_map}
 use Rattle.std.specs.List.Sorted.{IsPermutation}
 use Rattle.wax_token.specs.Syntax.{Tree, leaf, alternation, concatenation, repetition, Trees, none, more}
 use Rattle.wax_fold.specs.declared.walk.entry.Position.{Position}
 use Rattle.wax_fold.specs.Branches.{picked}
 use Rattle.wax_token.specs.Words.{listed}
-use Rattle.wax_fold.specs.Order.{Entry, root_entry, disjuncts, conjuncts, children_at, children, breadth_first}
+use Rattle.wax_fold.specs.Order.{Entry, root_entry, disjuncts, conjuncts, children_at, children}
+use Rattle.wax_fold.specs.Order.{breadth_first}
 use Rattle.wax_fold.specs.Sequences.{forward_chosen, places}
 use Rattle.wax_fold.specs.Subtrees.{subtrees, subtrees_each}
 use Rattle.wax_fold.proofs.Levels.{next_first}
@@ -23,11 +26,13 @@ inside : {A : Type 0} (ts : Trees A) → flat_map subtrees (listed ts) ≡ subtr
 inside none = refl
 inside (more t ts) = ap (λ z. subtrees t ++ z) (inside ts)
 
-of_disjuncts : {A : Type 0} (p : Position) (n : ℕ) (ts : List (Tree A)) → below (disjuncts p n ts) ≡ flat_map subtrees ts
+of_disjuncts : {A : Type 0} (p : Position) (n : ℕ) (ts : List (Tree A))
+    → below (disjuncts p n ts) ≡ flat_map subtrees ts
 of_disjuncts p n [] = refl
 of_disjuncts p n (t ∷ ts) = ap (λ z. subtrees t ++ z) (of_disjuncts p (n + 1) ts)
 
-of_conjuncts : {A : Type 0} (p : Position) (ts : List (Tree A)) → below (conjuncts p ts) ≡ flat_map subtrees ts
+of_conjuncts : {A : Type 0} (p : Position) (ts : List (Tree A))
+    → below (conjuncts p ts) ≡ flat_map subtrees ts
 of_conjuncts p [] = refl
 of_conjuncts p (t ∷ ts) = ap (λ z. subtrees t ++ z) (of_conjuncts p ts)
 
@@ -54,20 +59,31 @@ all_given zero (e ∷ es) h =
     absurd (omega (arith, h, ap length whole))
 all_given {A = A} (suc n) (e ∷ es) h =
     let cs : List (Entry A) = children forward_chosen e in
-    let whole : below (e ∷ es) ≡ e.token ∷ (below cs ++ below es) = ap (λ z. z ++ below es) (parted e.position e.token) in
+    let whole : below (e ∷ es) ≡ e.token ∷ (below cs ++ below es) =
+    ap (λ z. z ++ below es) (parted e.position e.token) in
     let joined : below (es ++ cs) ≡ below es ++ below cs = flat_map-append (λ e. subtrees e.token) es cs in
     let fewer : length (below (es ++ cs)) ≡ n =
-    omega (arith, h, ap length whole, ap length joined, length-append (below cs) (below es), length-append (below es) (below cs)) in
+    omega (
+      arith,
+      h,
+      ap length whole,
+      ap length joined,
+      length-append (below cs) (below es),
+      length-append (below es) (below cs),
+    ) in
     let rest : List (Tree A) = map (λ e. e.token) (breadth_first forward_chosen (es ++ cs)) in
     let turned : IsPermutation (below cs ++ below es) rest =
-    IsPermutation-trans (below cs ++ below es) (below es ++ below cs) rest (IsPermutation-append_comm (below cs) (below es))
+    IsPermutation-trans (below cs ++ below es) (below es ++ below cs) rest
+    (IsPermutation-append_comm (below cs) (below es))
     (subst (λ z. IsPermutation z rest) joined (all_given n (es ++ cs) fewer)) in
     subst (λ z. IsPermutation z (map (λ e. e.token) (breadth_first forward_chosen (e ∷ es)))) (sym whole)
-    (subst (λ z. IsPermutation (e.token ∷ (below cs ++ below es)) z) (sym (ap (map (λ e. e.token)) (next_first forward_chosen e es)))
+    (subst (λ z. IsPermutation (e.token ∷ (below cs ++ below es)) z)
+    (sym (ap (map (λ e. e.token)) (next_first forward_chosen e es)))
     (IsPermutation-cons e.token (below cs ++ below es) rest turned))
 
 pub each_once : {A : Type 0} (t : Tree A) →
     IsPermutation (subtrees t) (map (λ e. e.token) (breadth_first forward_chosen (root_entry t ∷ [])))
 each_once t =
-    subst (λ z. IsPermutation z (map (λ e. e.token) (breadth_first forward_chosen (root_entry t ∷ [])))) (append-nil (subtrees t))
+    subst (λ z. IsPermutation z (map (λ e. e.token) (breadth_first forward_chosen (root_entry t ∷ []))))
+    (append-nil (subtrees t))
     (all_given (length (below (root_entry t ∷ []))) (root_entry t ∷ []) refl)

@@ -1,5 +1,6 @@
 -- Whether a text below another is accepted.
-use Rattle.std.proofs.Common.{◌≡◌, ◌≢◌, ◌↔◌, ◌⊎◌, ℕ, true, false, List, [], ◌∷◌, ◌++◌, inl, inr, refl, sym, ◌∙◌, ap, subst, true≢false, arith}
+use Rattle.std.proofs.Common.{◌≡◌, ◌≢◌, ◌↔◌, ◌⊎◌, ℕ, true, false, List, [], ◌∷◌, ◌++◌, inl, inr, refl, sym}
+use Rattle.std.proofs.Common.{◌∙◌, ap, subst, true≢false, arith}
 use Rattle.std.proofs.lemmas.Bool.{cases_eq}
 use Rattle.std.proofs.lemmas.List.{append-nil, append_assoc}
 use Rattle.wax_lazy.specs.Verdict.{AcceptsBelow}
@@ -41,7 +42,8 @@ module _ (code : List Instruction) (start : ℕ) (text : List ℕ) (m : Ahead) w
     (λ a. subst (Accepts code start) (sym (append-nil text)) a),
   )
 
-  module _ (places : List ℕ) (leads : (s : List ℕ) → Accepts code start (text ++ s) ↔ AnyAmong code places s) where
+  module _ (places : List ℕ)
+      (leads : (s : List ℕ) → Accepts code start (text ++ s) ↔ AnyAmong code places s) where
     pub matches_at : AnyAmong code places [] ↔ Accepts code start text
     matches_at = ((λ a. accepts_whole.0 ((leads []).1 a)), (λ a. (leads []).0 (accepts_whole.1 a)))
 
@@ -51,20 +53,23 @@ module _ (code : List Instruction) (start : ℕ) (text : List ℕ) (m : Ahead) w
       (λ (s, below, a). (let (k, held, b) = (leads s).0 a in (k, held, (are m k).1 (s, below, b)))),
     )
 
-  pub verdict_nothing : ((s : List ℕ) → Accepts code start (text ++ s) → ⊥) → IsAheadVerdict code start text m (record { is_match = false; goes_on = false })
+  pub verdict_nothing : ((s : List ℕ) → Accepts code start (text ++ s) → ⊥)
+      → IsAheadVerdict code start text m (record { is_match = false; goes_on = false })
   verdict_nothing none = record {
     matches = ((λ t. absurd (true≢false (sym t))), (λ a. absurd (none [] (accepts_whole.1 a))));
     ahead = ((λ t. absurd (true≢false (sym t))), (λ (s, below, a). absurd (none s a)));
   }
 
-  pub verdict_everything : ((s : List ℕ) → Accepts code start (text ++ s)) → IsAheadVerdict code start text m (record { is_match = true; goes_on = true })
+  pub verdict_everything : ((s : List ℕ) → Accepts code start (text ++ s))
+      → IsAheadVerdict code start text m (record { is_match = true; goes_on = true })
   verdict_everything all = record {
     matches = ((λ _. accepts_whole.0 (all [])), (λ _. refl));
     ahead = ((λ _. (goes_so m, ahead_so m, all (goes_so m))), (λ _. refl));
   }
 
 -- ---- programs for which only the last component matters
-last_more : (c : ℕ) (s name : List ℕ) → HasNoSlash name → (s ≡ name) ⊎ ((before : List ℕ) × (s ≡ before ++ 47 ∷ name))
+last_more : (c : ℕ) (s name : List ℕ) → HasNoSlash name
+    → (s ≡ name) ⊎ ((before : List ℕ) × (s ≡ before ++ 47 ∷ name))
     → (name : List ℕ) × IsLastName (c ∷ s) name
 last_more c s name none (inr (before, e)) = (name, (none, inr (c ∷ before, ap (λ z. c ∷ z) e)))
 last_more c s name none (inl e) = elim (cases_eq c 47) [
@@ -89,7 +94,8 @@ module _ (code : List Instruction) (last : ReadsLast code) where
       at : (name : List ℕ) → IsLastName s name → ends_open name ≡ false → Named
       at [] is e = absurd (true≢false e)
       at (c ∷ n) (none, inl e) shut = (c, n, none, (last [] (c ∷ n) none).0.0 (subst (Accepts code 0) e a))
-      at (c ∷ n) (none, inr (before, e)) shut = (c, n, none, (last before (c ∷ n) none).1.0 (subst (Accepts code 0) e a))
+      at (c ∷ n) (none, inr (before, e)) shut =
+          (c, n, none, (last before (c ∷ n) none).1.0 (subst (Accepts code 0) e a))
 
   pub last_below : (text : List ℕ) → GoesOn code Path 0 ↔ AcceptsBelow code text
   last_below text = (
@@ -103,5 +109,6 @@ module _ (code : List Instruction) (last : ReadsLast code) where
     below (c, n, none, a) = (
       folder_text text ++ 48 ∷ 47 ∷ c ∷ n,
       (48 ∷ 47 ∷ c ∷ n, one_more 48 (c ∷ n) (a_digit 48 refl) (one_name c n none), refl),
-      subst (Accepts code 0) (append_assoc (folder_text text) (48 ∷ []) (47 ∷ c ∷ n)) ((last (folder_text text ++ 48 ∷ []) (c ∷ n) none).1.1 a),
+      subst (Accepts code 0) (append_assoc (folder_text text) (48 ∷ []) (47 ∷ c ∷ n))
+          ((last (folder_text text ++ 48 ∷ []) (c ∷ n) none).1.1 a),
     )

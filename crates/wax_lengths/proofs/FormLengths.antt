@@ -1,6 +1,8 @@
 -- The lengths of the parts that forms take.
-use Rattle.std.proofs.Common.{◌≡◌, ℕ, zero, suc, ◌+◌, ◌<◌, ◌≤◌, ◌↔◌, ◌⊎◌, Bool, true, false, ◌||◌, IsTrue, List, [], ◌∷◌, ◌++◌, length, get_or, take, drop, drop-cons}
-use Rattle.std.proofs.Common.{refl, sym, ◌∙◌, ap, subst, inl, inr, arith, length-drop, length-take, true≢false}
+use Rattle.std.proofs.Common.{◌≡◌, ℕ, zero, suc, ◌+◌, ◌<◌, ◌≤◌, ◌↔◌, ◌⊎◌, Bool, true, false, ◌||◌, IsTrue}
+use Rattle.std.proofs.Common.{List, [], ◌∷◌, ◌++◌, length, get_or, take, drop, drop-cons}
+use Rattle.std.proofs.Common.{refl, sym, ◌∙◌, ap, subst, inl, inr, arith, length-drop, length-take}
+use Rattle.std.proofs.Common.{true≢false}
 use Rattle.std.proofs.lemmas.Bool.{cases_eq, cases_lt}
 use Rattle.std.proofs.lemmas.List.{drop_all, get_or_past}
 use Rattle.std.proofs.Math.Seq.{take-suc}
@@ -25,13 +27,15 @@ has_within flags n h = elim (cases_lt n (length flags)) [
 ]
 
 -- ---- no length, or one
-pub no_length : (Takes : List ℕ → Type 0) (s : List ℕ) → ((n : ℕ) → n ≤ length s → Takes (take n s) → ⊥) → AreLengths Takes s (between 0 0)
+pub no_length : (Takes : List ℕ → Type 0) (s : List ℕ) → ((n : ℕ) → n ≤ length s → Takes (take n s) → ⊥)
+    → AreLengths Takes s (between 0 0)
 no_length Takes s none n le = ((λ h. absurd (none n le h)), (λ h. absurd (empty h.1)))
   where
     empty : n < 0 → ⊥
     empty lt = omega (arith, lt)
 
-pub one_length : (Takes : List ℕ → Type 0) (s : List ℕ) (m : ℕ) → Takes (take m s) → ((n : ℕ) → n ≤ length s → Takes (take n s) → n ≡ m) → AreLengths Takes s (between m (m + 1))
+pub one_length : (Takes : List ℕ → Type 0) (s : List ℕ) (m : ℕ) → Takes (take m s)
+    → ((n : ℕ) → n ≤ length s → Takes (take n s) → n ≡ m) → AreLengths Takes s (between m (m + 1))
 one_length Takes s m here only n le = (
   (λ h. let e : n ≡ m = only n le h in (omega (arith, e), omega (arith, e), tt)),
   (λ h. let e : n ≡ m = omega (arith, h.0, h.1) in subst (λ k. Takes (take k s)) (sym e) here),
@@ -44,7 +48,8 @@ OneOf t x = (c : ℕ) × (x ≡ c ∷ []) × PassesTest t c
 one_only : (t : Test) (s : List ℕ) (n : ℕ) → n ≤ length s → OneOf t (take n s) → n ≡ 1
 one_only t s n le h = let e : length (take n s) ≡ 1 = ap length h.1 in omega (arith, e, length-take n s, le)
 
-pub from_place : (text : List ℕ) (at c : ℕ) → at < length text → c ≡ get_or text at c → drop at text ≡ c ∷ drop (at + 1) text
+pub from_place : (text : List ℕ) (at c : ℕ) → at < length text → c ≡ get_or text at c
+    → drop at text ≡ c ∷ drop (at + 1) text
 from_place text at c lt e =
     let m : suc at ≡ at + 1 = omega arith in
     drop-cons text at c lt ∙ ap (λ z. z ∷ drop (suc at) text) (sym e) ∙ ap (λ k. c ∷ drop k text) m
@@ -52,11 +57,13 @@ from_place text at c lt e =
 one_char : {c d : ℕ} → c ∷ [] ≡ d ∷ [] → c ≡ d
 one_char e = cc
 
-pub one_end : (t : Test) (text : List ℕ) (at : ℕ) → length text ≤ at → AreLengths (OneOf t) (drop at text) (between 0 0)
+pub one_end : (t : Test) (text : List ℕ) (at : ℕ) → length text ≤ at
+    → AreLengths (OneOf t) (drop at text) (between 0 0)
 one_end t text at le = no_length (OneOf t) (drop at text) none
   where
     none : (n : ℕ) → n ≤ length (drop at text) → OneOf t (take n (drop at text)) → ⊥
-    none n within h = let one : n ≡ 1 = one_only t (drop at text) n within h in omega (arith, one, within, le, length-drop at text)
+    none n within h = let one : n ≡ 1 = one_only t (drop at text) n within h in
+        omega (arith, one, within, le, length-drop at text)
 
 module _ (t : Test) (text : List ℕ) (at c : ℕ) (lt : at < length text) (is : c ≡ get_or text at c) where
   first : take 1 (drop at text) ≡ c ∷ []
@@ -81,38 +88,46 @@ spelled_length f (l ∷ ls) (c ∷ x) h = ap (λ n. suc n) (spelled_length f ls 
 spelled_only : (f : Bool) (ls s : List ℕ) (n : ℕ) → n ≤ length s → SpelledBy f ls (take n s) → n ≡ length ls
 spelled_only f ls s n le h = omega (arith, spelled_length f ls (take n s) h, length-take n s, le)
 
-pub text_yes : (f : Bool) (ls s : List ℕ) → SpelledBy f ls (take (length ls) s) → AreLengths (SpelledBy f ls) s (between (length ls) (length ls + 1))
+pub text_yes : (f : Bool) (ls s : List ℕ) → SpelledBy f ls (take (length ls) s)
+    → AreLengths (SpelledBy f ls) s (between (length ls) (length ls + 1))
 text_yes f ls s h = one_length (SpelledBy f ls) s (length ls) h (λ n le g. spelled_only f ls s n le g)
 
-pub text_no : (f : Bool) (ls s : List ℕ) → (length ls ≤ length s → SpelledBy f ls (take (length ls) s) → ⊥) → AreLengths (SpelledBy f ls) s (between 0 0)
+pub text_no : (f : Bool) (ls s : List ℕ) → (length ls ≤ length s → SpelledBy f ls (take (length ls) s) → ⊥)
+    → AreLengths (SpelledBy f ls) s (between 0 0)
 text_no f ls s h = no_length (SpelledBy f ls) s (λ n le g.
     let e : n ≡ length ls = spelled_only f ls s n le g in
     h (omega (arith, e, le)) (subst (λ k. SpelledBy f ls (take k s)) e g))
 
 -- letter by letter
 -- the first character is the first letter
-pub spelled_first : (f : Bool) (ls s : List ℕ) (n l c : ℕ) → 0 < length ls → l ≡ get_or ls 0 l → c ≡ get_or s 0 c → SpelledBy f ls (take n s) → IsLetter f l c
+pub spelled_first : (f : Bool) (ls s : List ℕ) (n l c : ℕ) → 0 < length ls → l ≡ get_or ls 0 l
+    → c ≡ get_or s 0 c → SpelledBy f ls (take n s) → IsLetter f l c
 spelled_first f [] s n l c lt is at h = absurd (omega (arith, lt))
 spelled_first f (x ∷ ls) s zero l c lt is at h = absurd h
 spelled_first f (x ∷ ls) [] (suc n) l c lt is at h = absurd h
-spelled_first f (x ∷ ls) (d ∷ s) (suc n) l c lt is at h = subst (λ z. IsLetter f z c) (sym is) (subst (IsLetter f x) (sym at) h.0)
+spelled_first f (x ∷ ls) (d ∷ s) (suc n) l c lt is at h =
+    subst (λ z. IsLetter f z c) (sym is) (subst (IsLetter f x) (sym at) h.0)
 
 -- each letter is where it is spelled
-pub spelled_at : (f : Bool) (ls s : List ℕ) (n j : ℕ) → SpelledBy f ls (take n s) → j < length ls → (j < length s) × IsLetter f (get_or ls j 0) (get_or s j 0)
+pub spelled_at : (f : Bool) (ls s : List ℕ) (n j : ℕ) → SpelledBy f ls (take n s) → j < length ls
+    → (j < length s) × IsLetter f (get_or ls j 0) (get_or s j 0)
 spelled_at f [] s n j h lt = absurd (omega (arith, lt))
 spelled_at f (l ∷ ls) s zero j h lt = absurd h
 spelled_at f (l ∷ ls) [] (suc n) j h lt = absurd h
 spelled_at f (l ∷ ls) (d ∷ s) (suc n) zero h lt = (omega arith, h.0)
-spelled_at f (l ∷ ls) (d ∷ s) (suc n) (suc j) h lt = let (within, same) = spelled_at f ls s n j h.1 (omega (arith, lt)) in (omega (arith, within), same)
+spelled_at f (l ∷ ls) (d ∷ s) (suc n) (suc j) h lt = let (within, same) =
+    spelled_at f ls s n j h.1 (omega (arith, lt)) in (omega (arith, within), same)
 
 -- the letters before a place stand there
 abbrev pub SpelledTo : Bool → List ℕ → List ℕ → ℕ → Type 0
 SpelledTo f ls s n = SpelledBy f (take n ls) (take n s)
 
-pub spelled_more : (f : Bool) (ls s : List ℕ) (n l c : ℕ) → n < length ls → n < length s → l ≡ get_or ls n l → c ≡ get_or s n c → IsLetter f l c → SpelledTo f ls s n → SpelledTo f ls s (n + 1)
+pub spelled_more : (f : Bool) (ls s : List ℕ) (n l c : ℕ) → n < length ls → n < length s → l ≡ get_or ls n l
+    → c ≡ get_or s n c → IsLetter f l c → SpelledTo f ls s n → SpelledTo f ls s (n + 1)
 spelled_more f [] s n l c lt ls' le ce h g = absurd (omega (arith, lt))
 spelled_more f (k ∷ ls) [] n l c lt sl le ce h g = absurd (omega (arith, sl))
-spelled_more f (k ∷ ls) (d ∷ s) zero l c lt sl le ce h g = (subst (λ z. IsLetter f z d) le (subst (IsLetter f l) ce h), tt)
+spelled_more f (k ∷ ls) (d ∷ s) zero l c lt sl le ce h g =
+    (subst (λ z. IsLetter f z d) le (subst (IsLetter f l) ce h), tt)
 spelled_more f (k ∷ ls) (d ∷ s) (suc n) l c lt sl le ce h g =
     let m : suc n + 1 ≡ suc (n + 1) = omega arith in
     rw m (g.0, spelled_more f ls s n l c (omega (arith, lt)) (omega (arith, sl)) le ce h g.1)
@@ -121,13 +136,15 @@ spelled_more f (k ∷ ls) (d ∷ s) (suc n) l c lt sl le ce h g =
 pub name_stops : (text : List ℕ) (at : ℕ) → length text ≤ at → name_len (drop at text) ≡ 0
 name_stops text at le = ap name_len (drop_all at text le)
 
-pub name_here : (text : List ℕ) (at c : ℕ) → at < length text → c ≡ get_or text at c → c ≡ 47 → name_len (drop at text) ≡ 0
+pub name_here : (text : List ℕ) (at c : ℕ) → at < length text → c ≡ get_or text at c → c ≡ 47
+    → name_len (drop at text) ≡ 0
 name_here text at c lt e slash = ap name_len (from_place text at c lt e) ∙ ends
   where
     ends : name_len (c ∷ drop (at + 1) text) ≡ 0
     ends = grind (arith, slash)
 
-pub name_on : (text : List ℕ) (at c : ℕ) → at < length text → c ≡ get_or text at c → (c ≡ 47 → ⊥) → name_len (drop at text) ≡ suc (name_len (drop (at + 1) text))
+pub name_on : (text : List ℕ) (at c : ℕ) → at < length text → c ≡ get_or text at c → (c ≡ 47 → ⊥)
+    → name_len (drop at text) ≡ suc (name_len (drop (at + 1) text))
 name_on text at c lt e other = ap name_len (from_place text at c lt e) ∙ goes
   where
     goes : name_len (c ∷ drop (at + 1) text) ≡ suc (name_len (drop (at + 1) text))
@@ -146,7 +163,8 @@ name_from s zero le = tt
 name_from [] (suc n) le = absurd (omega (arith, le))
 name_from (c ∷ s) (suc n) le = elim (cases_eq c 47) [
   | inl same ↦ (let e : name_len (c ∷ s) ≡ 0 = grind (arith, same) in absurd (none e le))
-  | inr other ↦ (let e : name_len (c ∷ s) ≡ suc (name_len s) = grind (arith, other) in (other, name_from s n (omega (arith, e, le))))
+  | inr other ↦ (let e : name_len (c ∷ s) ≡ suc (name_len s) = grind (arith, other) in
+      (other, name_from s n (omega (arith, e, le))))
 ]
   where
     none : {k : ℕ} → k ≡ 0 → suc n ≤ k → ⊥
@@ -221,13 +239,15 @@ taken_begins s (suc n) le b = (take n b.0, ap (take (suc n)) b.1)
 last_is : (s : List ℕ) (n : ℕ) → suc n ≤ length s → take (suc n) s ≡ take n s ++ get_or s n 0 ∷ []
 last_is s n le = take-suc s n 0 (omega (arith, le))
 
-ends_taken : (s : List ℕ) (n : ℕ) → n ≤ length s → EndsWithSlash (take n s) → (1 ≤ n) × IsMarked AfterSlash s n
+ends_taken : (s : List ℕ) (n : ℕ) → n ≤ length s → EndsWithSlash (take n s)
+    → (1 ≤ n) × IsMarked AfterSlash s n
 ends_taken s zero le h = absurd (nothing h.0 h.1)
   where
     nothing : (t : List ℕ) → [] ≡ t ++ 47 ∷ [] → ⊥
     nothing [] e = cc
     nothing (c ∷ t) e = cc
-ends_taken s (suc n) le h = (omega arith, last_same (take n s) h.0 (get_or s n 0) (sym (last_is s n le) ∙ h.1))
+ends_taken s (suc n) le h =
+    (omega arith, last_same (take n s) h.0 (get_or s n 0) (sym (last_is s n le) ∙ h.1))
   where
     last_same : (x t : List ℕ) (c : ℕ) → x ++ c ∷ [] ≡ t ++ 47 ∷ [] → c ≡ 47
     last_same [] [] c e = cc
@@ -247,7 +267,11 @@ marked_none s (suc n) e = absurd (omega (arith, e))
 
 -- at most so many, if a `/` has to come first and doesn't
 abbrev tree_span : Bool → Bool → Bool → Bool → ℕ → LengthSpan
-tree_span before after rooted begins rest = record { low = tree_low before after rooted; end = tree_end (before || rooted) begins rest; marks = tree_marks after }
+tree_span before after rooted begins rest = record {
+  low = tree_low before after rooted;
+  end = tree_end (before || rooted) begins rest;
+  marks = tree_marks after;
+}
 
 module _ (s : List ℕ) (b : Bool) (is : IsTrue b ↔ BeginsWithSlash s) where
   -- a `/` comes first
@@ -260,7 +284,8 @@ module _ (s : List ℕ) (b : Bool) (is : IsTrue b ↔ BeginsWithSlash s) where
   bound_from : (n : ℕ) → 1 ≤ n → n < tree_end true b (length s) → BeginsWithSlash (take n s)
   bound_from n some lt = elim (either b) [
     | inl so ↦ taken_begins s n some (is.0 so)
-    | inr fails ↦ (let e : tree_end true b (length s) ≡ 1 = ap (λ z. tree_end true z (length s)) fails in absurd (past e))
+    | inr fails ↦ (let e : tree_end true b (length s) ≡ 1 =
+        ap (λ z. tree_end true z (length s)) fails in absurd (past e))
   ]
     where
       either : (b : Bool) → (b ≡ true) ⊎ (b ≡ false)
@@ -281,7 +306,8 @@ module _ (s : List ℕ) (b : Bool) (is : IsTrue b ↔ BeginsWithSlash s) where
   either_none zero = inl refl
   either_none (suc n) = inr (omega arith)
 
-  pub tree_lengths : (before after rooted : Bool) → AreLengths (TreeMeans before after rooted) s (tree_span before after rooted b (length s))
+  pub tree_lengths : (before after rooted : Bool)
+      → AreLengths (TreeMeans before after rooted) s (tree_span before after rooted b (length s))
   tree_lengths false false false n le = ((λ h. (omega arith, omega (arith, le), tt)), (λ h. tt))
   tree_lengths false false true n le = (
     (λ h. let r = bound_to n le h in (r.0, r.1, tt)),

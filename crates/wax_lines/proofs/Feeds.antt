@@ -1,8 +1,10 @@
 -- The first line feed, found in vectors of bytes.
-use Rattle.std.proofs.Common.{◌≡◌, ℕ, ◌+◌, ◌*◌, ◌<◌, ◌≤◌, Bool, true, false, cond, not, List, [], ◌∷◌, map, length, get_or, suc, sym, inl, inr, eqb-true, arith}
+use Rattle.std.proofs.Common.{◌≡◌, ℕ, ◌+◌, ◌*◌, ◌<◌, ◌≤◌, Bool, true, false, cond, not, List, [], ◌∷◌, map}
+use Rattle.std.proofs.Common.{length, get_or, suc, sym, inl, inr, eqb-true, arith}
 use Rattle.std.proofs.lemmas.Bool.{cases_lt}
 use Rattle.std.proofs.lemmas.List.Sums.{position_or_len_is, passes_at_first}
-use Rattle.std.proofs.lemmas.Simd.{length-chunk, trailing_mask_l, run_in_chunk_fails, run_in_chunk_stops, none_from_empty_mask}
+use Rattle.std.proofs.lemmas.Simd.{length-chunk, trailing_mask_l, run_in_chunk_fails, run_in_chunk_stops}
+use Rattle.std.proofs.lemmas.Simd.{none_from_empty_mask}
 use Rattle.std.specs.List.{position_or_len, prefix_len}
 use Rattle.wax_lines.specs.inner.Sifted.{is_feed}
 use lib.Count.{count_trailing_zeros}
@@ -21,7 +23,8 @@ passes p (x ∷ xs) some =
 module _ (xs : List ℕ) (at n : ℕ) (room : at + n ≤ length xs)
     (none : (k : ℕ) → k < at → is_feed (get_or xs k 0) ≡ false) where
   -- no bit is set
-  pub none_further : mask_l (map is_feed (chunk at n xs)) ≡ 0 → (k : ℕ) → k < at + n → is_feed (get_or xs k 0) ≡ false
+  pub none_further : mask_l (map is_feed (chunk at n xs)) ≡ 0 → (k : ℕ) → k < at + n
+      → is_feed (get_or xs k 0) ≡ false
   none_further empty k below =
       elim (cases_lt k at) [
         | inl before ↦ none k before
@@ -51,5 +54,7 @@ module _ (xs : List ℕ) (at n : ℕ) (room : at + n ≤ length xs)
         (λ _. run_in_chunk_stops is_feed xs at n lowest 0 room counted inside))
 
 -- what stands at the first line feed
-pub byte_at_feed : (xs : List ℕ) → position_or_len is_feed xs < length xs → get_or xs (position_or_len is_feed xs) 0 ≡ 10
-byte_at_feed xs inside = eqb-true (get_or xs (position_or_len is_feed xs) 0) 10 (passes_at_first is_feed xs 0 inside)
+pub byte_at_feed : (xs : List ℕ) → position_or_len is_feed xs < length xs
+    → get_or xs (position_or_len is_feed xs) 0 ≡ 10
+byte_at_feed xs inside =
+    eqb-true (get_or xs (position_or_len is_feed xs) 0) 10 (passes_at_first is_feed xs 0 inside)

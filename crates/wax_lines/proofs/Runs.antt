@@ -1,25 +1,30 @@
 -- How far a run of the filter has come after each step.
-use Rattle.std.proofs.Common.{◌≡◌, ◌≤◌, ℕ, true, false, List, [], ◌∷◌, ◌++◌, length, Option, Result, Ok, Err, OnOk, IfErr}
+use Rattle.std.proofs.Common.{◌≡◌, ◌≤◌, ℕ, true, false, List, [], ◌∷◌, ◌++◌, length, Option, Result, Ok, Err}
+use Rattle.std.proofs.Common.{OnOk, IfErr}
 use Rattle.std.proofs.Common.{refl, sym, ◌∙◌, ap, subst, append_assoc, append-nil, arith, length-append}
 use Rattle.std.specs.Io.KnownBytes.{Consumes, Appends, IsAtEnd, Keeps}
 use Rattle.std.proofs.KnownBytes.{Consumes-nil, Consumes-trans, Consumes-kept, Appends-nil, Appends-trans}
 use Rattle.wax_lines.specs.declared.lines.LinesError.{LinesError}
 use Rattle.wax_lines.specs.declared.lines.LinesError.TheVariants.{Read, Write, Memory}
 use Rattle.wax_lines.specs.declared.lines.sieve.Sieve.{Sieve}
-use Rattle.wax_lines.specs.Lines.{lines, whole_lines, Filters, Filtered, StoppedReading, StoppedWriting, StoppedShort, Stopped}
+use Rattle.wax_lines.specs.Lines.{lines, whole_lines, Filters, Filtered, StoppedReading, StoppedWriting}
+use Rattle.wax_lines.specs.Lines.{StoppedShort, Stopped}
 use Rattle.wax_lines.specs.Written.{WritesPart}
-use Rattle.wax_lines.specs.inner.Progress.{SieveSifted, TakesIn, TakesInPart, TakesLast, Came, CameShort, Finished, Halted}
+use Rattle.wax_lines.specs.inner.Progress.{SieveSifted, TakesIn, TakesInPart, TakesLast, Came, CameShort}
+use Rattle.wax_lines.specs.inner.Progress.{Finished, Halted}
 use Rattle.wax_lines.proofs.Sifting.{sifted_nothing, sifted_written, sifted_whole}
 
 module _ (Writes : List ℕ → List ℕ → Type 0) where
   -- nothing has happened yet
-  pub came_nowhere : (left held : Option (List ℕ)) (s : Sieve) → s.carry.items ≡ [] → s.kept.bytes.items ≡ [] → s.kept.not_text ≡ 0
+  pub came_nowhere : (left held : Option (List ℕ)) (s : Sieve) → s.carry.items ≡ [] → s.kept.bytes.items ≡ []
+      → s.kept.not_text ≡ 0
       → SieveSifted Writes [] [] s
   came_nowhere left held s e f g = rw (e, f, g) (sifted_nothing Writes)
 
   -- a chunk was read and taken in
   pub Came-chunk : (left mid left' held held' : Option (List ℕ)) (old new : Sieve) (chunk : List ℕ)
-      → Came Writes left mid held held' old → Consumes mid left' chunk → TakesIn Writes chunk old new → Came Writes left left' held held' new
+      → Came Writes left mid held held' old → Consumes mid left' chunk → TakesIn Writes chunk old new
+      → Came Writes left left' held held' new
   Came-chunk left mid left' held held' old new chunk h read takes = record {
     taken = h.taken ++ chunk;
     written = h.written;
@@ -31,13 +36,15 @@ module _ (Writes : List ℕ → List ℕ → Type 0) where
   -- a chunk was read, and a beginning of it taken in
   pub Came-part : (left mid left' held held' : Option (List ℕ)) (old new : Sieve) (chunk : List ℕ)
       → length chunk ≤ 65536
-      → Came Writes left mid held held' old → Consumes mid left' chunk → TakesInPart Writes chunk old new → CameShort Writes left left' held held' new
+      → Came Writes left mid held held' old → Consumes mid left' chunk → TakesInPart Writes chunk old new
+      → CameShort Writes left left' held held' new
   Came-part left mid left' held held' old new chunk few h read (front, rest, splits, takes) = record {
     front = h.taken ++ front;
     rest = rest;
     of_one_read = omega (arith, ap length splits, length-append front rest);
     written = h.written;
-    reads = subst (Consumes left left') (ap (λ z. h.taken ++ z) splits ∙ sym (append_assoc h.taken front rest)) (Consumes-trans _ _ _ _ _ h.reads read);
+    reads = subst (Consumes left left') (ap (λ z. h.taken ++ z) splits
+        ∙ sym (append_assoc h.taken front rest)) (Consumes-trans _ _ _ _ _ h.reads read);
     writes = h.writes;
     sifted = takes h.taken h.written h.sifted;
   }
@@ -56,18 +63,21 @@ module _ (Writes : List ℕ → List ℕ → Type 0) where
   -- what waited was written
   pub Came-written : (left left' held mid held' : Option (List ℕ)) (old new : Sieve)
       → Came Writes left left' held mid old → Appends mid held' old.kept.bytes.items
-      → new.carry ≡ old.carry → new.kept.bytes.items ≡ [] → new.kept.not_text ≡ old.kept.not_text → Came Writes left left' held held' new
+      → new.carry ≡ old.carry → new.kept.bytes.items ≡ [] → new.kept.not_text ≡ old.kept.not_text
+      → Came Writes left left' held held' new
   Came-written left left' held mid held' old new h written e f g = record {
     taken = h.taken;
     written = h.written ++ old.kept.bytes.items;
     reads = h.reads;
     writes = Appends-trans _ _ _ _ _ h.writes written;
-    sifted = rw (e, f, g) (sifted_written Writes h.taken h.written old.carry.items old.kept.bytes.items old.kept.not_text h.sifted);
+    sifted = rw (e, f, g) (sifted_written Writes h.taken h.written old.carry.items old.kept.bytes.items
+        old.kept.not_text h.sifted);
   }
 
   -- a beginning of what waited was written
   pub Short-writing : (left left' held mid held' : Option (List ℕ)) (s : Sieve)
-      → CameShort Writes left left' held mid s → WritesPart mid held' s.kept.bytes.items → StoppedWriting Writes left left' held held'
+      → CameShort Writes left left' held mid s → WritesPart mid held' s.kept.bytes.items
+      → StoppedWriting Writes left left' held held'
   Short-writing left left' held mid held' s h w = record {
     has_ended = false;
     front = h.front;
@@ -84,7 +94,8 @@ module _ (Writes : List ℕ → List ℕ → Type 0) where
   }
 
   -- all that was read was taken in, so a beginning was
-  pub came_short : (left left' held held' : Option (List ℕ)) (s : Sieve) → Came Writes left left' held held' s → CameShort Writes left left' held held' s
+  pub came_short : (left left' held held' : Option (List ℕ)) (s : Sieve) → Came Writes left left' held held' s
+      → CameShort Writes left left' held held' s
   came_short left left' held held' s h = record {
     front = h.taken;
     rest = [];
@@ -97,11 +108,13 @@ module _ (Writes : List ℕ → List ℕ → Type 0) where
 
   -- the end of the input, with the rest taken in
   pub Came-finished : (left mid left' held held' : Option (List ℕ)) (old new : Sieve) (none : List ℕ)
-      → Came Writes left mid held held' old → none ≡ [] → Consumes mid left' none → IsAtEnd left' → TakesLast Writes old new → Finished Writes left left' held held' new
+      → Came Writes left mid held held' old → none ≡ [] → Consumes mid left' none → IsAtEnd left'
+      → TakesLast Writes old new → Finished Writes left left' held held' new
   Came-finished left mid left' held held' old new none h nil read end takes = record {
     taken = h.taken;
     written = h.written;
-    reads = subst (Consumes left left') (ap (λ z. h.taken ++ z) nil ∙ append-nil h.taken) (Consumes-trans _ _ _ _ _ h.reads read);
+    reads = subst (Consumes left left') (ap (λ z. h.taken ++ z) nil ∙ append-nil h.taken)
+        (Consumes-trans _ _ _ _ _ h.reads read);
     ends = end;
     writes = h.writes;
     sifted = takes h.taken h.written h.sifted;
@@ -109,7 +122,8 @@ module _ (Writes : List ℕ → List ℕ → Type 0) where
 
   -- the last writing, after all was read
   pub Finished-written : (left left' held mid held' : Option (List ℕ)) (s : Sieve) (answer : ℕ)
-      → Finished Writes left left' held mid s → Appends mid held' s.kept.bytes.items → answer ≡ s.kept.not_text → Filtered Writes left left' held held' answer
+      → Finished Writes left left' held mid s → Appends mid held' s.kept.bytes.items
+      → answer ≡ s.kept.not_text → Filtered Writes left left' held held' answer
   Finished-written left left' held mid held' s answer h written e = record {
     taken = h.taken;
     out = h.written ++ s.kept.bytes.items;
@@ -122,7 +136,8 @@ module _ (Writes : List ℕ → List ℕ → Type 0) where
   }
 
   pub Finished-writing : (left left' held mid held' : Option (List ℕ)) (s : Sieve)
-      → Finished Writes left left' held mid s → WritesPart mid held' s.kept.bytes.items → StoppedWriting Writes left left' held held'
+      → Finished Writes left left' held mid s → WritesPart mid held' s.kept.bytes.items
+      → StoppedWriting Writes left left' held held'
   Finished-writing left left' held mid held' s h w = record {
     has_ended = true;
     front = h.taken;
@@ -139,7 +154,8 @@ module _ (Writes : List ℕ → List ℕ → Type 0) where
 
   -- the last writing, after a failed read
   pub Came-stopped : (left left' held mid held' : Option (List ℕ)) (s : Sieve)
-      → Came Writes left left' held mid s → Appends mid held' s.kept.bytes.items → StoppedReading Writes left left' held held'
+      → Came Writes left left' held mid s → Appends mid held' s.kept.bytes.items
+      → StoppedReading Writes left left' held held'
   Came-stopped left left' held mid held' s h written = record {
     taken = h.taken;
     out = h.written ++ s.kept.bytes.items;
@@ -151,7 +167,8 @@ module _ (Writes : List ℕ → List ℕ → Type 0) where
 
   -- the last write, after a failed allocation
   pub Short-stopped : (left left' held mid held' : Option (List ℕ)) (s : Sieve)
-      → CameShort Writes left left' held mid s → Appends mid held' s.kept.bytes.items → StoppedShort Writes left left' held held'
+      → CameShort Writes left left' held mid s → Appends mid held' s.kept.bytes.items
+      → StoppedShort Writes left left' held held'
   Short-stopped left left' held mid held' s h written = record {
     front = h.front;
     rest = h.rest;
@@ -178,7 +195,8 @@ module _ (Writes : List ℕ → List ℕ → Type 0) where
 
   -- after a failed write nothing more is written
   still_writing : (left left' held mid held' : Option (List ℕ)) (more : List ℕ)
-      → StoppedWriting Writes left left' held mid → more ≡ [] → Appends mid held' more → StoppedWriting Writes left left' held held'
+      → StoppedWriting Writes left left' held mid → more ≡ [] → Appends mid held' more
+      → StoppedWriting Writes left left' held held'
   still_writing left left' held mid held' more h nil w = record {
     has_ended = h.has_ended;
     front = h.front;
@@ -188,21 +206,27 @@ module _ (Writes : List ℕ → List ℕ → Type 0) where
     bad = h.bad;
     reads = h.reads;
     ends = h.ends;
-    writes = subst (Appends held held') (ap (λ z. h.out ++ z) nil ∙ append-nil h.out) (Appends-trans _ _ _ _ _ h.writes w);
+    writes = subst (Appends held held') (ap (λ z. h.out ++ z) nil ∙ append-nil h.out)
+        (Appends-trans _ _ _ _ _ h.writes w);
     filters = h.filters;
   }
 
   -- the last writing, after an error
   pub Halted-written : (left left' held mid held' : Option (List ℕ)) (s : Sieve) (e : LinesError)
-      → Halted Writes left left' held mid s e → Appends mid held' s.kept.bytes.items → Stopped Writes left left' held held' e
+      → Halted Writes left left' held mid s e → Appends mid held' s.kept.bytes.items
+      → Stopped Writes left left' held held' e
   Halted-written left left' held mid held' s Read h w = Came-stopped left left' held mid held' s h w
-  Halted-written left left' held mid held' s Write h w = still_writing left left' held mid held' s.kept.bytes.items h.0 h.1 w
+  Halted-written left left' held mid held' s Write h w =
+      still_writing left left' held mid held' s.kept.bytes.items h.0 h.1 w
   Halted-written left left' held mid held' s Memory h w = Short-stopped left left' held mid held' s h w
 
   pub Halted-writing : (left left' held mid held' : Option (List ℕ)) (s : Sieve) (e : LinesError)
-      → Halted Writes left left' held mid s e → WritesPart mid held' s.kept.bytes.items → StoppedWriting Writes left left' held held'
-  Halted-writing left left' held mid held' s Read h w = Short-writing left left' held mid held' s (came_short left left' held mid s h) w
-  Halted-writing left left' held mid held' s Write h w = still_writing left left' held mid held' w.front h.0 (front_nil w.front w.rest (sym w.splits ∙ h.1)) w.writes
+      → Halted Writes left left' held mid s e → WritesPart mid held' s.kept.bytes.items
+      → StoppedWriting Writes left left' held held'
+  Halted-writing left left' held mid held' s Read h w =
+      Short-writing left left' held mid held' s (came_short left left' held mid s h) w
+  Halted-writing left left' held mid held' s Write h w = still_writing left left' held mid held' w.front h.0
+      (front_nil w.front w.rest (sym w.splits ∙ h.1)) w.writes
     where
       front_nil : (xs ys : List ℕ) → xs ++ ys ≡ [] → xs ≡ []
       front_nil [] ys e = refl
@@ -210,7 +234,8 @@ module _ (Writes : List ℕ → List ℕ → Type 0) where
   Halted-writing left left' held mid held' s Memory h w = Short-writing left left' held mid held' s h w
 
   -- the last writing, whatever came before
-  pub Ended-writing : (left left' held mid held' : Option (List ℕ)) (s : Sieve) (r : Result (Unit {0}) LinesError)
+  pub Ended-writing : (left left' held mid held' : Option (List ℕ)) (s : Sieve)
+      (r : Result (Unit {0}) LinesError)
       → OnOk r (Finished Writes left left' held mid s) → IfErr r (Halted Writes left left' held mid s)
       → WritesPart mid held' s.kept.bytes.items → StoppedWriting Writes left left' held held'
   Ended-writing left left' held mid held' s (Ok x) h k w = Finished-writing left left' held mid held' s h w

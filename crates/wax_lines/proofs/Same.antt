@@ -3,7 +3,8 @@ use Rattle.std.proofs.Common.{◌≡◌, ◌↔◌, ℕ, Bool, IsTrue, List, [],
 use Rattle.wax_lines.specs.declared.lines.LinesError.{LinesError}
 use Rattle.wax_lines.specs.declared.lines.LinesError.TheVariants.{Read, Write, Memory}
 use Rattle.wax_lines.specs.Lines.{WritesMeant, meant, not_meant, WritesCaptures, captured, not_captured}
-use Rattle.wax_lines.specs.Lines.{Gives, text, no_text, Filters, Filtered, StoppedReading, StoppedWriting, StoppedShort, Stopped}
+use Rattle.wax_lines.specs.Lines.{Gives, text, no_text, Filters, Filtered, StoppedReading, StoppedWriting}
+use Rattle.wax_lines.specs.Lines.{StoppedShort, Stopped}
 use Rattle.wax_lines.specs.inner.Matching.{IsMatchedBy, IsMatchedByBoth}
 
 module _ (V W : List ℕ → List ℕ → Type 0) (alike : (s out : List ℕ) → V s out → W s out) where
@@ -11,7 +12,8 @@ module _ (V W : List ℕ → List ℕ → Type 0) (alike : (s out : List ℕ) �
   gives_as line out bad (text u w e) = text u (alike (chars line) out w) e
   gives_as line out bad (no_text n e k) = no_text n e k
 
-  filters_as : (each : List (List ℕ)) (out : List ℕ) (bad : ℕ) → Filters V each out bad → Filters W each out bad
+  filters_as : (each : List (List ℕ)) (out : List ℕ) (bad : ℕ) → Filters V each out bad
+      → Filters W each out bad
   filters_as [] out bad h = h
   filters_as (line ∷ rest) out bad (x, y, m, n, first, more, e, k) =
       (x, y, m, n, gives_as line x m first, filters_as rest y n more, e, k)
@@ -75,7 +77,8 @@ module _ (V W : List ℕ → List ℕ → Type 0) (alike : (s out : List ℕ) �
   stopped_as left left' held held' Memory h = short_as left left' held held' h
 
 -- a matcher that decides what a program does, and a program that means what it decides
-module _ (d e : List ℕ → Bool) (Means : List ℕ → Type 0) (same : d ≡ e) (decided : (s : List ℕ) → IsTrue (e s) ↔ Means s) where
+module _ (d e : List ℕ → Bool) (Means : List ℕ → Type 0) (same : d ≡ e)
+    (decided : (s : List ℕ) → IsTrue (e s) ↔ Means s) where
   by_matcher : (s : List ℕ) → IsMatchedBy d s ↔ Means s
   by_matcher s = subst (λ z. IsTrue (z s) ↔ Means s) (sym same) (decided s)
 

@@ -13,7 +13,8 @@ use Rattle.wax_token.specs.Decided.{Decided}
 use Rattle.wax_token.specs.Meaning.{Means}
 use Rattle.wax_token.specs.Syntax.{Tree}
 
-pub below_decided : {A : Type 0} (t : Tree A) (folder : List ℕ) → Decided ((s : List ℕ) × IsBelow folder s × Means t false false s)
+pub below_decided : {A : Type 0} (t : Tree A) (folder : List ℕ)
+    → Decided ((s : List ℕ) × IsBelow folder s × Means t false false s)
 below_decided t folder =
     let code = instructions_of t false false in
     let below = ahead_below (Accepts code 0) folder in

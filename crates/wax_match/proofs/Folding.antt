@@ -1,5 +1,6 @@
 -- Texts of the same folding, compared from the front.
-use Rattle.std.proofs.Common.{◌≡◌, ◌≢◌, ℕ, suc, ◌+◌, ◌<◌, ◌≤◌, true, List, [], ◌∷◌, length, get_or, drop, drop-cons, refl, sym, ◌∙◌, ap, subst, arith}
+use Rattle.std.proofs.Common.{◌≡◌, ◌≢◌, ℕ, suc, ◌+◌, ◌<◌, ◌≤◌, true, List, [], ◌∷◌, length, get_or, drop}
+use Rattle.std.proofs.Common.{drop-cons, refl, sym, ◌∙◌, ap, subst, arith}
 use Rattle.std.proofs.lemmas.List.{drop_all}
 use Rattle.unicode.specs.CaseFolding.{simple_fold}
 use Rattle.wax_token.specs.Meaning.{SameFold, SameText}
@@ -18,7 +19,8 @@ pub record Agrees (xs ys : List ℕ) (i : ℕ) : Type 0 where
 pub agrees_start : (xs ys : List ℕ) → Agrees xs ys 0
 agrees_start xs ys = record { onward = λ h. h; backward = λ h. h }
 
-module _ (xs ys : List ℕ) (i x y : ℕ) (xi : i < length xs) (yi : i < length ys) (xe : x ≡ get_or xs i x) (ye : y ≡ get_or ys i y) where
+module _ (xs ys : List ℕ) (i x y : ℕ) (xi : i < length xs) (yi : i < length ys) (xe : x ≡ get_or xs i x)
+    (ye : y ≡ get_or ys i y) where
   n : suc i ≡ i + 1
   n = omega arith
 
@@ -32,22 +34,29 @@ module _ (xs ys : List ℕ) (i x y : ℕ) (xi : i < length xs) (yi : i < length 
   unfolding SameFold
   agrees_step e h = record {
     onward = λ g.
-        let a : SameText true (x ∷ drop (i + 1) xs) (drop i ys) = subst (λ z. SameText true z (drop i ys)) left (h.onward g) in
-        let b : SameText true (x ∷ drop (i + 1) xs) (y ∷ drop (i + 1) ys) = subst (λ z. SameText true (x ∷ drop (i + 1) xs) z) right a in
+        let a : SameText true (x ∷ drop (i + 1) xs) (drop i ys) =
+        subst (λ z. SameText true z (drop i ys)) left (h.onward g) in
+        let b : SameText true (x ∷ drop (i + 1) xs) (y ∷ drop (i + 1) ys) =
+        subst (λ z. SameText true (x ∷ drop (i + 1) xs) z) right a in
         b.1;
     backward = λ g.
         let a : SameText true (x ∷ drop (i + 1) xs) (y ∷ drop (i + 1) ys) = (e, g) in
-        let b : SameText true (x ∷ drop (i + 1) xs) (drop i ys) = subst (λ z. SameText true (x ∷ drop (i + 1) xs) z) (sym right) a in
+        let b : SameText true (x ∷ drop (i + 1) xs) (drop i ys) =
+        subst (λ z. SameText true (x ∷ drop (i + 1) xs) z) (sym right) a in
         h.backward (subst (λ z. SameText true z (drop i ys)) (sym left) b);
   }
 
   pub agrees_not : simple_fold x ≢ simple_fold y → Agrees xs ys i → SameText true xs ys → ⊥
   unfolding SameFold
   agrees_not e h g =
-      let a : SameText true (x ∷ drop (i + 1) xs) (drop i ys) = subst (λ z. SameText true z (drop i ys)) left (h.onward g) in
-      let b : SameText true (x ∷ drop (i + 1) xs) (y ∷ drop (i + 1) ys) = subst (λ z. SameText true (x ∷ drop (i + 1) xs) z) right a in
+      let a : SameText true (x ∷ drop (i + 1) xs) (drop i ys) =
+      subst (λ z. SameText true z (drop i ys)) left (h.onward g) in
+      let b : SameText true (x ∷ drop (i + 1) xs) (y ∷ drop (i + 1) ys) =
+      subst (λ z. SameText true (x ∷ drop (i + 1) xs) z) right a in
       e b.0
 
-pub agrees_end : (xs ys : List ℕ) (i : ℕ) → length xs ≤ i → length ys ≤ i → Agrees xs ys i → SameText true xs ys
+pub agrees_end : (xs ys : List ℕ) (i : ℕ) → length xs ≤ i → length ys ≤ i → Agrees xs ys i
+    → SameText true xs ys
 agrees_end xs ys i xl yl h =
-    h.backward (subst (λ z. SameText true z (drop i ys)) (sym (drop_all i xs xl)) (subst (λ z. SameText true [] z) (sym (drop_all i ys yl)) tt))
+    h.backward (subst (λ z. SameText true z (drop i ys)) (sym (drop_all i xs xl))
+    (subst (λ z. SameText true [] z) (sym (drop_all i ys yl)) tt))

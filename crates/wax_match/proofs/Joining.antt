@@ -1,5 +1,7 @@
 -- What is left of patterns, written one beside another.
-use Rattle.std.proofs.Common.{◌≤◌, ◌<◌, ◌≡◌, ◌+◌, ◌-◌, ◌⊎◌, ℕ, Bool, false, take, All, List, [], ◌∷◌, ◌++◌, chars, get_or, length, refl, sym, ◌∙◌, ap, subst, inl, inr, arith, append_assoc, length-append}
+use Rattle.std.proofs.Common.{◌≤◌, ◌<◌, ◌≡◌, ◌+◌, ◌-◌, ◌⊎◌, ℕ, Bool, false, take, All, List, [], ◌∷◌, ◌++◌}
+use Rattle.std.proofs.Common.{chars, get_or, length, refl, sym, ◌∙◌, ap, subst, inl, inr, arith, append_assoc}
+use Rattle.std.proofs.Common.{length-append}
 use Rattle.std.proofs.lemmas.Bool.{cases_lt}
 use Rattle.std.proofs.lemmas.List.{get_or_default, take_all, take_more}
 use Rattle.std.proofs.lemmas.List.Elements.{Contains-append_left, Contains-push, Contains-push_cases}
@@ -20,7 +22,8 @@ use Rattle.wax_match.specs.declared.encode.shared.WrittenEnd.{WrittenEnd}
 use Rattle.wax_match.specs.inner.Code.{literal_code, sequence_code}
 use Rattle.wax_match.specs.inner.Ends.{AreWritten, IsIn}
 use Rattle.wax_match.specs.inner.LeadCode.{gap_code, lead_code}
-use Rattle.wax_match.specs.inner.Left.{AreSame, EndMeans, GapMeans, IsAfter, IsAfterAt, IsLed, Joined, LeadMeans, LeftMeans, MeansBetween, OneLeftMeans, SomeLeftMeans}
+use Rattle.wax_match.specs.inner.Left.{AreSame, EndMeans, GapMeans, IsAfter, IsAfterAt, IsLed, Joined}
+use Rattle.wax_match.specs.inner.Left.{LeadMeans, LeftMeans, MeansBetween, OneLeftMeans, SomeLeftMeans}
 use Rattle.wax_program.specs.declared.instruction.Instruction.{Instruction}
 use Rattle.wax_program.specs.declared.instruction.Instruction.TheVariants.{Back, End, Fork}
 use Rattle.wax_token.specs.Meaning.{Means, MeansEach, SameText}
@@ -32,7 +35,8 @@ use Rattle.wax_token.specs.Words.{members, trees}
 pub spells_lead : (lead : Lead) → Spells (lead_code lead) (LeadMeans lead)
 spells_lead (Letters text) =
     let t : List ℕ = chars text.now in
-    spells_same (λ s m. text_to t s m) (λ s e. subst (λ z. SameText false t z) (sym e) (text_from t)) (spells_literal false t)
+    spells_same (λ s m. text_to t s m) (λ s e. subst (λ z. SameText false t z) (sym e) (text_from t))
+    (spells_literal false t)
 spells_lead (Wild gap) = spells_gap gap
 spells_lead (Token token sides) = compiled token.now sides.before sides.after
 
@@ -55,32 +59,42 @@ module _ (l : Left) where
         front = h.0 ++ h.4.0;
         back = h.4.1;
         splits = h.2 ∙ ap (λ z. h.0 ++ z) h.4.2 ∙ sym (append_assoc h.0 h.4.0 h.4.1);
-        spelt = record { taken = h.4.0; splits = ap (λ z. z ++ h.4.0) (text_to (chars l.text.now) h.0 h.3); means = h.4.3 };
+        spelt = record {
+          taken = h.4.0;
+          splits = ap (λ z. z ++ h.4.0) (text_to (chars l.text.now) h.0 h.3);
+          means = h.4.3;
+        };
         means = h.4.4;
       })
       (λ s h. (
         chars l.text.now,
         h.spelt.taken ++ h.back,
-        h.splits ∙ ap (λ z. z ++ h.back) h.spelt.splits ∙ append_assoc (chars l.text.now) h.spelt.taken h.back,
+        h.splits ∙ ap (λ z. z ++ h.back) h.spelt.splits
+            ∙ append_assoc (chars l.text.now) h.spelt.taken h.back,
         text_from (chars l.text.now),
         (h.spelt.taken, h.back, refl, h.spelt.means, h.means),
       ))
-      (spells_append (spells_literal false (chars l.text.now)) (spells_append (spells_gap l.gap) (compiled_sequence (trees l.tokens.now) l.before false)))
+      (spells_append (spells_literal false (chars l.text.now))
+      (spells_append (spells_gap l.gap) (compiled_sequence (trees l.tokens.now) l.before false)))
 
   inside_left : IsInside (text ++ (gap_code l.gap ++ rest))
   inside_left =
       inside_append text (gap_code l.gap ++ rest) (inside_literal false (chars l.text.now))
-      (inside_append (gap_code l.gap) rest (inside_gap l.gap) (inside_sequence (trees l.tokens.now) l.before false))
+      (inside_append (gap_code l.gap) rest (inside_gap l.gap)
+      (inside_sequence (trees l.tokens.now) l.before false))
 
-  pub written_apart : (old a b new : List Instruction) → a ≡ rest ++ End l.number l.number ∷ old → b ≡ gap_code l.gap ++ a → new ≡ text ++ b → AreWritten old new (OneLeftMeans l)
+  pub written_apart : (old a b new : List Instruction) → a ≡ rest ++ End l.number l.number ∷ old
+      → b ≡ gap_code l.gap ++ a → new ≡ text ++ b → AreWritten old new (OneLeftMeans l)
   written_apart old a b new p q r =
       let end : List Instruction = End l.number l.number ∷ old in
       let e : new ≡ (text ++ (gap_code l.gap ++ rest)) ++ end =
-      r ∙ ap (λ z. text ++ z) (q ∙ ap (λ z. gap_code l.gap ++ z) p ∙ sym (append_assoc (gap_code l.gap) rest end)) ∙ sym (append_assoc text (gap_code l.gap ++ rest) end) in
+      r ∙ ap (λ z. text ++ z) (q ∙ ap (λ z. gap_code l.gap ++ z) p ∙ sym
+      (append_assoc (gap_code l.gap) rest end)) ∙ sym (append_assoc text (gap_code l.gap ++ rest) end) in
       written_coded l.number (text ++ (gap_code l.gap ++ rest)) old new spells_left inside_left e
 
 -- ---- some of a list
-module _ (ls : List Left) (i j : ℕ) (l : Left) (le : i ≤ j) (lt : j < length ls) (is : get_or ls j l ≡ l) (k : ℕ) where
+module _ (ls : List Left) (i j : ℕ) (l : Left) (le : i ≤ j) (lt : j < length ls)
+    (is : get_or ls j l ≡ l) (k : ℕ) where
   between_out : (s : List ℕ) → MeansBetween ls i (j + 1) k s → MeansBetween ls i j k s ⊎ OneLeftMeans l k s
   between_out s (n, m, after, before, at, one) = elim (cases_lt n j) [
     | inl lower ↦ inl (n, m, after, lower, at, one)
@@ -97,37 +111,46 @@ module _ (ls : List Left) (i j : ℕ) (l : Left) (le : i ≤ j) (lt : j < length
 none_between : (ls : List Left) (i k : ℕ) (s : List ℕ) → MeansBetween ls i i k s → ⊥
 none_between ls i k s (n, m, after, before, at, one) = omega (arith, after, before)
 
-module _ (ls : List Left) (i : ℕ) (l : Left) (lt : i < length ls) (is : get_or ls i l ≡ l) (k : ℕ) (s : List ℕ) where
+module _ (ls : List Left) (i : ℕ) (l : Left) (lt : i < length ls) (is : get_or ls i l ≡ l)
+    (k : ℕ) (s : List ℕ) where
   one_out : MeansBetween ls i (i + 1) k s → OneLeftMeans l k s
-  one_out m = elim (between_out ls i i l (omega arith) lt is k s m) [ inl none ↦ absurd (none_between ls i k s none) | inr one ↦ one ]
+  one_out m = elim (between_out ls i i l (omega arith) lt is k s
+      m) [ inl none ↦ absurd (none_between ls i k s none) | inr one ↦ one ]
 
   one_in : OneLeftMeans l k s → MeansBetween ls i (i + 1) k s
   one_in one = between_in ls i i l (omega arith) lt is k s (inr one)
 
-some_out : (ls : List Left) (a : Left) (k : ℕ) (s : List ℕ) → SomeLeftMeans (ls ++ a ∷ []) k s → SomeLeftMeans ls k s ⊎ OneLeftMeans a k s
+some_out : (ls : List Left) (a : Left) (k : ℕ) (s : List ℕ) → SomeLeftMeans (ls ++ a ∷ []) k s
+    → SomeLeftMeans ls k s ⊎ OneLeftMeans a k s
 some_out ls a k s (l, has, one) = elim (Contains-push_cases ls a l has) [
   | inl was ↦ inl (l, was, one)
   | inr here ↦ inr (subst (λ z. OneLeftMeans z k s) (sym here) one)
 ]
 
-some_in : (ls : List Left) (a : Left) (k : ℕ) (s : List ℕ) → SomeLeftMeans ls k s ⊎ OneLeftMeans a k s → SomeLeftMeans (ls ++ a ∷ []) k s
+some_in : (ls : List Left) (a : Left) (k : ℕ) (s : List ℕ) → SomeLeftMeans ls k s ⊎ OneLeftMeans a k s
+    → SomeLeftMeans (ls ++ a ∷ []) k s
 some_in ls a k s (inl (l, has, one)) = (l, Contains-append_left ls (a ∷ []) l has, one)
 some_in ls a k s (inr one) = (a, Contains-push ls a, one)
 
 -- ---- what is left after a lead
 module _ (lead : Lead) (ls : List Left) (start : ℕ) where
-  after_out : (l a : Left) (k : ℕ) (s : List ℕ) → IsAfter lead l a → OneLeftMeans l k s → Joined (LeadMeans lead) (OneLeftMeans a k) s
+  after_out : (l a : Left) (k : ℕ) (s : List ℕ) → IsAfter lead l a → OneLeftMeans l k s
+      → Joined (LeadMeans lead) (OneLeftMeans a k) s
   after_out l a k s f (n, m) = let j = f.means.to s m in (j.0, j.1, j.2, j.3, (n ∙ sym f.number, j.4))
 
-  after_in : (l a : Left) (k : ℕ) (s : List ℕ) → IsAfter lead l a → Joined (LeadMeans lead) (OneLeftMeans a k) s → OneLeftMeans l k s
+  after_in : (l a : Left) (k : ℕ) (s : List ℕ) → IsAfter lead l a
+      → Joined (LeadMeans lead) (OneLeftMeans a k) s → OneLeftMeans l k s
   after_in l a k s f (x, y, e, p, (n, m)) = (n ∙ f.number, f.means.from s (x, y, e, p, m))
 
   abbrev LedTo : ℕ → List Left → Type 0
-  LedTo end led = (k : ℕ) → AreSame (MeansBetween ls start end k) (Joined (LeadMeans lead) (SomeLeftMeans led k))
+  LedTo end led =
+      (k : ℕ) → AreSame (MeansBetween ls start end k) (Joined (LeadMeans lead) (SomeLeftMeans led k))
 
-  led_one : (l a : Left) → start < length ls → get_or ls start l ≡ l → IsAfter lead l a → LedTo (start + 1) ([] ++ a ∷ [])
+  led_one : (l a : Left) → start < length ls → get_or ls start l ≡ l → IsAfter lead l a
+      → LedTo (start + 1) ([] ++ a ∷ [])
   led_one l a lt is f k = record {
-    to = λ s m. (let j = after_out l a k s f (one_out ls start l lt is k s m) in (j.0, j.1, j.2, j.3, some_in [] a k j.1 (inr j.4)));
+    to = λ s m. (let j = after_out l a k s f (one_out ls start l lt is k s m) in
+        (j.0, j.1, j.2, j.3, some_in [] a k j.1 (inr j.4)));
     from = λ s m. one_in ls start l lt is k s (after_in l a k s f (
       m.0,
       m.1,
@@ -140,7 +163,8 @@ module _ (lead : Lead) (ls : List Left) (start : ℕ) where
     ));
   }
 
-  led_next : (led : List Left) (end : ℕ) (l a : Left) → start ≤ end → end < length ls → get_or ls end l ≡ l → IsAfter lead l a → LedTo end led → LedTo (end + 1) (led ++ a ∷ [])
+  led_next : (led : List Left) (end : ℕ) (l a : Left) → start ≤ end → end < length ls → get_or ls end l ≡ l
+      → IsAfter lead l a → LedTo end led → LedTo (end + 1) (led ++ a ∷ [])
   led_next led end l a le lt is f was k = record {
     to = λ s m. elim (between_out ls start end l le lt is k s m) [
       | inl n ↦ (let j = (was k).to s n in (j.0, j.1, j.2, j.3, some_in led a k j.1 (inl j.4)))
@@ -155,7 +179,8 @@ module _ (lead : Lead) (ls : List Left) (start : ℕ) where
   at_default : (l : Left) → start < length ls → get_or ls start (get_or ls start l) ≡ get_or ls start l
   at_default l lt = get_or_default ls start (get_or ls start l) l lt
 
-  pub led_begins : (a : Left) (led : List Left) → start < length ls → IsAfterAt lead ls start a → led ≡ [] ++ a ∷ [] → IsLed lead ls start led
+  pub led_begins : (a : Left) (led : List Left) → start < length ls → IsAfterAt lead ls start a
+      → led ≡ [] ++ a ∷ [] → IsLed lead ls start led
   led_begins a led lt after e =
       let l : Left = get_or ls start a in
       let is : get_or ls start l ≡ l = at_default a lt in
@@ -166,7 +191,8 @@ module _ (lead : Lead) (ls : List Left) (start : ℕ) where
         means = subst (λ z. LedTo (start + length z) z) (sym e) (led_one l a lt is (after l is));
       }
 
-  pub led_more : (led more : List Left) (end : ℕ) (l a : Left) → IsLed lead ls start led → end ≡ start + length led → end < length ls → l ≡ get_or ls end l → IsAfter lead l a
+  pub led_more : (led more : List Left) (end : ℕ) (l a : Left) → IsLed lead ls start led
+      → end ≡ start + length led → end < length ls → l ≡ get_or ls end l → IsAfter lead l a
       → more ≡ led ++ a ∷ [] → IsLed lead ls start more
   led_more led more end l a was at lt is f e =
       let n : length more ≡ length led + 1 = ap length e ∙ length-append led (a ∷ []) in
@@ -176,48 +202,64 @@ module _ (lead : Lead) (ls : List Left) (start : ℕ) where
       record {
         some = omega (arith, n);
         within = omega (arith, lt, at, n);
-        means = subst (λ z. LedTo z more) now (subst (λ z. LedTo (end + 1) z) (sym e) (led_next led end l a le lt (sym is) f was_means));
+        means = subst (λ z. LedTo z more) now
+            (subst (λ z. LedTo (end + 1) z) (sym e) (led_next led end l a le lt (sym is) f was_means));
       }
 
 -- ---- what was written for some of a list
-module _ (ls : List Left) (start : ℕ) (l : Left) (lt : start < length ls) (is : l ≡ get_or ls start l) (old new : List Instruction) where
-  pub first_apart : AreWritten old new (OneLeftMeans l) → AreWritten old new (MeansBetween ls start (start + 1))
-  first_apart w = written_same old new (λ k s m. one_in ls start l lt (sym is) k s m) (λ k s m. one_out ls start l lt (sym is) k s m) w
+module _ (ls : List Left) (start : ℕ) (l : Left) (lt : start < length ls) (is : l ≡ get_or ls start l)
+    (old new : List Instruction) where
+  pub first_apart : AreWritten old new (OneLeftMeans l)
+      → AreWritten old new (MeansBetween ls start (start + 1))
+  first_apart w = written_same old new (λ k s m. one_in ls start l lt (sym is) k s m)
+      (λ k s m. one_out ls start l lt (sym is) k s m) w
 
-pub first_led : (lead : Lead) (ls led sorted : List Left) (start next : ℕ) (old mid new : List Instruction) → IsLed lead ls start led → next ≡ start + length led
-    → IsPermutation led sorted → new ≡ lead_code lead ++ mid → AreWritten old mid (SomeLeftMeans sorted) → AreWritten old new (MeansBetween ls start next)
+pub first_led : (lead : Lead) (ls led sorted : List Left) (start next : ℕ) (old mid new : List Instruction)
+    → IsLed lead ls start led → next ≡ start + length led
+    → IsPermutation led sorted → new ≡ lead_code lead ++ mid → AreWritten old mid (SomeLeftMeans sorted)
+    → AreWritten old new (MeansBetween ls start next)
 first_led lead ls led sorted start next old mid new f at same e w =
     let back : IsPermutation sorted led = IsPermutation-sym led sorted same in
     subst (λ z. AreWritten old new (MeansBetween ls start z)) (sym at)
     (written_same old new
-    (λ k s m. (f.means k).from s (m.0, m.1, m.2, m.3, (m.4.0, Contains-permutation sorted led m.4.0 back m.4.1, m.4.2)))
-    (λ k s m. (let j = (f.means k).to s m in (j.0, j.1, j.2, j.3, (j.4.0, Contains-permutation led sorted j.4.0 same j.4.1, j.4.2))))
+    (λ k s m. (f.means k).from s
+    (m.0, m.1, m.2, m.3, (m.4.0, Contains-permutation sorted led m.4.0 back m.4.1, m.4.2)))
+    (λ k s m. (let j = (f.means k).to s m in
+    (j.0, j.1, j.2, j.3, (j.4.0, Contains-permutation led sorted j.4.0 same j.4.1, j.4.2))))
     (written_led (lead_code lead) old mid new (spells_lead lead) (inside_lead lead) e w))
 
 -- nothing, or the first ones of a list
 abbrev pub IsBegun : List Left → List Instruction → List Instruction → ℕ → Type 0
-IsBegun ls old new start = ((start ≡ 0) × (new ≡ old)) ⊎ ((0 < start) × AreWritten old new (MeansBetween ls 0 start))
+IsBegun ls old new start = ((start ≡ 0) × (new ≡ old))
+    ⊎ ((0 < start) × AreWritten old new (MeansBetween ls 0 start))
 
-module _ (ls : List Left) (start next : ℕ) (old mid last new : List Instruction) (first : start ≡ 0 → new ≡ last)
+module _ (ls : List Left) (start next : ℕ) (old mid last new : List Instruction)
+    (first : start ≡ 0 → new ≡ last)
     (beside : 0 < start → new ≡ Fork (length last - length mid) ∷ last) where
-  joined_in : (k : ℕ) (s : List ℕ) → start < next → MeansBetween ls start next k s ⊎ MeansBetween ls 0 start k s → MeansBetween ls 0 next k s
+  joined_in : (k : ℕ) (s : List ℕ) → start < next → MeansBetween ls start next k s
+      ⊎ MeansBetween ls 0 start k s → MeansBetween ls 0 next k s
   joined_in k s lt (inl (n, m, after, before, at, one)) = (n, m, omega arith, before, at, one)
   joined_in k s lt (inr (n, m, after, before, at, one)) = (n, m, after, omega (arith, before, lt), at, one)
 
-  joined_out : (k : ℕ) (s : List ℕ) → MeansBetween ls 0 next k s → MeansBetween ls start next k s ⊎ MeansBetween ls 0 start k s
+  joined_out : (k : ℕ) (s : List ℕ) → MeansBetween ls 0 next k s → MeansBetween ls start next k s
+      ⊎ MeansBetween ls 0 start k s
   joined_out k s (n, m, after, before, at, one) = elim (cases_lt n start) [
     | inl lower ↦ inr (n, m, after, lower, at, one)
     | inr past ↦ inl (n, m, past, before, at, one)
   ]
 
-  begun_next : start < next → IsBegun ls old mid start → AreWritten mid last (MeansBetween ls start next) → AreWritten old new (MeansBetween ls 0 next)
+  begun_next : start < next → IsBegun ls old mid start → AreWritten mid last (MeansBetween ls start next)
+      → AreWritten old new (MeansBetween ls 0 next)
   begun_next lt (inl (zero, same)) w =
       subst (λ z. AreWritten old z (MeansBetween ls 0 next)) (sym (first zero))
-      (subst (λ z. AreWritten z last (MeansBetween ls 0 next)) same (subst (λ z. AreWritten mid last (MeansBetween ls z next)) zero w))
+      (subst (λ z. AreWritten z last (MeansBetween ls 0 next)) same
+      (subst (λ z. AreWritten mid last (MeansBetween ls z next)) zero w))
   begun_next lt (inr (some, was)) w =
-      written_same old new (λ k s m. joined_in k s lt m) (λ k s m. joined_out k s m) (written_beside old mid last new (beside some) was w)
+      written_same old new (λ k s m. joined_in k s lt m) (λ k s m. joined_out k s m)
+      (written_beside old mid last new (beside some) was w)
 
-  pub begun_more : start < next → IsBegun ls old mid start → AreWritten mid last (MeansBetween ls start next) → IsBegun ls old new next
+  pub begun_more : start < next → IsBegun ls old mid start → AreWritten mid last (MeansBetween ls start next)
+      → IsBegun ls old new next
   begun_more lt was w = inr (omega (arith, lt), begun_next lt was w)
 
   pub begun_kept : (ends : List WrittenEnd) → All (IsIn last) ends → All (IsIn new) ends
@@ -226,17 +268,26 @@ module _ (ls : List Left) (start next : ℕ) (old mid last new : List Instructio
     | inr none ↦ ends_stay last new [] (first (omega (arith, none))) ends all
   ]
 
-pub begun_all : (ls : List Left) (old new : List Instruction) (start : ℕ) → 1 ≤ length ls → length ls ≤ start → start ≤ length ls → IsBegun ls old new start
+pub begun_all : (ls : List Left) (old new : List Instruction) (start : ℕ) → 1 ≤ length ls → length ls ≤ start
+    → start ≤ length ls → IsBegun ls old new start
     → AreWritten old new (SomeLeftMeans ls)
 begun_all ls old new start some past within (inl (zero, same)) = absurd (omega (arith, zero, some, past))
 begun_all ls old new start some past within (inr (pos, w)) =
     written_same old new
     (λ k s m. (m.1, (m.0, (let lt : m.0 < start = m.3 in omega (arith, lt, within)), m.4), m.5))
-    (λ k s m. (m.1.0, m.0, omega arith, (let lt : m.1.0 < length ls = m.1.1 in omega (arith, lt, past)), m.1.2, m.2)) w
+    (λ k s m. (
+      m.1.0,
+      m.0,
+      omega arith,
+      (let lt : m.1.0 < length ls = m.1.1 in omega (arith, lt, past)),
+      m.1.2,
+      m.2,
+    )) w
 
 -- ---- all of the patterns
 -- a token is the only member of its concatenation, or its members are
-means_members : (t : Tree Span) (before after : Bool) → AreSame (MeansEach (members t) before after) (Means t before after)
+means_members : (t : Tree Span) (before after : Bool)
+    → AreSame (MeansEach (members t) before after) (Means t before after)
 means_members (leaf a l) before after = record { to = λ s m. m; from = λ s m. m }
 means_members (alternation a ts) before after = record { to = λ s m. m; from = λ s m. m }
 means_members (concatenation a ts) before after = record { to = λ s m. m; from = λ s m. m }
@@ -250,7 +301,8 @@ numbered_out (q ∷ ps) p k s m = elim m [
   | inr h ↦ elim (numbered_out ps p k s h) [ inl g ↦ inl (inr g) | inr g ↦ inr g ]
 ]
 
-numbered_in : (ps : List Numbered) (p : Numbered) (k : ℕ) (s : List ℕ) → MeansNumbered ps k s ⊎ (p.number ≡ k) × Means p.pattern.now false false s
+numbered_in : (ps : List Numbered) (p : Numbered) (k : ℕ) (s : List ℕ)
+    → MeansNumbered ps k s ⊎ (p.number ≡ k) × Means p.pattern.now false false s
     → MeansNumbered (ps ++ p ∷ []) k s
 numbered_in [] p k s m = elim m [ inl h ↦ absurd h | inr h ↦ inl h ]
 numbered_in (q ∷ ps) p k s m = elim m [
@@ -268,12 +320,16 @@ left_none ls ps empty k = record {
   from = λ s m. absurd m;
 }
 
-pub left_more : (ls more : List Left) (ps : List Numbered) (i : ℕ) (p : Numbered) (l : Left) (ts : List (Tree Span)) → i < length ps → p ≡ get_or ps i p
-    → more ≡ ls ++ l ∷ [] → l.number ≡ p.number → trees ts ≡ members p.pattern.now → AreSame (LeftMeans l) (MeansEach (trees ts) false false) → AreLeft ls ps i → AreLeft more ps (i + 1)
+pub left_more : (ls more : List Left) (ps : List Numbered) (i : ℕ) (p : Numbered) (l : Left)
+    (ts : List (Tree Span)) → i < length ps → p ≡ get_or ps i p
+    → more ≡ ls ++ l ∷ [] → l.number ≡ p.number → trees ts ≡ members p.pattern.now
+    → AreSame (LeftMeans l) (MeansEach (trees ts) false false) → AreLeft ls ps i → AreLeft more ps (i + 1)
 left_more ls more ps i p l ts lt is e number tokens f was k =
-    let next : take (i + 1) ps ≡ take i ps ++ p ∷ [] = take_more ps i p lt ∙ ap (λ x. take i ps ++ x ∷ []) (sym is) in
+    let next : take (i + 1) ps ≡ take i ps ++ p ∷ [] =
+    take_more ps i p lt ∙ ap (λ x. take i ps ++ x ∷ []) (sym is) in
     let g : AreSame (LeftMeans l) (Means p.pattern.now false false) =
-    same_next (subst (λ z. AreSame (LeftMeans l) (MeansEach z false false)) tokens f) (means_members p.pattern.now false false) in
+    same_next (subst (λ z. AreSame (LeftMeans l) (MeansEach z false false)) tokens f)
+    (means_members p.pattern.now false false) in
     subst (λ z. AreSame (SomeLeftMeans z k) (MeansNumbered (take (i + 1) ps) k)) (sym e)
     (subst (λ z. AreSame (SomeLeftMeans (ls ++ l ∷ []) k) (MeansNumbered z k)) (sym next) (record {
       to = λ s m. numbered_in (take i ps) p k s (elim (some_out ls l k s m) [
@@ -286,16 +342,22 @@ left_more ls more ps i p l ts lt is e number tokens f was k =
       ]);
     }))
 
-pub left_all : (ls : List Left) (ps : List Numbered) (i : ℕ) → length ps ≤ i → AreLeft ls ps i → (k : ℕ) → AreSame (SomeLeftMeans ls k) (MeansNumbered ps k)
-left_all ls ps i past are = subst (λ z. (k : ℕ) → AreSame (SomeLeftMeans ls k) (MeansNumbered z k)) (take_all i ps past) are
+pub left_all : (ls : List Left) (ps : List Numbered) (i : ℕ) → length ps ≤ i → AreLeft ls ps i → (k : ℕ)
+    → AreSame (SomeLeftMeans ls k) (MeansNumbered ps k)
+left_all ls ps i past are =
+    subst (λ z. (k : ℕ) → AreSame (SomeLeftMeans ls k) (MeansNumbered z k)) (take_all i ps past) are
 
-pub numbered_written : (ps : List Numbered) (ls sorted : List Left) (old new : List Instruction) → ((k : ℕ) → AreSame (SomeLeftMeans ls k) (MeansNumbered ps k)) → IsPermutation ls sorted
+pub numbered_written : (ps : List Numbered) (ls sorted : List Left) (old new : List Instruction)
+    → ((k : ℕ) → AreSame (SomeLeftMeans ls k) (MeansNumbered ps k)) → IsPermutation ls sorted
     → AreWritten old new (SomeLeftMeans sorted) → AreWritten old new (MeansNumbered ps)
 numbered_written ps ls sorted old new f same w =
     written_same old new
-    (λ k s m. (f k).to s (m.0, Contains-permutation sorted ls m.0 (IsPermutation-sym ls sorted same) m.1, m.2))
+    (λ k s m.
+    (f k).to s (m.0, Contains-permutation sorted ls m.0 (IsPermutation-sym ls sorted same) m.1, m.2))
     (λ k s m. (let h = (f k).from s m in (h.0, Contains-permutation ls sorted h.0 same h.1, h.2))) w
 
-pub none_written : (ps : List Numbered) (old new : List Instruction) → ps ≡ [] → new ≡ Back 0 ∷ old → AreWritten old new (MeansNumbered ps)
+pub none_written : (ps : List Numbered) (old new : List Instruction) → ps ≡ [] → new ≡ Back 0 ∷ old
+    → AreWritten old new (MeansNumbered ps)
 none_written ps old new empty e =
-    written_same old new (λ k s m. absurd m) (λ k s m. subst (λ z. MeansNumbered z k s) empty m) (written_none old new e)
+    written_same old new (λ k s m. absurd m) (λ k s m. subst (λ z. MeansNumbered z k s) empty m)
+    (written_none old new e)

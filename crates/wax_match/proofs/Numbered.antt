@@ -6,8 +6,12 @@ use Rattle.wax_token.specs.Meaning.{Means}
 
 -- one more
 pub numbered_push : (ps : List Numbered) (p : Numbered) (k : ℕ) (s : List ℕ)
-    → MeansNumbered (ps ++ p ∷ []) k s ↔ (((k ≡ p.number) × Means p.pattern.now false false s) ⊎ MeansNumbered ps k s)
-numbered_push [] p k s = ((λ m. elim m [ inl h ↦ inl (sym h.0, h.1) | inr h ↦ absurd h ]), (λ m. elim m [ inl h ↦ inl (sym h.0, h.1) | inr h ↦ absurd h ]))
+    → MeansNumbered (ps ++ p ∷ []) k s
+    ↔ (((k ≡ p.number) × Means p.pattern.now false false s) ⊎ MeansNumbered ps k s)
+numbered_push [] p k s = (
+  (λ m. elim m [ inl h ↦ inl (sym h.0, h.1) | inr h ↦ absurd h ]),
+  (λ m. elim m [ inl h ↦ inl (sym h.0, h.1) | inr h ↦ absurd h ]),
+)
 numbered_push (q ∷ ps) p k s = (
   (λ m. elim m [
     | inl h ↦ inr (inl h)

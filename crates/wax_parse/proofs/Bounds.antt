@@ -1,11 +1,16 @@
 -- The bounds of repetitions.
-use Rattle.std.proofs.Common.{true≢false, codes, leb, leb-true, ◌&&◌, append_assoc, inl, inr, ◌≡◌, ℕ, ◌+◌, ◌*◌, ◌-◌, ◌^◌, ◌<◌, ◌≤◌, ltb, Bool, true, false, List, [], ◌∷◌, ◌++◌, length, Option, Some, None, if◌then◌else◌, refl, sym, ◌∙◌, ap, subst, arith}
+use Rattle.std.proofs.Common.{true≢false, codes, leb, leb-true, ◌&&◌, append_assoc, inl, inr, ◌≡◌, ℕ, ◌+◌}
+use Rattle.std.proofs.Common.{◌*◌, ◌-◌, ◌^◌, ◌<◌, ◌≤◌, ltb, Bool, true, false, List, [], ◌∷◌, ◌++◌, length}
+use Rattle.std.proofs.Common.{Option, Some, None, if◌then◌else◌, refl, sym, ◌∙◌, ap, subst, arith}
 use Rattle.std.specs.Char.{is_ascii_digit}
 use Rattle.std.specs.List.{list_all}
 use Rattle.std.proofs.lemmas.Bool.Decides.{eqb_tells}
 use borrow.Author.Tests.{ltb-true, lt-ltb}
-use Rattle.wax_token.specs.Reads.{decimal_from, IsNumber, ReadsBounds, any_number, at_least_one, exactly, at_least, between}
-use Rattle.wax_parse.specs.inner.Parser.{strip, digit_step, next_number, digits_run, digits_after, number_run, with_value, with_lower, upper_end, upper_or, read_upper, upper_after, lower_after, read_numbers, numbers_or, bounds_after, read_bounds}
+use Rattle.wax_token.specs.Reads.{decimal_from, IsNumber, ReadsBounds, any_number, at_least_one, exactly}
+use Rattle.wax_token.specs.Reads.{at_least, between}
+use Rattle.wax_parse.specs.inner.Parser.{strip, digit_step, next_number, digits_run, digits_after, number_run}
+use Rattle.wax_parse.specs.inner.Parser.{with_value, with_lower, upper_end, upper_or, read_upper, upper_after}
+use Rattle.wax_parse.specs.inner.Parser.{lower_after, read_numbers, numbers_or, bounds_after, read_bounds}
 use Rattle.wax_parse.specs.inner.Reading.{HasSuffix}
 use Rattle.wax_parse.proofs.Runs.{none_some}
 use Rattle.wax_parse.proofs.Trees.{strip_is}
@@ -23,11 +28,13 @@ digit_if c s b = if b then Some (c - 48, s) else None
 
 pub digit_is : (s : List ℕ) (d : ℕ) (r : List ℕ) → digit_step s ≡ Some (d, r) → Digit d s r
 digit_is [] d r e = absurd (let p : ℕ × List ℕ = (d, r) in none_some p e)
-digit_is (c ∷ s) d r e = elim (is_ascii_digit c) as (λ z. is_ascii_digit c ≡ z → digit_if c s z ≡ Some (d, r) → Digit d (c ∷ s) r) [
-  | true ↦ λ f g. (let x : ℕ × List ℕ = (c - 48, s) in let y : ℕ × List ℕ = (d, r) in let h : x ≡ y = same_pair x y g in
-      (c, (λ i. c ∷ (h i).1), f, sym (ap (λ z. z.0) h)))
-  | false ↦ λ f g. absurd (let p : ℕ × List ℕ = (d, r) in none_some p g)
-] refl e
+digit_is (c ∷ s) d r e = elim (is_ascii_digit c)
+    as (λ z. is_ascii_digit c ≡ z → digit_if c s z ≡ Some (d, r) → Digit d (c ∷ s) r) [
+      | true ↦ λ f g. (let x : ℕ × List ℕ = (c - 48, s) in let y : ℕ × List ℕ = (d, r) in
+          let h : x ≡ y = same_pair x y g in
+          (c, (λ i. c ∷ (h i).1), f, sym (ap (λ z. z.0) h)))
+      | false ↦ λ f g. absurd (let p : ℕ × List ℕ = (d, r) in none_some p g)
+    ] refl e
 
 no_digit : (c : ℕ) (s : List ℕ) → digit_step (c ∷ s) ≡ None → is_ascii_digit c ≡ false
 no_digit c s e = elim (is_ascii_digit c) as (λ z. digit_if c s z ≡ None → z ≡ false) [
@@ -45,29 +52,35 @@ within_if n c s b = if b then digits_run (n * 10 + (c - 48)) s else None
 abbrev run_if : ℕ → ℕ → List ℕ → Bool → Option (ℕ × List ℕ)
 run_if n c s b = if b then within_if n c s (ltb (n * 10 + (c - 48)) (2 ^ 64)) else Some (n, c ∷ s)
 
-run_digit : (n c : ℕ) (s : List ℕ) → is_ascii_digit c ≡ true → digits_run n (c ∷ s) ≡ within_if n c s (ltb (n * 10 + (c - 48)) (2 ^ 64))
+run_digit : (n c : ℕ) (s : List ℕ) → is_ascii_digit c ≡ true
+    → digits_run n (c ∷ s) ≡ within_if n c s (ltb (n * 10 + (c - 48)) (2 ^ 64))
 run_digit n c s e = ap (run_if n c s) e
 
 next_some : (n d m : ℕ) → next_number n d ≡ Some m → (ltb (n * 10 + d) (2 ^ 64) ≡ true) × (m ≡ n * 10 + d)
-next_some n d m e = elim (ltb (n * 10 + d) (2 ^ 64)) as (λ z. (if z then Some (n * 10 + d) else None) ≡ Some m → (z ≡ true) × (m ≡ n * 10 + d)) [
-  | true ↦ λ f. (refl, (let g : n * 10 + d ≡ m = cc in sym g))
-  | false ↦ λ f. absurd (none_some m f)
-] e
+next_some n d m e = elim (ltb (n * 10 + d) (2 ^ 64))
+    as (λ z. (if z then Some (n * 10 + d) else None) ≡ Some m → (z ≡ true) × (m ≡ n * 10 + d)) [
+      | true ↦ λ f. (refl, (let g : n * 10 + d ≡ m = cc in sym g))
+      | false ↦ λ f. absurd (none_some m f)
+    ] e
 
 next_none : (n d : ℕ) → next_number n d ≡ None → ltb (n * 10 + d) (2 ^ 64) ≡ false
-next_none n d e = elim (ltb (n * 10 + d) (2 ^ 64)) as (λ z. (if z then Some (n * 10 + d) else None) ≡ None → z ≡ false) [
-  | true ↦ λ f. absurd (let m : ℕ = n * 10 + d in none_some m (sym f))
-  | false ↦ λ f. refl
-] e
+next_none n d e =
+    elim (ltb (n * 10 + d) (2 ^ 64)) as (λ z. (if z then Some (n * 10 + d) else None) ≡ None → z ≡ false) [
+      | true ↦ λ f. absurd (let m : ℕ = n * 10 + d in none_some m (sym f))
+      | false ↦ λ f. refl
+    ] e
 
-pub digits_more : (n m : ℕ) (s : List ℕ) (d : ℕ) (r : List ℕ) → digit_step s ≡ Some (d, r) → next_number n d ≡ Some m → digits_run n s ≡ digits_run m r
+pub digits_more : (n m : ℕ) (s : List ℕ) (d : ℕ) (r : List ℕ) → digit_step s ≡ Some (d, r)
+    → next_number n d ≡ Some m → digits_run n s ≡ digits_run m r
 digits_more n m s d r e f =
     let k : Digit d s r = digit_is s d r e in
-    let g : (ltb (n * 10 + (k.0 - 48)) (2 ^ 64) ≡ true) × (m ≡ n * 10 + (k.0 - 48)) = next_some n (k.0 - 48) m (ap (next_number n) (sym k.3) ∙ f) in
+    let g : (ltb (n * 10 + (k.0 - 48)) (2 ^ 64) ≡ true) × (m ≡ n * 10 + (k.0 - 48)) =
+    next_some n (k.0 - 48) m (ap (next_number n) (sym k.3) ∙ f) in
     ap (digits_run n) k.1 ∙ run_digit n k.0 r k.2
     ∙ ap (within_if n k.0 r) g.0 ∙ ap (λ z. digits_run z r) (sym g.1)
 
-pub digits_over : (n : ℕ) (s : List ℕ) (d : ℕ) (r : List ℕ) → digit_step s ≡ Some (d, r) → next_number n d ≡ None → digits_run n s ≡ None
+pub digits_over : (n : ℕ) (s : List ℕ) (d : ℕ) (r : List ℕ) → digit_step s ≡ Some (d, r)
+    → next_number n d ≡ None → digits_run n s ≡ None
 digits_over n s d r e f =
     let k : Digit d s r = digit_is s d r e in
     ap (digits_run n) k.1 ∙ run_digit n k.0 r k.2
@@ -83,7 +96,8 @@ all_digits ds = list_all is_ascii_digit ds
 
 -- the number m, with digits up to the text r
 abbrev Continues : ℕ → List ℕ → ℕ → List ℕ → Type 0
-Continues m s n r = (ds : List ℕ) × (s ≡ ds ++ r) × (all_digits ds ≡ true) × (decimal_from m ds ≡ n) × (n < 2 ^ 64)
+Continues m s n r = (ds : List ℕ) × (s ≡ ds ++ r) × (all_digits ds ≡ true)
+    × (decimal_from m ds ≡ n) × (n < 2 ^ 64)
 
 both_true : (a b : Bool) → a ≡ true → b ≡ true → (a && b) ≡ true
 both_true true b e f = f
@@ -97,49 +111,77 @@ and_true false b e = absurd (true≢false (sym e))
 next_digit : (m c : ℕ) → m * 10 + (c - 48) ≡ 10 * m + (c - 48)
 next_digit m c = omega arith
 
-digits_sound : (m : ℕ) (s : List ℕ) (n : ℕ) (r : List ℕ) → m < 2 ^ 64 → digits_run m s ≡ Some (n, r) → Continues m s n r
+digits_sound : (m : ℕ) (s : List ℕ) (n : ℕ) (r : List ℕ) → m < 2 ^ 64
+    → digits_run m s ≡ Some (n, r) → Continues m s n r
 digits_sound m [] n r small e =
     let x : ℕ × List ℕ = (m, []) in let y : ℕ × List ℕ = (n, r) in let h : x ≡ y = same_pair x y e in
     ([], ap (λ z. z.1) h, refl, ap (λ z. z.0) h, (let k : m ≡ n = ap (λ z. z.0) h in omega (arith, k, small)))
-digits_sound m (c ∷ s) n r small e = elim (is_ascii_digit c) as (λ z. is_ascii_digit c ≡ z → run_if m c s z ≡ Some (n, r) → Continues m (c ∷ s) n r) [
-  | true ↦ λ f g. elim (ltb (m * 10 + (c - 48)) (2 ^ 64)) as (λ z. ltb (m * 10 + (c - 48)) (2 ^ 64) ≡ z → within_if m c s z ≡ Some (n, r) → Continues m (c ∷ s) n r) [
-    | true ↦ λ k h. (let t : Continues (m * 10 + (c - 48)) s n r = digits_sound (m * 10 + (c - 48)) s n r (ltb-true (m * 10 + (c - 48)) (2 ^ 64) k) h in
-        (c ∷ t.0, ap (λ z. c ∷ z) t.1, both_true (is_ascii_digit c) (all_digits t.0) f t.2, ap (λ z. decimal_from z t.0) (sym (next_digit m c)) ∙ t.3, t.4))
-    | false ↦ λ k h. absurd (let y : ℕ × List ℕ = (n, r) in none_some y h)
-  ] refl g
-  | false ↦ λ f g. (let x : ℕ × List ℕ = (m, c ∷ s) in let y : ℕ × List ℕ = (n, r) in let h : x ≡ y = same_pair x y g in
-      ([], ap (λ z. z.1) h, refl, ap (λ z. z.0) h, (let k : m ≡ n = ap (λ z. z.0) h in omega (arith, k, small))))
-] refl e
+digits_sound m (c ∷ s) n r small e = elim (is_ascii_digit c)
+    as (λ z. is_ascii_digit c ≡ z → run_if m c s z ≡ Some (n, r) → Continues m (c ∷ s) n r) [
+      | true ↦ λ f g. elim (ltb (m * 10 + (c - 48)) (2 ^ 64)) as (λ z. ltb (m * 10 + (c - 48)) (2 ^ 64) ≡ z
+          → within_if m c s z ≡ Some (n, r) → Continues m (c ∷ s) n r) [
+            | true ↦ λ k h. (let t : Continues (m * 10 + (c - 48)) s n r =
+                digits_sound (m * 10 + (c - 48)) s n r (ltb-true (m * 10 + (c - 48)) (2 ^ 64) k) h in (
+                  c ∷ t.0,
+                  ap (λ z. c ∷ z) t.1,
+                  both_true (is_ascii_digit c) (all_digits t.0) f t.2,
+                  ap (λ z. decimal_from z t.0) (sym (next_digit m c)) ∙ t.3,
+                  t.4,
+                ))
+            | false ↦ λ k h. absurd (let y : ℕ × List ℕ = (n, r) in none_some y h)
+          ] refl g
+      | false ↦ λ f g. (let x : ℕ × List ℕ = (m, c ∷ s) in let y : ℕ × List ℕ = (n, r) in
+          let h : x ≡ y = same_pair x y g in (
+            [],
+            ap (λ z. z.1) h,
+            refl,
+            ap (λ z. z.0) h,
+            (let k : m ≡ n = ap (λ z. z.0) h in omega (arith, k, small)),
+          ))
+    ] refl e
 
 decimal_grows : (m : ℕ) (ds : List ℕ) → m ≤ decimal_from m ds
 decimal_grows m [] = omega arith
 decimal_grows m (d ∷ ds) = omega (arith, decimal_grows (10 * m + (d - 48)) ds)
 
-digits_complete : (m : ℕ) (ds s : List ℕ) → all_digits ds ≡ true → digit_step s ≡ None → decimal_from m ds < 2 ^ 64 → digits_run m (ds ++ s) ≡ Some (decimal_from m ds, s)
+digits_complete : (m : ℕ) (ds s : List ℕ) → all_digits ds ≡ true → digit_step s ≡ None
+    → decimal_from m ds < 2 ^ 64 → digits_run m (ds ++ s) ≡ Some (decimal_from m ds, s)
 digits_complete m [] s all stop small = digits_stop m s stop
 digits_complete m (d ∷ ds) s all stop small =
-    let h : (is_ascii_digit d ≡ true) × (all_digits ds ≡ true) = and_true (is_ascii_digit d) (all_digits ds) all in
-    let k : m * 10 + (d - 48) < 2 ^ 64 = omega (arith, next_digit m d, decimal_grows (10 * m + (d - 48)) ds, small) in
+    let h : (is_ascii_digit d ≡ true) × (all_digits ds ≡ true) =
+    and_true (is_ascii_digit d) (all_digits ds) all in
+    let k : m * 10 + (d - 48) < 2 ^ 64 =
+    omega (arith, next_digit m d, decimal_grows (10 * m + (d - 48)) ds, small) in
     run_digit m d (ds ++ s) h.0 ∙ ap (within_if m d (ds ++ s)) (lt-ltb (m * 10 + (d - 48)) (2 ^ 64) k)
-    ∙ ap (λ z. digits_run z (ds ++ s)) (next_digit m d) ∙ digits_complete (10 * m + (d - 48)) ds s h.1 stop small
+    ∙ ap (λ z. digits_run z (ds ++ s)) (next_digit m d)
+    ∙ digits_complete (10 * m + (d - 48)) ds s h.1 stop small
 
 small_digit : (c : ℕ) → is_ascii_digit c ≡ true → c - 48 < 2 ^ 64
-small_digit c e = let h : (leb 48 c ≡ true) × (leb c 57 ≡ true) = and_true (leb 48 c) (leb c 57) e in omega (arith, leb-true c 57 h.1)
+small_digit c e = let h : (leb 48 c ≡ true) × (leb c 57 ≡ true) = and_true (leb 48 c) (leb c 57) e in
+    omega (arith, leb-true c 57 h.1)
 
 -- the first digit
 from_zero : (c : ℕ) (ds : List ℕ) → decimal_from 0 (c ∷ ds) ≡ decimal_from (c - 48) ds
 from_zero c ds = let e : 0 + (c - 48) ≡ c - 48 = omega arith in ap (λ z. decimal_from z ds) e
 
-number_sound : (s : List ℕ) (n : ℕ) (r : List ℕ) → number_run s ≡ Some (n, r) → (ds : List ℕ) × (s ≡ ds ++ r) × IsNumber ds n
-number_sound s n r e = elim (digit_step s) as (λ o. digit_step s ≡ o → digits_after o ≡ Some (n, r) → (ds : List ℕ) × (s ≡ ds ++ r) × IsNumber ds n) [
-  | None ↦ λ f g. absurd (let y : ℕ × List ℕ = (n, r) in none_some y g)
-  | Some p ↦ λ f g. (let k : Digit p.0 s p.1 = digit_is s p.0 p.1 f in
-      let t : Continues (k.0 - 48) p.1 n r = digits_sound (k.0 - 48) p.1 n r (small_digit k.0 k.2) (ap (λ z. digits_run z p.1) (sym k.3) ∙ g) in (
-        k.0 ∷ t.0,
-        k.1 ∙ ap (λ z. k.0 ∷ z) t.1,
-        ((λ z. cons_nil k.0 t.0 z), both_true (is_ascii_digit k.0) (all_digits t.0) k.2 t.2, from_zero k.0 t.0 ∙ t.3, t.4),
-      ))
-] refl e
+number_sound : (s : List ℕ) (n : ℕ) (r : List ℕ) → number_run s ≡ Some (n, r)
+    → (ds : List ℕ) × (s ≡ ds ++ r) × IsNumber ds n
+number_sound s n r e = elim (digit_step s) as (λ o. digit_step s ≡ o → digits_after o ≡ Some (n, r)
+    → (ds : List ℕ) × (s ≡ ds ++ r) × IsNumber ds n) [
+      | None ↦ λ f g. absurd (let y : ℕ × List ℕ = (n, r) in none_some y g)
+      | Some p ↦ λ f g. (let k : Digit p.0 s p.1 = digit_is s p.0 p.1 f in
+          let t : Continues (k.0 - 48) p.1 n r = digits_sound (k.0 - 48) p.1 n r (small_digit k.0 k.2)
+          (ap (λ z. digits_run z p.1) (sym k.3) ∙ g) in (
+            k.0 ∷ t.0,
+            k.1 ∙ ap (λ z. k.0 ∷ z) t.1,
+            (
+              (λ z. cons_nil k.0 t.0 z),
+              both_true (is_ascii_digit k.0) (all_digits t.0) k.2 t.2,
+              from_zero k.0 t.0 ∙ t.3,
+              t.4,
+            ),
+          ))
+    ] refl e
   where
     cons_nil : (c : ℕ) (t : List ℕ) → c ∷ t ≡ [] → ⊥
     cons_nil c t z = cc
@@ -147,10 +189,12 @@ number_sound s n r e = elim (digit_step s) as (λ o. digit_step s ≡ o → digi
 step_digit : (c : ℕ) (s : List ℕ) → is_ascii_digit c ≡ true → digit_step (c ∷ s) ≡ Some (c - 48, s)
 step_digit c s e = ap (digit_if c s) e
 
-number_complete : (ds s : List ℕ) (n : ℕ) → digit_step s ≡ None → IsNumber ds n → number_run (ds ++ s) ≡ Some (n, s)
+number_complete : (ds s : List ℕ) (n : ℕ) → digit_step s ≡ None → IsNumber ds n
+    → number_run (ds ++ s) ≡ Some (n, s)
 number_complete [] s n stop h = absurd (h.0 refl)
 number_complete (d ∷ ds) s n stop h =
-    let k : (is_ascii_digit d ≡ true) × (all_digits ds ≡ true) = and_true (is_ascii_digit d) (all_digits ds) h.1 in
+    let k : (is_ascii_digit d ≡ true) × (all_digits ds ≡ true) =
+    and_true (is_ascii_digit d) (all_digits ds) h.1 in
     ap digits_after (step_digit d (ds ++ s) k.0)
     ∙ digits_complete (d - 48) ds s k.1 stop (subst (λ z. z < 2 ^ 64) (sym h.2 ∙ from_zero d ds) h.3)
     ∙ ap (λ z. Some (z, s)) (sym (from_zero d ds) ∙ h.2)
@@ -164,35 +208,55 @@ BoundsIf x None = Unit {0}
 BoundsIf x (Some r) = AreBounds x r
 
 -- after `:` and the lower bound
-exactly_sound : (x ds s : List ℕ) (n : ℕ) → x ≡ 58 ∷ (ds ++ s) → IsNumber ds n → BoundsIf x (with_value (n, Some n) (strip 62 s))
-exactly_sound x ds s n e h = elim (strip 62 s) as (λ o. strip 62 s ≡ o → BoundsIf x (with_value (n, Some n) o)) [
-  | None ↦ λ f. tt
-  | Some t ↦ λ f. (58 ∷ ds, exactly ds refl h refl, e ∙ ap (λ z. 58 ∷ (ds ++ z)) (strip_is 62 s t f) ∙ ap (λ z. 58 ∷ z) (sym (append_assoc ds (codes ">") t)))
-] refl
+exactly_sound : (x ds s : List ℕ) (n : ℕ) → x ≡ 58 ∷ (ds ++ s) → IsNumber ds n
+    → BoundsIf x (with_value (n, Some n) (strip 62 s))
+exactly_sound x ds s n e h =
+    elim (strip 62 s) as (λ o. strip 62 s ≡ o → BoundsIf x (with_value (n, Some n) o)) [
+      | None ↦ λ f. tt
+      | Some t ↦ λ f. (
+        58 ∷ ds,
+        exactly ds refl h refl,
+        e ∙ ap (λ z. 58 ∷ (ds ++ z)) (strip_is 62 s t f)
+            ∙ ap (λ z. 58 ∷ z) (sym (append_assoc ds (codes ">") t)),
+      )
+    ] refl
 
 -- the text of bounds, as it is written
-closed_upper : (ds es t : List ℕ) → ((codes ":" ++ ds ++ codes "," ++ es) ++ codes ">") ++ t ≡ 58 ∷ (ds ++ 44 ∷ (es ++ 62 ∷ t))
+closed_upper : (ds es t : List ℕ) → ((codes ":" ++ ds ++ codes "," ++ es) ++ codes ">") ++ t
+    ≡ 58 ∷ (ds ++ 44 ∷ (es ++ 62 ∷ t))
 closed_upper ds es t = ap (λ z. 58 ∷ z)
-    (append_assoc ((ds ++ codes ",") ++ es) (codes ">") t ∙ append_assoc (ds ++ codes ",") es (62 ∷ t) ∙ append_assoc ds (codes ",") (es ++ 62 ∷ t))
+    (append_assoc ((ds ++ codes ",") ++ es) (codes ">") t ∙ append_assoc (ds ++ codes ",") es (62 ∷ t)
+    ∙ append_assoc ds (codes ",") (es ++ 62 ∷ t))
 
 closed_lower : (ds t : List ℕ) → ((codes ":" ++ ds ++ codes ",") ++ codes ">") ++ t ≡ 58 ∷ (ds ++ 44 ∷ 62 ∷ t)
-closed_lower ds t = ap (λ z. 58 ∷ z) (append_assoc (ds ++ codes ",") (codes ">") t ∙ append_assoc ds (codes ",") (62 ∷ t))
+closed_lower ds t =
+    ap (λ z. 58 ∷ z) (append_assoc (ds ++ codes ",") (codes ">") t ∙ append_assoc ds (codes ",") (62 ∷ t))
 
-upper_sound : (x ds s : List ℕ) (n : ℕ) → x ≡ 58 ∷ (ds ++ 44 ∷ s) → IsNumber ds n → BoundsIf x (with_lower n (read_upper s))
-upper_sound x ds s n e h = elim (strip 62 s) as (λ o. strip 62 s ≡ o → BoundsIf x (with_lower n (upper_or s o))) [
-  | Some t ↦ λ f. (codes ":" ++ ds ++ codes ",", at_least ds refl h refl, e ∙ ap (λ z. 58 ∷ (ds ++ 44 ∷ z)) (strip_is 62 s t f) ∙ sym (closed_lower ds t))
-  | None ↦ λ f. elim (number_run s) as (λ o. number_run s ≡ o → BoundsIf x (with_lower n (upper_end o))) [
-    | None ↦ λ g. tt
-    | Some r ↦ λ g. elim (strip 62 r.1) as (λ o. strip 62 r.1 ≡ o → BoundsIf x (with_lower n (with_value (Some r.0) o))) [
-      | None ↦ λ k. tt
-      | Some t ↦ λ k. (let m : (es : List ℕ) × (s ≡ es ++ r.1) × IsNumber es r.0 = number_sound s r.0 r.1 g in (
-        codes ":" ++ ds ++ codes "," ++ m.0,
-        between ds m.0 r.0 refl h m.2 refl,
-        e ∙ ap (λ z. 58 ∷ (ds ++ 44 ∷ z)) (m.1 ∙ ap (λ z. m.0 ++ z) (strip_is 62 r.1 t k)) ∙ sym (closed_upper ds m.0 t),
-      ))
+upper_sound : (x ds s : List ℕ) (n : ℕ) → x ≡ 58 ∷ (ds ++ 44 ∷ s) → IsNumber ds n
+    → BoundsIf x (with_lower n (read_upper s))
+upper_sound x ds s n e h =
+    elim (strip 62 s) as (λ o. strip 62 s ≡ o → BoundsIf x (with_lower n (upper_or s o))) [
+      | Some t ↦ λ f. (
+        codes ":" ++ ds ++ codes ",",
+        at_least ds refl h refl,
+        e ∙ ap (λ z. 58 ∷ (ds ++ 44 ∷ z)) (strip_is 62 s t f) ∙ sym (closed_lower ds t),
+      )
+      | None ↦ λ f. elim (number_run s) as (λ o. number_run s ≡ o → BoundsIf x (with_lower n (upper_end o))) [
+        | None ↦ λ g. tt
+        | Some r ↦ λ g. elim (strip 62 r.1)
+            as (λ o. strip 62 r.1 ≡ o → BoundsIf x (with_lower n (with_value (Some r.0) o))) [
+              | None ↦ λ k. tt
+              | Some t ↦
+                  λ k. (let m : (es : List ℕ) × (s ≡ es ++ r.1) × IsNumber es r.0 =
+                  number_sound s r.0 r.1 g in (
+                    codes ":" ++ ds ++ codes "," ++ m.0,
+                    between ds m.0 r.0 refl h m.2 refl,
+                    e ∙ ap (λ z. 58 ∷ (ds ++ 44 ∷ z)) (m.1 ∙ ap (λ z. m.0 ++ z) (strip_is 62 r.1 t k))
+                        ∙ sym (closed_upper ds m.0 t),
+                  ))
+            ] refl
+      ] refl
     ] refl
-  ] refl
-] refl
 
 numbers_sound : (x s : List ℕ) → x ≡ 58 ∷ s → BoundsIf x (read_numbers s)
 numbers_sound x s e = elim (number_run s) as (λ o. number_run s ≡ o → BoundsIf x (lower_after o)) [
@@ -200,7 +264,8 @@ numbers_sound x s e = elim (number_run s) as (λ o. number_run s ≡ o → Bound
   | Some r ↦ λ f. (let m : (ds : List ℕ) × (s ≡ ds ++ r.1) × IsNumber ds r.0 = number_sound s r.0 r.1 f in
       elim (strip 44 r.1) as (λ o. strip 44 r.1 ≡ o → BoundsIf x (upper_after r.0 r.1 o)) [
         | None ↦ λ g. exactly_sound x m.0 r.1 r.0 (e ∙ ap (λ z. 58 ∷ z) m.1) m.2
-        | Some t ↦ λ g. upper_sound x m.0 t r.0 (e ∙ ap (λ z. 58 ∷ z) (m.1 ∙ ap (λ z. m.0 ++ z) (strip_is 44 r.1 t g))) m.2
+        | Some t ↦ λ g. upper_sound x m.0 t r.0
+            (e ∙ ap (λ z. 58 ∷ z) (m.1 ∙ ap (λ z. m.0 ++ z) (strip_is 44 r.1 t g))) m.2
       ] refl)
 ] refl
 
@@ -212,11 +277,13 @@ bounds_if x = elim (strip 58 x) as (λ o. strip 58 x ≡ o → BoundsIf x (bound
   ] refl
   | Some s ↦ λ e. elim (strip 62 s) as (λ o. strip 62 s ≡ o → BoundsIf x (numbers_or s o)) [
     | None ↦ λ f. numbers_sound x s (strip_is 58 x s e)
-    | Some t ↦ λ f. (codes ":", at_least_one refl refl refl, strip_is 58 x s e ∙ ap (λ z. 58 ∷ z) (strip_is 62 s t f))
+    | Some t ↦ λ f.
+        (codes ":", at_least_one refl refl refl, strip_is 58 x s e ∙ ap (λ z. 58 ∷ z) (strip_is 62 s t f))
   ] refl
 ] refl
 
-pub bounds_sound : (x : List ℕ) (low : ℕ) (high : Option ℕ) (s : List ℕ) → read_bounds x ≡ Some ((low, high), s) → AreBounds x ((low, high), s)
+pub bounds_sound : (x : List ℕ) (low : ℕ) (high : Option ℕ) (s : List ℕ)
+    → read_bounds x ≡ Some ((low, high), s) → AreBounds x ((low, high), s)
 bounds_sound x low high s e = subst (BoundsIf x) e (bounds_if x)
 
 -- no digit begins with `>` or `,`, nor does a number
@@ -231,17 +298,21 @@ digit_head (d ∷ ds) s n k h e =
 
 upper_complete : (es s : List ℕ) (n : ℕ) → IsNumber es n → read_upper (es ++ 62 ∷ s) ≡ Some (Some n, s)
 upper_complete es s n h =
-    ap (upper_or (es ++ 62 ∷ s)) (digit_head es (62 ∷ s) n 62 h refl) ∙ ap upper_end (number_complete es (62 ∷ s) n refl h)
+    ap (upper_or (es ++ 62 ∷ s)) (digit_head es (62 ∷ s) n 62 h refl)
+    ∙ ap upper_end (number_complete es (62 ∷ s) n refl h)
 
-numbers_after : (ds s : List ℕ) (n : ℕ) → digit_step s ≡ None → IsNumber ds n → read_bounds (58 ∷ (ds ++ s)) ≡ upper_after n s (strip 44 s)
+numbers_after : (ds s : List ℕ) (n : ℕ) → digit_step s ≡ None → IsNumber ds n
+    → read_bounds (58 ∷ (ds ++ s)) ≡ upper_after n s (strip 44 s)
 numbers_after ds s n stop h =
     ap (numbers_or (ds ++ s)) (digit_head ds s n 62 h refl) ∙ ap lower_after (number_complete ds s n stop h)
 
-pub bounds_complete : (cs : List ℕ) (low : ℕ) (high : Option ℕ) (s : List ℕ) → ReadsBounds cs low high → read_bounds ((cs ++ codes ">") ++ s) ≡ Some ((low, high), s)
+pub bounds_complete : (cs : List ℕ) (low : ℕ) (high : Option ℕ) (s : List ℕ) → ReadsBounds cs low high
+    → read_bounds ((cs ++ codes ">") ++ s) ≡ Some ((low, high), s)
 bounds_complete cs low high s (any_number e f g) = rw (e, f, g) refl
 bounds_complete cs low high s (at_least_one e f g) = rw (e, f, g) refl
 bounds_complete cs low high s (exactly ds e h g) =
-    ap (λ z. read_bounds ((z ++ codes ">") ++ s)) e ∙ ap (λ z. read_bounds (58 ∷ z)) (append_assoc ds (codes ">") s)
+    ap (λ z. read_bounds ((z ++ codes ">") ++ s)) e
+    ∙ ap (λ z. read_bounds (58 ∷ z)) (append_assoc ds (codes ">") s)
     ∙ numbers_after ds (62 ∷ s) low refl h ∙ ap (λ z. Some ((low, z), s)) (sym g)
 bounds_complete cs low high s (at_least ds e h g) =
     ap (λ z. read_bounds ((z ++ codes ">") ++ s)) e
@@ -250,7 +321,10 @@ bounds_complete cs low high s (at_least ds e h g) =
 bounds_complete cs low high s (between ds es most e h k g) =
     ap (λ z. read_bounds ((z ++ codes ">") ++ s)) e
     ∙ ap read_bounds (closed_upper ds es s)
-    ∙ numbers_after ds (44 ∷ (es ++ 62 ∷ s)) low refl h ∙ ap (with_lower low) (upper_complete es s most k) ∙ ap (λ z. Some ((low, z), s)) (sym g)
+    ∙ numbers_after ds (44 ∷ (es ++ 62 ∷ s)) low refl h ∙ ap (with_lower low) (upper_complete es s most k)
+    ∙ ap (λ z. Some ((low, z), s)) (sym g)
 
-pub bounds_beyond : (x : List ℕ) (low : ℕ) (high : Option ℕ) (s : List ℕ) → read_bounds x ≡ Some ((low, high), s) → HasSuffix x s
-bounds_beyond x low high s e = let k : AreBounds x ((low, high), s) = bounds_sound x low high s e in (k.0 ++ codes ">", k.2)
+pub bounds_beyond : (x : List ℕ) (low : ℕ) (high : Option ℕ) (s : List ℕ)
+    → read_bounds x ≡ Some ((low, high), s) → HasSuffix x s
+bounds_beyond x low high s e = let k : AreBounds x ((low, high), s) = bounds_sound x low high s e in
+    (k.0 ++ codes ">", k.2)

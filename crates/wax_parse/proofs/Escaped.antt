@@ -17,7 +17,8 @@ abbrev pub IsPlain : ℕ → Type 0
 IsPlain c = is_one_of escapable c ≡ false
 
 kind : (c : ℕ) → IsMeta c ⊎ IsPlain c
-kind c = elim (is_one_of escapable c) as (λ b. (b ≡ true) ⊎ (b ≡ false)) [ true ↦ inl refl | false ↦ inr refl ]
+kind c =
+    elim (is_one_of escapable c) as (λ b. (b ≡ true) ⊎ (b ≡ false)) [ true ↦ inl refl | false ↦ inr refl ]
 
 differ : (c d : ℕ) → IsMeta c → IsPlain d → c ≡ d → ⊥
 differ c d e f g = true≢false (sym e ∙ ap (is_one_of escapable) g ∙ f)

@@ -1,5 +1,6 @@
 -- The tree that an escaped text without backslash spells: longest literals and separators.
-use Rattle.std.proofs.Common.{◌≡◌, ℕ, zero, suc, ◌+◌, ◌-◌, ◌≤◌, Bool, true, false, List, [], ◌∷◌, ◌++◌, length}
+use Rattle.std.proofs.Common.{◌≡◌, ℕ, zero, suc, ◌+◌, ◌-◌, ◌≤◌, Bool, true, false, List, [], ◌∷◌, ◌++◌}
+use Rattle.std.proofs.Common.{length}
 use Rattle.std.proofs.Common.{inl, inr, refl, sym, ◌∙◌, ap, subst, arith, length-append}
 use Rattle.std.proofs.lemmas.Bool.{cases_eq}
 use Rattle.wax_token.specs.Meaning.{HasNoSlash}
@@ -57,7 +58,8 @@ module _ (size : ℕ) where
   )
 
   literal_first : (first : Bool) (c : ℕ) (t r : List ℕ) → HasNoSlash (c ∷ t) → HasNoBackslash ((c ∷ t) ++ r) →
-      NoLiteralFollows (escaped r) → utf8_len (escaped (c ∷ t) ++ escaped r) ≤ size → First first ((c ∷ t) ++ r)
+      NoLiteralFollows (escaped r) → utf8_len (escaped (c ∷ t) ++ escaped r) ≤ size
+      → First first ((c ∷ t) ++ r)
   literal_first first c t r h n f l =
       let e : escaped ((c ∷ t) ++ r) ≡ escaped (c ∷ t) ++ escaped r = escaped_append (c ∷ t) r in
       let b : HasNoBackslash (c ∷ t) = backslash_front (c ∷ t) r n in (
@@ -80,13 +82,15 @@ module _ (size : ℕ) where
   run_first first c s d n l =
       let h = run s in
       let e : c ∷ s ≡ (c ∷ h.0) ++ h.1 = ap (λ z. c ∷ z) h.2 in
-      let f : escaped (c ∷ s) ≡ escaped (c ∷ h.0) ++ escaped h.1 = ap escaped e ∙ escaped_append (c ∷ h.0) h.1 in
+      let f : escaped (c ∷ s) ≡ escaped (c ∷ h.0) ++ escaped h.1 =
+      ap escaped e ∙ escaped_append (c ∷ h.0) h.1 in
       let m : utf8_len (escaped (c ∷ h.0) ++ escaped h.1) ≤ size = subst (λ z. utf8_len z ≤ size) f l in
       let g : First first ((c ∷ h.0) ++ h.1) =
       literal_first first c h.0 h.1 (d.0, h.3) (subst HasNoBackslash e n) h.4 m in
       subst (First first) (sym e) g
 
-  first_token : (first : Bool) (c : ℕ) (s : List ℕ) → HasNoBackslash (c ∷ s) → utf8_len (escaped (c ∷ s)) ≤ size →
+  first_token : (first : Bool) (c : ℕ) (s : List ℕ) → HasNoBackslash (c ∷ s)
+      → utf8_len (escaped (c ∷ s)) ≤ size →
       First first (c ∷ s)
   first_token first c s n l = elim (cases_eq c 47) [
     | inl e ↦ (
@@ -97,9 +101,11 @@ module _ (size : ℕ) where
 
   -- tokens that are leaves
   abbrev Tokens : Bool → List ℕ → Type 0
-  Tokens first s = (ts : Trees Span) × ReadsTokens size ts whole first (before s) (before []) × (deepest ts ≡ 0)
+  Tokens first s =
+      (ts : Trees Span) × ReadsTokens size ts whole first (before s) (before []) × (deepest ts ≡ 0)
 
-  tokens : (n : ℕ) (first : Bool) (s : List ℕ) → length s ≤ n → HasNoBackslash s → utf8_len (escaped s) ≤ size →
+  tokens : (n : ℕ) (first : Bool) (s : List ℕ) → length s ≤ n → HasNoBackslash s
+      → utf8_len (escaped s) ≤ size →
       Tokens first s
   tokens n first [] k h l = (none, refl, refl)
   tokens zero first (c ∷ s) k h l = absurd (omega (arith, k))

@@ -63,13 +63,15 @@ leaf_takes k (literal i t) first p q s f e h =
 leaf_takes k (class true xs) first p q s f e h = absurd (not_meta_first 91 s _ refl (sym e ∙ h.2.0))
 leaf_takes k (class false xs) first p q s f e h = absurd (not_meta_first 91 s _ refl (sym e ∙ h.2.0))
 leaf_takes k separator first p q s f e h =
-    let c : BeginsWith s (47 ∷ []) q.rest = plain_first 47 s q.rest refl slash_is_no_backslash (sym e ∙ h.0.0) in
+    let c : BeginsWith s (47 ∷ []) q.rest =
+    plain_first 47 s q.rest refl slash_is_no_backslash (sym e ∙ h.0.0) in
     (47 ∷ [], c.0, c.1, c.2, h.0.1 ∙ f, ((slash_is_no_backslash, tt), λ b a y. ((λ m. m), (λ m. m))))
 leaf_takes k one first p q s f e h = absurd (not_meta_first 63 s q.rest refl (sym e ∙ h.0))
 leaf_takes k (zero_or_more Eager) first p q s f e h = absurd (not_meta_first 42 s q.rest refl (sym e ∙ h.0.0))
 leaf_takes k (zero_or_more Lazy) first p q s f e h = absurd (not_meta_first 36 s q.rest refl (sym e ∙ h.0.0))
 leaf_takes k (tree true) first p q s f e h =
-    let c : BeginsWith s (47 ∷ []) h.0.rest = plain_first 47 s h.0.rest refl slash_is_no_backslash (sym e ∙ h.1.0) in
+    let c : BeginsWith s (47 ∷ []) h.0.rest =
+    plain_first 47 s h.0.rest refl slash_is_no_backslash (sym e ∙ h.1.0) in
     absurd (treeless h.0 q c.0 c.2 h.2)
 leaf_takes k (tree false) first p q s f e h = absurd (starless p h.1 s e h.2)
 
@@ -103,7 +105,8 @@ module _ (size : ℕ) where
       subst (MeansOnly (MeansEach (more t (more u us)))) (sym k.2) (
         backslash_append k.0 k.1 k.5.0 l.0,
         λ b a y. (
-          (λ m. m.2 ∙ ap (λ z. z ++ m.1) ((k.5.1 b true m.0).0 m.3) ∙ ap (λ z. k.0 ++ z) ((l.1 true a m.1).0 m.4)),
+          (λ m. m.2 ∙ ap (λ z. z ++ m.1) ((k.5.1 b true m.0).0 m.3)
+              ∙ ap (λ z. k.0 ++ z) ((l.1 true a m.1).0 m.4)),
           (λ g. (k.0, k.1, g, (k.5.1 b true k.0).1 refl, (l.1 true a k.1).1 refl)),
         ),
       )
@@ -124,6 +127,7 @@ empty_means = (tt, literal_means false [] refl)
 -- a tree that the escaped text spells means the text alone, and the text has no backslash
 pub means_only : (e s : List ℕ) (t : Tree Span) → e ≡ escaped s → Reads e t → MeansOnly (Means t) s
 means_only [] s t e h =
-    let m : MeansOnly (Means empty) s = subst (MeansOnly (Means empty)) (sym (none_escaped s (sym e))) empty_means in
+    let m : MeansOnly (Means empty) s =
+    subst (MeansOnly (Means empty)) (sym (none_escaped s (sym e))) empty_means in
     subst (λ z. MeansOnly (Means z) s) (sym h) m
 means_only (c ∷ cs) s t e h = glob_means (utf8_len (c ∷ cs)) t (start (c ∷ cs)) h.1 s refl e h.2

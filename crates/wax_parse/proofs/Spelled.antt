@@ -1,5 +1,6 @@
 -- Where the tokens of a spelled tree stand, and that no literal of it holds a `/`.
-use Rattle.std.proofs.Common.{◌≡◌, ℕ, ◌+◌, ◌≤◌, Bool, true, false, List, [], ◌∷◌, ◌++◌, length, chars, codes, ◌||◌, ◌==◌}
+use Rattle.std.proofs.Common.{◌≡◌, ℕ, ◌+◌, ◌≤◌, Bool, true, false, List, [], ◌∷◌, ◌++◌, length, chars, codes}
+use Rattle.std.proofs.Common.{◌||◌, ◌==◌}
 use Rattle.std.proofs.Common.{sym, ap, subst, arith}
 use Rattle.std.specs.Str.{IsUtf8}
 use Rattle.std.specs.List.{list_any}
@@ -7,7 +8,8 @@ use Rattle.wax_token.specs.Syntax.{Leaf, literal, class, separator, one, zero_or
 use Rattle.wax_token.specs.Syntax.{Tree, leaf, alternation, concatenation, repetition, Trees, none, more}
 use Rattle.wax_token.specs.Words.{annotation_of}
 use Rattle.wax_token.specs.Meaning.{HasNoSlash}
-use Rattle.wax_token.specs.Reads.{Span, Place, utf8_len, is_one_of, Past, Flags, Around, in_alternation, whole, start}
+use Rattle.wax_token.specs.Reads.{Span, Place, utf8_len, is_one_of, Past, Flags, Around, in_alternation}
+use Rattle.wax_token.specs.Reads.{whole, start}
 use Rattle.wax_token.specs.Reads.{ReadsLeaf, ReadsToken, ReadsTokens, ReadsGlob, ReadsBranches, Reads}
 use Rattle.wax_token.specs.Spelled.{span_end, LiesBetween, LieApart}
 use Rattle.wax_token.specs.Spelled.{LeafHasNoSlash, LiteralsHaveNoSlash, AllHaveNoSlash}
@@ -26,7 +28,8 @@ flags_shorter p q h = end_shorter p.rest q.rest (flags_text p q h)
 
 module _ (size : ℕ) where
   -- where a token begins and ends
-  token_ends : (t : Tree Span) (around : Around) (first : Bool) (p q : Place) → ReadsToken size t around first p q →
+  token_ends : (t : Tree Span) (around : Around) (first : Bool) (p q : Place)
+      → ReadsToken size t around first p q →
       span_end (annotation_of t) + utf8_len q.rest ≡ size
   token_ends (leaf s l) around first p q h = omega (arith, h.3)
   token_ends (alternation s ts) around first p q h = omega (arith, h.7)
@@ -40,7 +43,8 @@ module _ (size : ℕ) where
   glob_ends (alternation s ts) around p q h = absurd h
   glob_ends (repetition s t low high) around p q h = absurd h
 
-  token_shorter : (t : Tree Span) (around : Around) (first : Bool) (p q : Place) → ReadsToken size t around first p q →
+  token_shorter : (t : Tree Span) (around : Around) (first : Bool) (p q : Place)
+      → ReadsToken size t around first p q →
       utf8_len q.rest ≤ utf8_len p.rest
   token_shorter (leaf s l) around first p q h = omega (arith, h.3)
   token_shorter (alternation s ts) around first p q h = omega (arith, h.7)
@@ -60,7 +64,8 @@ module _ (size : ℕ) where
   glob_shorter (alternation s ts) around p q h = absurd h
   glob_shorter (repetition s t low high) around p q h = absurd h
 
-  branches_shorter : (ts : Trees Span) (p q : Place) → ReadsBranches size ts p q → utf8_len q.rest ≤ utf8_len p.rest
+  branches_shorter : (ts : Trees Span) (p q : Place) → ReadsBranches size ts p q
+      → utf8_len q.rest ≤ utf8_len p.rest
   branches_shorter none p q h = absurd h
   branches_shorter (more t none) p q h = glob_shorter t in_alternation p q h
   branches_shorter (more t (more u us)) p q h =
@@ -72,7 +77,8 @@ module _ (size : ℕ) where
       )
 
   mutual
-    token_lies : (t : Tree Span) (around : Around) (first : Bool) (p q : Place) → ReadsToken size t around first p q →
+    token_lies : (t : Tree Span) (around : Around) (first : Bool) (p q : Place)
+        → ReadsToken size t around first p q →
         (from to : ℕ) → from + utf8_len p.rest ≤ size → size ≤ to + utf8_len q.rest → LiesBetween from to t
     token_lies (leaf s l) around first p q h from to a b = (omega (arith, h.3, a), omega (arith, h.3, b))
     token_lies (alternation s ts) around first p q h from to a b = (
@@ -94,7 +100,8 @@ module _ (size : ℕ) where
         size ≤ to + utf8_len q.rest → LieApart from to ts
     tokens_lie none around first p q h from to a b = tt
     tokens_lie (more t ts) around first p q h from to a b = (
-      token_lies t around first p h.0 h.1 from to a (omega (arith, b, tokens_shorter ts around false h.0 q h.2)),
+      token_lies t around first p h.0 h.1 from to a
+          (omega (arith, b, tokens_shorter ts around false h.0 q h.2)),
       tokens_lie ts around false h.0 q h.2 (span_end (annotation_of t)) to
           (omega (arith, token_ends t around first p h.0 h.1)) b,
     )
@@ -124,7 +131,8 @@ module _ (size : ℕ) where
 lies : (e : List ℕ) (t : Tree Span) → Reads e t → LiesBetween 0 (utf8_len e) t
 lies [] t h = subst (LiesBetween 0 0) (sym h) (omega arith, omega arith)
 lies (c ∷ e) t h =
-    glob_lies (utf8_len (c ∷ e)) t whole (start (c ∷ e)) h.1 h.2 0 (utf8_len (c ∷ e)) (omega arith) (omega arith)
+    glob_lies (utf8_len (c ∷ e)) t whole (start (c ∷ e)) h.1 h.2 0 (utf8_len (c ∷ e))
+    (omega arith) (omega arith)
 
 pub lies_within : (bs : List ℕ) (t : Tree Span) → IsUtf8 bs → Reads (chars bs) t → LiesBetween 0 (length bs) t
 lies_within bs t u h = subst (λ n. LiesBetween 0 n t) (sym (bytes_len bs u)) (lies (chars bs) t h)

@@ -1,12 +1,15 @@
 -- The rest of a glob costs no more than the glob.
-use Rattle.std.proofs.Common.{◌≡◌, ◌≤◌, ◌+◌, ◌*◌, ℕ, zero, suc, Bool, true, false, ◌||◌, Option, Some, None, refl, sym, subst, ap, arith}
-use Rattle.wax_token.specs.Cost.{cost, costs, branches_cost, copies_of, holds_tree, some_holds_tree, program_length}
+use Rattle.std.proofs.Common.{◌≡◌, ◌≤◌, ◌+◌, ◌*◌, ℕ, zero, suc, Bool, true, false, ◌||◌, Option, Some, None}
+use Rattle.std.proofs.Common.{refl, sym, subst, ap, arith}
+use Rattle.wax_token.specs.Cost.{cost, costs, branches_cost, copies_of, holds_tree, some_holds_tree}
+use Rattle.wax_token.specs.Cost.{program_length}
 use Rattle.wax_token.specs.Reads.{Span}
 use Rattle.wax_token.specs.Syntax.{Tree, leaf, alternation, concatenation, repetition, Trees, none, more}
 use Rattle.wax_token.specs.Syntax.{literal, class, separator, one, zero_or_more, tree}
 use Rattle.wax_token.specs.Words.{members}
 use Rattle.wax_facts.specs.Prefix.{opened}
-use Rattle.wax_facts.specs.Rest.{after, begins_with_tree, entered, inner_cut, inner_last, left, or_here, owner, rest, unrooted}
+use Rattle.wax_facts.specs.Rest.{after, begins_with_tree, entered, inner_cut, inner_last, left, or_here}
+use Rattle.wax_facts.specs.Rest.{owner, rest, unrooted}
 use Rattle.wax_rule.specs.Shifted.{shifted_tree, shifted_each, shifted_rest}
 use Rattle.wax_partition.proofs.RestMeans.{rest_same}
 
@@ -41,14 +44,16 @@ module _ (k : ℕ) where
 pub rest_costs : (s r : Span) (n : ℕ) (ts : Trees Span) → program_length (concatenation s (unrooted ts)) ≤ n →
     program_length (concatenation r (shifted_rest ts)) ≤ n
 rest_costs s r n ts h =
-    subst (λ Z. Z) (sym (rest_same (λ us. costs us + 1 ≤ n) (λ k us. ap (λ m. m + 1 ≤ n) (costs_here k us)) (λ s r l us. refl) ts)) h
+    subst (λ Z. Z) (sym (rest_same (λ us. costs us + 1 ≤ n) (λ k us. ap (λ m. m + 1 ≤ n) (costs_here k us))
+    (λ s r l us. refl) ts)) h
 
 -- ---- the tokens that are left of a glob or sub-glob cost no more than the glob
 abbrev CheapOwner : ℕ → Option (Tree Span × ℕ) → Type 0
 CheapOwner most None = Unit {0}
 CheapOwner most (Some o) = cost o.0 ≤ most
 
-here : (most : ℕ) (o : Option (Tree Span × ℕ)) (t : Tree Span) (n : ℕ) → cost t ≤ most → CheapOwner most o → cost (or_here (t, n) o).0 ≤ most
+here : (most : ℕ) (o : Option (Tree Span × ℕ)) (t : Tree Span) (n : ℕ) → cost t ≤ most → CheapOwner most o
+    → cost (or_here (t, n) o).0 ≤ most
 here most None t n c h = c
 here most (Some o) t n c h = h
 
@@ -57,11 +62,13 @@ into most zero false o c = tt
 into most zero true o c = c
 into most (suc n) b o c = c
 
-body_costs : (t : Tree Span) (most : ℕ) → copies_of 1 (Some 1) (holds_tree t) * (cost t + 2) + 2 ≤ most → cost t ≤ most
-body_costs t most c = elim (holds_tree t) as (λ b. copies_of 1 (Some 1) b * (cost t + 2) + 2 ≤ most → cost t ≤ most) [
-  | false ↦ λ d. omega (arith, d)
-  | true ↦ λ d. omega (arith, d)
-] c
+body_costs : (t : Tree Span) (most : ℕ) → copies_of 1 (Some 1) (holds_tree t) * (cost t + 2) + 2
+    ≤ most → cost t ≤ most
+body_costs t most c =
+    elim (holds_tree t) as (λ b. copies_of 1 (Some 1) b * (cost t + 2) + 2 ≤ most → cost t ≤ most) [
+      | false ↦ λ d. omega (arith, d)
+      | true ↦ λ d. omega (arith, d)
+    ] c
 
 mutual
   inner_costs : (most : ℕ) (t : Tree Span) → cost t ≤ most → (n : ℕ) → CheapOwner most (inner_cut t n)
@@ -69,7 +76,8 @@ mutual
   inner_costs most (alternation a none) c n = tt
   inner_costs most (alternation a (more t none)) c n =
       let d : cost t ≤ most = omega (arith, c) in
-      into most n (begins_with_tree (opened t)) (or_here (t, n) (inner_cut t n)) (here most (inner_cut t n) t n d (inner_costs most t d n))
+      into most n (begins_with_tree (opened t)) (or_here (t, n) (inner_cut t n))
+      (here most (inner_cut t n) t n d (inner_costs most t d n))
   inner_costs most (alternation a (more t (more u us))) c n = tt
   inner_costs most (concatenation a ts) c n = last_costs most ts c n
   inner_costs most (repetition a t zero high) c n = tt
@@ -77,7 +85,8 @@ mutual
   inner_costs most (repetition a t (suc zero) (Some zero)) c n = tt
   inner_costs most (repetition a t (suc zero) (Some (suc zero))) c n =
       let d : cost t ≤ most = body_costs t most c in
-      into most n (begins_with_tree (opened t)) (or_here (t, n) (inner_cut t n)) (here most (inner_cut t n) t n d (inner_costs most t d n))
+      into most n (begins_with_tree (opened t)) (or_here (t, n) (inner_cut t n))
+      (here most (inner_cut t n) t n d (inner_costs most t d n))
   inner_costs most (repetition a t (suc zero) (Some (suc (suc m)))) c n = tt
   inner_costs most (repetition a t (suc (suc low)) high) c n = tt
 
@@ -113,5 +122,12 @@ unrooted_cost (more (repetition a t low high) ts) = refl
 pub left_costs : (t : Tree Span) (n : ℕ) → costs (rest t n) ≤ cost t
 left_costs t n =
     let o : Tree Span × ℕ = owner t n in
-    let c : cost (owner t n).0 ≤ cost t = here (cost t) (inner_cut t n) t n (omega arith) (inner_costs (cost t) t (omega arith) n) in
-    omega (arith, unrooted_cost (left t n), after_costs (owner t n).1 (members (owner t n).0), members_cost (owner t n).0, c)
+    let c : cost (owner t n).0 ≤ cost t =
+    here (cost t) (inner_cut t n) t n (omega arith) (inner_costs (cost t) t (omega arith) n) in
+    omega (
+      arith,
+      unrooted_cost (left t n),
+      after_costs (owner t n).1 (members (owner t n).0),
+      members_cost (owner t n).0,
+      c,
+    )

@@ -47,7 +47,8 @@ spanned e end (more t ts) a q =
     let s : Span = (0, utf8_len (rest_text e end t)) in
     (s, token_is a (rest_text e end t, concatenation s (shifted_rest (more t ts))) q)
 
-pub parts_keep : (e : List ℕ) (t : Tree Span) (p : List ℕ) (o : Option (Tokenized Span)) → IsPartition e t p (spelled_rest o) →
+pub parts_keep : (e : List ℕ) (t : Tree Span) (p : List ℕ) (o : Option (Tokenized Span))
+    → IsPartition e t p (spelled_rest o) →
     IfSome o (λ u. Flat t → KeepsRules t → KeepsRules u.token)
 parts_keep e t p None k = tt
 parts_keep e t p (Some u) k = λ flat kept.

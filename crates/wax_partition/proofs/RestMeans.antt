@@ -12,11 +12,13 @@ use Rattle.wax_partition.proofs.ShiftedOrderly.{orderly_each}
 
 -- what no span changes holds of the rest in its own expression where it holds in the whole
 module _ (F : Trees Span → Type 0) (each : (k : ℕ) (ts : Trees Span) → F (shifted_each k ts) ≡ F ts)
-    (first : (s r : Span) (l : Leaf) (ts : Trees Span) → F (more (leaf s l) ts) ≡ F (more (leaf r l) ts)) where
+    (first : (s r : Span) (l : Leaf) (ts : Trees Span)
+    → F (more (leaf s l) ts) ≡ F (more (leaf r l) ts)) where
   pub rest_same : (ts : Trees Span) → F (shifted_rest ts) ≡ F (unrooted ts)
   rest_same none = refl
   rest_same (more (leaf s (tree true)) ts) =
-      first (0, s.1 - 1) (shifted_span (s.0 + 1) s) (tree false) (shifted_each (s.0 + 1) ts) ∙ each (s.0 + 1) (more (leaf s (tree false)) ts)
+      first (0, s.1 - 1) (shifted_span (s.0 + 1) s) (tree false) (shifted_each (s.0 + 1) ts)
+      ∙ each (s.0 + 1) (more (leaf s (tree false)) ts)
   rest_same (more (leaf s (tree false)) ts) = each s.0 (more (leaf s (tree false)) ts)
   rest_same (more (leaf s (literal b x)) ts) = each s.0 (more (leaf s (literal b x)) ts)
   rest_same (more (leaf s (class b xs)) ts) = each s.0 (more (leaf s (class b xs)) ts)
@@ -27,12 +29,15 @@ module _ (F : Trees Span → Type 0) (each : (k : ℕ) (ts : Trees Span) → F (
   rest_same (more (concatenation s us) ts) = each s.0 (more (concatenation s us) ts)
   rest_same (more (repetition s t low high) ts) = each s.0 (more (repetition s t low high) ts)
 
-first_means : (b f : Bool) (x : List ℕ) (s r : Span) (l : Leaf) (ts : Trees Span) → MeansEach (more (leaf s l) ts) b f x ≡ MeansEach (more (leaf r l) ts) b f x
+first_means : (b f : Bool) (x : List ℕ) (s r : Span) (l : Leaf) (ts : Trees Span)
+    → MeansEach (more (leaf s l) ts) b f x ≡ MeansEach (more (leaf r l) ts) b f x
 first_means b f x s r l none = refl
 first_means b f x s r l (more t ts) = refl
 
-pub rest_means : (b f : Bool) (x : List ℕ) (ts : Trees Span) → MeansEach (shifted_rest ts) b f x ≡ MeansEach (unrooted ts) b f x
+pub rest_means : (b f : Bool) (x : List ℕ) (ts : Trees Span)
+    → MeansEach (shifted_rest ts) b f x ≡ MeansEach (unrooted ts) b f x
 rest_means b f x = rest_same (λ ts. MeansEach ts b f x) (λ k ts. each_shifted k ts b f x) (first_means b f x)
 
-pub rest_orderly : (s : Span) (ts : Trees Span) → Orderly (concatenation s (shifted_rest ts)) ≡ Orderly (concatenation s (unrooted ts))
+pub rest_orderly : (s : Span) (ts : Trees Span) → Orderly (concatenation s (shifted_rest ts))
+    ≡ Orderly (concatenation s (unrooted ts))
 rest_orderly s = rest_same (λ ts. Orderly (concatenation s ts)) (λ k. orderly_each k s) (λ r q l ts. refl)

@@ -1,11 +1,14 @@
 -- Where bytes before them are gone, trees are as orderly as they were.
 use Rattle.std.proofs.Common.{◌≡◌, ℕ, Bool, true, false, ◌||◌, refl}
 use Rattle.wax_token.specs.Reads.{Span}
-use Rattle.wax_token.specs.Syntax.{Leaf, Tree, leaf, alternation, concatenation, repetition, Trees, none, more}
+use Rattle.wax_token.specs.Syntax.{Leaf, Tree, leaf, alternation, concatenation, repetition, Trees, none}
+use Rattle.wax_token.specs.Syntax.{more}
 use Rattle.wax_facts.specs.Rules.{are_incompatible}
-use Rattle.wax_facts.specs.Situated.{starts_with_leaf, some_starts_in, first_starts_in, ends_in, some_ends_in, last_ends_in}
+use Rattle.wax_facts.specs.Situated.{starts_with_leaf, some_starts_in, first_starts_in, ends_in, some_ends_in}
+use Rattle.wax_facts.specs.Situated.{last_ends_in}
 use Rattle.wax_token.specs.Kinds.{is_boundary_leaf}
-use Rattle.wax_facts.specs.Orderly.{Apart, ApartEach, ApartSome, Flat, FlatEach, FlatSome, Full, FullEach, IsSome, Orderly, Worded, WordedEach, is_token}
+use Rattle.wax_facts.specs.Orderly.{Apart, ApartEach, ApartSome, Flat, FlatEach, FlatSome, Full, FullEach}
+use Rattle.wax_facts.specs.Orderly.{IsSome, Orderly, Worded, WordedEach, is_token}
 use Rattle.wax_rule.specs.Shifted.{shifted_tree, shifted_each}
 
 module _ (k : ℕ) where
@@ -57,17 +60,20 @@ module _ (k : ℕ) where
     worded_each (more t ts) = λ i. worded_here t i × worded_each ts i
 
   mutual
-    starts_here : (such : Leaf → Bool) (t : Tree Span) → starts_with_leaf such (shifted_tree k t) ≡ starts_with_leaf such t
+    starts_here : (such : Leaf → Bool) (t : Tree Span)
+        → starts_with_leaf such (shifted_tree k t) ≡ starts_with_leaf such t
     starts_here such (leaf a l) = refl
     starts_here such (alternation a ts) = starts_some such ts
     starts_here such (concatenation a ts) = starts_first such ts
     starts_here such (repetition a t low high) = starts_here such t
 
-    starts_some : (such : Leaf → Bool) (ts : Trees Span) → some_starts_in such (shifted_each k ts) ≡ some_starts_in such ts
+    starts_some : (such : Leaf → Bool) (ts : Trees Span)
+        → some_starts_in such (shifted_each k ts) ≡ some_starts_in such ts
     starts_some such none = refl
     starts_some such (more t ts) = λ i. starts_here such t i || starts_some such ts i
 
-    starts_first : (such : Leaf → Bool) (ts : Trees Span) → first_starts_in such (shifted_each k ts) ≡ first_starts_in such ts
+    starts_first : (such : Leaf → Bool) (ts : Trees Span)
+        → first_starts_in such (shifted_each k ts) ≡ first_starts_in such ts
     starts_first such none = refl
     starts_first such (more t ts) = starts_here such t
 
@@ -78,11 +84,13 @@ module _ (k : ℕ) where
     ends_here such (concatenation a ts) = ends_last such ts
     ends_here such (repetition a t low high) = ends_here such t
 
-    ends_some : (such : Leaf → Bool) (ts : Trees Span) → some_ends_in such (shifted_each k ts) ≡ some_ends_in such ts
+    ends_some : (such : Leaf → Bool) (ts : Trees Span)
+        → some_ends_in such (shifted_each k ts) ≡ some_ends_in such ts
     ends_some such none = refl
     ends_some such (more t ts) = λ i. ends_here such t i || ends_some such ts i
 
-    ends_last : (such : Leaf → Bool) (ts : Trees Span) → last_ends_in such (shifted_each k ts) ≡ last_ends_in such ts
+    ends_last : (such : Leaf → Bool) (ts : Trees Span)
+        → last_ends_in such (shifted_each k ts) ≡ last_ends_in such ts
     ends_last such none = refl
     ends_last such (more t none) = ends_here such t
     ends_last such (more t (more u us)) = ends_last such (more u us)
@@ -101,7 +109,10 @@ module _ (k : ℕ) where
     apart_each : (ts : Trees Span) → ApartEach (shifted_each k ts) ≡ ApartEach ts
     apart_each none = refl
     apart_each (more t ts) = λ i.
-        apart_here t i × (ends_here is_boundary_leaf t i ≡ true → starts_first is_boundary_leaf ts i ≡ false) × apart_each ts i
+        apart_here t i × (ends_here is_boundary_leaf t i ≡ true → starts_first is_boundary_leaf ts i ≡ false)
+        × apart_each ts i
 
-  pub orderly_each : (s : Span) (ts : Trees Span) → Orderly (concatenation s (shifted_each k ts)) ≡ Orderly (concatenation s ts)
-  orderly_each s ts = λ i. (some_here ts i × full_each ts i) × flat_each ts i × worded_each ts i × apart_each ts i
+  pub orderly_each : (s : Span) (ts : Trees Span) → Orderly (concatenation s (shifted_each k ts))
+      ≡ Orderly (concatenation s ts)
+  orderly_each s ts =
+      λ i. (some_here ts i × full_each ts i) × flat_each ts i × worded_each ts i × apart_each ts i

@@ -1,5 +1,7 @@
 -- ASCII characters whose forms in any case are ASCII characters, too.
-use Rattle.std.proofs.Common.{◌≡◌, ◌≢◌, ℕ, zero, suc, ◌+◌, ◌<◌, ◌==◌, ◌&&◌, ◌||◌, not, nat_lt, Bool, true, List, [], ◌∷◌, ◌++◌, length, get_or, refl, sym, ◌∙◌, ap, subst, inl, inr, arith, rules, IsUtf8, Contains, chars, encode_utf8_all, eqb-true}
+use Rattle.std.proofs.Common.{◌≡◌, ◌≢◌, ℕ, zero, suc, ◌+◌, ◌<◌, ◌==◌, ◌&&◌, ◌||◌, not, nat_lt, Bool, true}
+use Rattle.std.proofs.Common.{List, [], ◌∷◌, ◌++◌, length, get_or, refl, sym, ◌∙◌, ap, subst, inl, inr, arith}
+use Rattle.std.proofs.Common.{rules, IsUtf8, Contains, chars, encode_utf8_all, eqb-true}
 use Rattle.std.proofs.lemmas.Bool.{and_parts, cases_eq, cases_lt, or_cases}
 use Rattle.std.specs.Str.{IsAscii}
 use Rattle.std.proofs.lemmas.Bool.Decides.{nat_tests}
@@ -28,25 +30,31 @@ all_forms = refl
 
 -- ---- the forms of an ASCII character other than k and s
 
-all_of : (p : ℕ × ℕ → Bool) (xs : List (ℕ × ℕ)) (x : ℕ × ℕ) → list_all p xs ≡ true → Contains xs x → p x ≡ true
+all_of : (p : ℕ × ℕ → Bool) (xs : List (ℕ × ℕ)) (x : ℕ × ℕ) → list_all p xs ≡ true
+    → Contains xs x → p x ≡ true
 all_of p [] x all (k, lt, at) = absurd (omega (arith, lt))
 all_of p (y ∷ ys) x all (zero, lt, at) = subst (λ z. p z ≡ true) at (and_parts (p y) (list_all p ys) all).0
-all_of p (y ∷ ys) x all (suc k, lt, at) = all_of p ys x (and_parts (p y) (list_all p ys) all).1 (k, omega (arith, lt), at)
+all_of p (y ∷ ys) x all (suc k, lt, at) =
+    all_of p ys x (and_parts (p y) (list_all p ys) all).1 (k, omega (arith, lt), at)
 
-not_excepted : (d : ℕ) → d < 128 → to_ascii_lowercase d ≢ 107 → to_ascii_lowercase d ≢ 115 → is_excepted d ≡ true → ⊥
-not_excepted d low not_k not_s h = elim (or_cases (not (nat_lt d 128)) ((to_ascii_lowercase d == 107) || (to_ascii_lowercase d == 115)) h) [
-  | inl high ↦ search (rules, low, high)
-  | inr either ↦ elim (or_cases (to_ascii_lowercase d == 107) (to_ascii_lowercase d == 115) either) [
-    | inl k ↦ not_k (eqb-true _ _ k)
-    | inr s ↦ not_s (eqb-true _ _ s)
-  ]
-]
+not_excepted : (d : ℕ) → d < 128 → to_ascii_lowercase d ≢ 107 → to_ascii_lowercase d ≢ 115
+    → is_excepted d ≡ true → ⊥
+not_excepted d low not_k not_s h =
+    elim (or_cases (not (nat_lt d 128)) ((to_ascii_lowercase d == 107) || (to_ascii_lowercase d == 115)) h) [
+      | inl high ↦ search (rules, low, high)
+      | inr either ↦ elim (or_cases (to_ascii_lowercase d == 107) (to_ascii_lowercase d == 115) either) [
+        | inl k ↦ not_k (eqb-true _ _ k)
+        | inr s ↦ not_s (eqb-true _ _ s)
+      ]
+    ]
 
 form_of : (d c : ℕ) → is_ascii_form (d, c) ≡ true → (c < 128) × IsFormOf d c
 form_of d c h =
-    let (low, either) = and_parts (nat_lt c 128) ((c == to_ascii_lowercase d) || (c == to_ascii_uppercase d)) h in (
+    let (low, either) =
+    and_parts (nat_lt c 128) ((c == to_ascii_lowercase d) || (c == to_ascii_uppercase d)) h in (
       search (rules, low),
-      elim (or_cases (c == to_ascii_lowercase d) (c == to_ascii_uppercase d) either) [ inl e ↦ inl (eqb-true _ _ e) | inr e ↦ inr (eqb-true _ _ e) ],
+      elim (or_cases (c == to_ascii_lowercase d) (c == to_ascii_uppercase d)
+          either) [ inl e ↦ inl (eqb-true _ _ e) | inr e ↦ inr (eqb-true _ _ e) ],
     )
 
 own_form : (d : ℕ) → IsFormOf d d
@@ -61,17 +69,20 @@ has_forms d low not_k not_s = (
   low,
   λ c same. elim (cases_eq d c) [
     | inl is ↦ (omega (arith, low, is), subst (IsFormOf d) is (own_form d))
-    | inr apart ↦ elim (or_cases (is_excepted d) (is_ascii_form (d, c)) (all_of _ fold_pairs (d, c) all_forms ((IsFoldPairs-fold_pairs d c).1 (apart, same)))) [
-      | inl excepted ↦ absurd (not_excepted d low not_k not_s excepted)
-      | inr is ↦ form_of d c is
-    ]
+    | inr apart ↦ elim (or_cases (is_excepted d) (is_ascii_form (d, c))
+        (all_of _ fold_pairs (d, c) all_forms ((IsFoldPairs-fold_pairs d c).1 (apart, same)))) [
+          | inl excepted ↦ absurd (not_excepted d low not_k not_s excepted)
+          | inr is ↦ form_of d c is
+        ]
   ],
 )
 
 -- ---- texts that are others in any case
 
-pub alike : (held text : List ℕ) → SameText true held text → ((k : ℕ) → k < length held → HasAsciiForms (get_or held k 0))
-    → IsAscii text × (length text ≡ length held) × ((k : ℕ) → k < length held → IsFormOf (get_or held k 0) (get_or text k 0))
+pub alike : (held text : List ℕ) → SameText true held text
+    → ((k : ℕ) → k < length held → HasAsciiForms (get_or held k 0))
+    → IsAscii text × (length text ≡ length held)
+    × ((k : ℕ) → k < length held → IsFormOf (get_or held k 0) (get_or text k 0))
 alike [] [] h each = ((λ i. omega arith), refl, λ k lt. absurd (omega (arith, lt)))
 alike [] (c ∷ text) h each = absurd h
 alike (d ∷ held) [] h each = absurd h
@@ -97,7 +108,8 @@ same_beginning (c ∷ front) rest [] h = absurd h
 same_beginning (c ∷ front) rest (d ∷ text) h =
     let (x, y, e, g) = same_beginning front rest text h.1 in (d ∷ x, y, ap (λ t. d ∷ t) e, (h.0, g))
 
-pub held_ascii : (held : List ℕ) → ((k : ℕ) → k < length held → HasAsciiForms (get_or held k 0)) → IsAscii held
+pub held_ascii : (held : List ℕ)
+    → ((k : ℕ) → k < length held → HasAsciiForms (get_or held k 0)) → IsAscii held
 held_ascii [] each i = omega arith
 held_ascii (d ∷ held) each zero = (each 0 (omega arith)).0
 held_ascii (d ∷ held) each (suc i) = held_ascii held (λ k lt. each (suc k) (omega (arith, lt))) i
@@ -105,20 +117,31 @@ held_ascii (d ∷ held) each (suc i) = held_ascii held (λ k lt. each (suc k) (o
 -- ---- pairs of their bytes
 
 -- a text that holds another in any case has one of its pairs
-pub alike_has : (pair : Pair) (held text x y z : List ℕ) → IsUtf8 text → chars text ≡ x ++ (y ++ z) → SameText true held y
-    → ((k : ℕ) → k < length held → HasAsciiForms (get_or held k 0)) → ContainsPair held pair → LineHasOne (pairs_of_forms pair) text
+pub alike_has : (pair : Pair) (held text x y z : List ℕ) → IsUtf8 text → chars text ≡ x ++ (y ++ z)
+    → SameText true held y
+    → ((k : ℕ) → k < length held → HasAsciiForms (get_or held k 0)) → ContainsPair held pair
+    → LineHasOne (pairs_of_forms pair) text
 alike_has pair held text x y z utf8 e h each (k, there) =
     let (ascii, long, forms) = alike held y h each in
     let front = encode_utf8_all x in
     let end : ℕ = k + pair.distance in
     let within : text ≡ front ++ (y ++ encode_utf8_all z) =
     sym (encodes-chars text utf8) ∙ ap encode_utf8_all e ∙ encodes-append x (y ++ z)
-    ∙ ap (λ w. front ++ w) (encodes-append y z ∙ ap (λ w. w ++ encode_utf8_all z) (encodes-IsAscii y ascii)) in
-    let stands : (p : Pair) → p.distance ≡ pair.distance → get_or y k 0 ≡ p.first → get_or y end 0 ≡ p.last → PairIsAt p (text ++ 10 ∷ []) (length front + k) =
-    λ p same is_first is_last. stands_within p (text ++ 10 ∷ []) front y (encode_utf8_all z ++ 10 ∷ []) k (part_of_line text front y (encode_utf8_all z) within)
-    (record { inside = omega (arith, there.inside, long, same); first = is_first; last = ap (λ i. get_or y i 0) (omega (arith, same)) ∙ is_last }) in
-    let one : IsFormOf pair.first (get_or y k 0) = subst (λ d. IsFormOf d (get_or y k 0)) there.first (forms k (omega (arith, there.inside))) in
-    let other : IsFormOf pair.last (get_or y end 0) = subst (λ d. IsFormOf d (get_or y end 0)) there.last (forms end there.inside) in (
+    ∙ ap (λ w. front ++ w)
+    (encodes-append y z ∙ ap (λ w. w ++ encode_utf8_all z) (encodes-IsAscii y ascii)) in
+    let stands : (p : Pair) → p.distance ≡ pair.distance → get_or y k 0 ≡ p.first → get_or y end 0 ≡ p.last
+    → PairIsAt p (text ++ 10 ∷ []) (length front + k) =
+    λ p same is_first is_last. stands_within p (text ++ 10 ∷ []) front y (encode_utf8_all z ++ 10 ∷ []) k
+    (part_of_line text front y (encode_utf8_all z) within)
+    (record {
+      inside = omega (arith, there.inside, long, same);
+      first = is_first;
+      last = ap (λ i. get_or y i 0) (omega (arith, same)) ∙ is_last;
+    }) in
+    let one : IsFormOf pair.first (get_or y k 0) =
+    subst (λ d. IsFormOf d (get_or y k 0)) there.first (forms k (omega (arith, there.inside))) in
+    let other : IsFormOf pair.last (get_or y end 0) =
+    subst (λ d. IsFormOf d (get_or y end 0)) there.last (forms end there.inside) in (
       length front + k,
       elim one [
         | inl a ↦ elim other [

@@ -1,7 +1,10 @@
 -- Two bytes at a distance in texts that hold others.
-use Rattle.std.proofs.Common.{◌≡◌, ℕ, ◌+◌, ◌-◌, ◌<◌, ◌≤◌, Bool, IsTrue, IsUtf8, List, [], ◌∷◌, ◌++◌, length, chars, get_or, drop, refl, sym, ◌∙◌, ap, subst, inl, inr, append_assoc, append-nil, length-append, arith}
+use Rattle.std.proofs.Common.{◌≡◌, ℕ, ◌+◌, ◌-◌, ◌<◌, ◌≤◌, Bool, IsTrue, IsUtf8, List, [], ◌∷◌, ◌++◌, length}
+use Rattle.std.proofs.Common.{chars, get_or, drop, refl, sym, ◌∙◌, ap, subst, inl, inr, append_assoc}
+use Rattle.std.proofs.Common.{append-nil, length-append, arith}
 use Rattle.std.proofs.lemmas.Bool.{cases_lt}
-use Rattle.std.proofs.lemmas.List.{get_or_append_left, get_or-append-add, get_or_default, get_or-drop, length-drop, take_all}
+use Rattle.std.proofs.lemmas.List.{get_or_append_left, get_or-append-add, get_or_default, get_or-drop}
+use Rattle.std.proofs.lemmas.List.{length-drop, take_all}
 use Rattle.std.specs.List.{slice_range}
 use Rattle.wax_prefilter.specs.Facts.{NeedleView, ContainsAt}
 use Rattle.wax_prefilter.specs.declared.needle.Anchor.{Anchor}
@@ -20,7 +23,8 @@ stands_somewhere Anywhere held text h = h
 
 -- ---- parts
 
-pub byte_within : (text x y z : List ℕ) (i : ℕ) → text ≡ x ++ (y ++ z) → i < length y → get_or text (length x + i) 0 ≡ get_or y i 0
+pub byte_within : (text x y z : List ℕ) (i : ℕ) → text ≡ x ++ (y ++ z) → i < length y
+    → get_or text (length x + i) 0 ≡ get_or y i 0
 byte_within text x y z i e lt =
     ap (λ t. get_or t (length x + i) 0) e ∙ get_or-append-add x (y ++ z) i 0 ∙ get_or_append_left y z 0 i lt
 
@@ -28,28 +32,36 @@ pub long_within : (text x y z : List ℕ) → text ≡ x ++ (y ++ z) → length 
 long_within text x y z e = omega (arith, ap length e, length-append x (y ++ z), length-append y z)
 
 -- where the pair stands in a part, it stands in the whole
-pub stands_within : (pair : Pair) (text x y z : List ℕ) (k : ℕ) → text ≡ x ++ (y ++ z) → PairIsAt pair y k → PairIsAt pair text (length x + k)
+pub stands_within : (pair : Pair) (text x y z : List ℕ) (k : ℕ) → text ≡ x ++ (y ++ z) → PairIsAt pair y k
+    → PairIsAt pair text (length x + k)
 stands_within pair text x y z k e stands = record {
   inside = omega (arith, stands.inside, long_within text x y z e);
   first = byte_within text x y z k e (omega (arith, stands.inside)) ∙ stands.first;
-  last = ap (λ i. get_or text i 0) (omega arith) ∙ byte_within text x y z (k + pair.distance) e stands.inside ∙ stands.last;
+  last = ap (λ i. get_or text i 0) (omega arith)
+      ∙ byte_within text x y z (k + pair.distance) e stands.inside ∙ stands.last;
 }
 
 -- a part in which the pair stands
-pub part_has : (pair : Pair) (text x y z : List ℕ) → text ++ 10 ∷ [] ≡ x ++ (y ++ z) → ContainsPair y pair → LineHasOne (pair ∷ []) text
-part_has pair text x y z e (k, stands) =
-    (length x + k, any_alone (λ p. PairIsAt p (text ++ 10 ∷ []) (length x + k)) pair (stands_within pair (text ++ 10 ∷ []) x y z k e stands))
+pub part_has : (pair : Pair) (text x y z : List ℕ) → text ++ 10 ∷ [] ≡ x ++ (y ++ z) → ContainsPair y pair
+    → LineHasOne (pair ∷ []) text
+part_has pair text x y z e (k, stands) = (
+  length x + k,
+  any_alone (λ p. PairIsAt p (text ++ 10 ∷ []) (length x + k)) pair
+      (stands_within pair (text ++ 10 ∷ []) x y z k e stands),
+)
 
 pub part_of_line : (text x y z : List ℕ) → text ≡ x ++ (y ++ z) → text ++ 10 ∷ [] ≡ x ++ (y ++ (z ++ 10 ∷ []))
 part_of_line text x y z e =
-    ap (λ w. w ++ 10 ∷ []) e ∙ append_assoc x (y ++ z) (10 ∷ []) ∙ ap (λ w. x ++ w) (append_assoc y z (10 ∷ []))
+    ap (λ w. w ++ 10 ∷ []) e ∙ append_assoc x (y ++ z) (10 ∷ [])
+    ∙ ap (λ w. x ++ w) (append_assoc y z (10 ∷ []))
 
 pub end_of_line : (text x y : List ℕ) → text ≡ x ++ y → text ++ 10 ∷ [] ≡ x ++ ((y ++ 10 ∷ []) ++ [])
 end_of_line text x y e =
     ap (λ w. w ++ 10 ∷ []) e ∙ append_assoc x y (10 ∷ []) ∙ ap (λ w. x ++ w) (sym (append-nil (y ++ 10 ∷ [])))
 
 -- a byte of a text, and the line feed after the text
-pub stands_to_feed : (pair : Pair) (y : List ℕ) (k : ℕ) → k < length y → get_or y k 0 ≡ pair.first → 10 ≡ pair.last → length y ≡ k + pair.distance
+pub stands_to_feed : (pair : Pair) (y : List ℕ) (k : ℕ) → k < length y → get_or y k 0 ≡ pair.first
+    → 10 ≡ pair.last → length y ≡ k + pair.distance
     → PairIsAt pair (y ++ 10 ∷ []) k
 stands_to_feed pair y k some first last long = record {
   inside = omega (arith, long, length-append y (10 ∷ []));
@@ -70,20 +82,26 @@ abbrev pub HavePairs : Anchor → List NeedleView → ℕ → List Pair → Type
 HavePairs anchor needles n pairs = (k : ℕ) (needle : NeedleView) → k < n → get_or needles k needle ≡ needle
     → (text : List ℕ) → IsUtf8 text → ContainsAt anchor needle (chars text) → LineHasOne pairs text
 
-pub next_has : (anchor : Anchor) (needles : List NeedleView) (i : ℕ) (needle : NeedleView) (old new : List Pair) (known : Bool) (IsSo : List ℕ → Type 0)
+pub next_has : (anchor : Anchor) (needles : List NeedleView) (i : ℕ) (needle : NeedleView)
+    (old new : List Pair) (known : Bool) (IsSo : List ℕ → Type 0)
     → i < length needles → needle ≡ get_or needles i needle → HavePairs anchor needles i old
-    → AddsPairs old new known IsSo → IsTrue known → ((text : List ℕ) → ContainsAt anchor needle text → IsSo text) → HavePairs anchor needles (i + 1) new
-next_has anchor needles i needle old new known IsSo lt is before (added, more, has) is_known so k other below there text utf8 stands =
+    → AddsPairs old new known IsSo → IsTrue known
+    → ((text : List ℕ) → ContainsAt anchor needle text → IsSo text) → HavePairs anchor needles (i + 1) new
+next_has anchor needles i needle old new known IsSo lt is before (added, more, has) is_known so k other below
+    there text utf8 stands =
     subst (λ pairs. LineHasOne pairs text) (sym more) (elim (cases_lt k i) [
       | inl less ↦ more_left old added text (before k other less there text utf8 stands)
       | inr from ↦
           let here : k ≡ i = omega (arith, below, from) in
-          let same : other ≡ needle = sym there ∙ ap (λ j. get_or needles j other) here ∙ get_or_default needles i other needle lt ∙ sym is in
-          more_right old added text (has is_known text utf8 (so (chars text) (subst (λ n. ContainsAt anchor n (chars text)) same stands)))
+          let same : other ≡ needle = sym there ∙ ap (λ j. get_or needles j other) here
+          ∙ get_or_default needles i other needle lt ∙ sym is in
+          more_right old added text (has is_known text utf8
+          (so (chars text) (subst (λ n. ContainsAt anchor n (chars text)) same stands)))
     ])
 
 -- a line that has one of the pairs ends after the position before which none stands
-pub ends_after : (pairs : List Pair) (text x y z : List ℕ) (n : ℕ) → text ++ 10 ∷ [] ≡ x ++ (y ++ 10 ∷ z) → n ≤ length text
+pub ends_after : (pairs : List Pair) (text x y z : List ℕ) (n : ℕ)
+    → text ++ 10 ∷ [] ≡ x ++ (y ++ 10 ∷ z) → n ≤ length text
     → NoPairsBefore pairs text n → LineHasOne pairs y → n ≤ length (x ++ y)
 ends_after pairs text x y z n e inside none (k, (i, pair, lt, is, stands)) =
     let line : List ℕ = y ++ 10 ∷ [] in
@@ -97,8 +115,10 @@ ends_after pairs text x y z n e inside none (k, (i, pair, lt, is, stands)) =
       | inl within ↦
           let here : PairIsAt pair text (length x + k) = record {
             inside = within;
-            first = sym (get_or_append_left text (10 ∷ []) 0 (length x + k) (omega (arith, within))) ∙ there.first;
-            last = sym (get_or_append_left text (10 ∷ []) 0 (length x + k + pair.distance) within) ∙ there.last;
+            first = sym (get_or_append_left text (10 ∷ []) 0 (length x + k) (omega (arith, within)))
+                ∙ there.first;
+            last =
+                sym (get_or_append_left text (10 ∷ []) 0 (length x + k + pair.distance) within) ∙ there.last;
           } in
           elim (cases_lt (length x + k) n) [
             | inl before ↦ absurd (none (length x + k) before (i, pair, lt, is, here))
@@ -112,7 +132,8 @@ ends_after pairs text x y z n e inside none (k, (i, pair, lt, is, stands)) =
 pub is_drop : (n : ℕ) (bytes rest : List ℕ) → rest ≡ slice_range bytes n (length bytes) → rest ≡ drop n bytes
 is_drop n bytes rest e = e ∙ take_all _ _ (omega (arith, length-drop n bytes))
 
-pub stands_in_rest : (pair : Pair) (bytes : List ℕ) (at k : ℕ) → PairIsAt pair bytes (at + k) → PairIsAt pair (drop at bytes) k
+pub stands_in_rest : (pair : Pair) (bytes : List ℕ) (at k : ℕ) → PairIsAt pair bytes (at + k)
+    → PairIsAt pair (drop at bytes) k
 stands_in_rest pair bytes at k stands = record {
   inside = omega (arith, stands.inside, length-drop at bytes);
   first = get_or-drop at bytes k 0 ∙ stands.first;
@@ -125,5 +146,12 @@ none_further pairs bytes at n before further k lt (i, pair, below, is, stands) =
   | inl less ↦ before k less (i, pair, below, is, stands)
   | inr from ↦
       let same : at + (k - at) ≡ k = omega (arith, from) in
-      subst (λ b. NoPairsBefore pairs b n) (is_drop at bytes _ refl) further (k - at) (omega (arith, lt, from)) (i, pair, below, is, stands_in_rest pair bytes at (k - at) (subst (PairIsAt pair bytes) (sym same) stands))
+      subst (λ b. NoPairsBefore pairs b n) (is_drop at bytes _ refl) further (k - at)
+      (omega (arith, lt, from)) (
+        i,
+        pair,
+        below,
+        is,
+        stands_in_rest pair bytes at (k - at) (subst (PairIsAt pair bytes) (sym same) stands),
+      )
 ]

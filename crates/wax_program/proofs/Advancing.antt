@@ -1,23 +1,29 @@
 -- A round over the places that a run has reached.
-use Rattle.std.proofs.Common.{◌≡◌, ℕ, zero, suc, ◌+◌, ◌-◌, ◌*◌, ◌<◌, ◌≤◌, ◌⊎◌, Bool, List, [], ◌∷◌, length, Some, slice_get, get_or, drop, drop-cons, refl, sym, ◌∙◌, ap, subst, inl, inr, arith}
+use Rattle.std.proofs.Common.{◌≡◌, ℕ, zero, suc, ◌+◌, ◌-◌, ◌*◌, ◌<◌, ◌≤◌, ◌⊎◌, Bool, List, [], ◌∷◌, length}
+use Rattle.std.proofs.Common.{Some, slice_get, get_or, drop, drop-cons, refl, sym, ◌∙◌, ap, subst, inl, inr}
+use Rattle.std.proofs.Common.{arith}
 use Rattle.std.proofs.Common.{IsUtf8, chars, encode_utf8, encode_utf8_all, length-append}
 use Rattle.std.proofs.lemmas.Option.{slice_get_within}
 use Rattle.std.proofs.lemmas.Str.{encodes-chars, len_utf8_bounds, length-encode, length-le-encodes}
 use Rattle.std.proofs.Math.Nat.{mul-le-mul_left, mul-le-mul_right}
 use Rattle.wax_program.specs.declared.instruction.Test.{Test}
 use Rattle.wax_program.specs.declared.instruction.Instruction.{Instruction}
-use Rattle.wax_program.specs.declared.instruction.Instruction.TheVariants.{Check, Repeat, Components, Fork, Jump, Back, End}
+use Rattle.wax_program.specs.declared.instruction.Instruction.TheVariants.{Check, Repeat, Components, Fork}
+use Rattle.wax_program.specs.declared.instruction.Instruction.TheVariants.{Jump, Back, End}
 use Rattle.wax_program.specs.Machine.{PassesTest, Moves, AcceptsIn, Accepts}
 use Rattle.wax_program.specs.Places.{HoldsPlace, IsEmpty, member_count}
-use Rattle.wax_program.specs.Threads.{IsDone, Position, IsReached, Taken, Inserted, InsertedNext, AnyOf, Led, Handled, Followed, Round, Advances, Stays}
+use Rattle.wax_program.specs.Threads.{IsDone, Position, IsReached, Taken, Inserted, InsertedNext, AnyOf, Led}
+use Rattle.wax_program.specs.Threads.{Handled, Followed, Round, Advances, Stays}
 use Rattle.wax_program.proofs.Members.{members_some}
-use Rattle.wax_program.proofs.Steps.{after_test, after_last, after_one, after_any, after_slash, after_fork, after_jump, after_back}
+use Rattle.wax_program.proofs.Steps.{after_test, after_last, after_one, after_any, after_slash, after_fork}
+use Rattle.wax_program.proofs.Steps.{after_jump, after_back}
 
 -- ---- one place
 some_same : {i j : Instruction} → Some i ≡ Some j → i ≡ j
 some_same e = cc
 
-handled_as : (code : List Instruction) (c k : ℕ) (p : Position) (i : Instruction) → slice_get code k ≡ Some i → Led i c k p → Handled code c p k
+handled_as : (code : List Instruction) (c k : ℕ) (p : Position) (i : Instruction) → slice_get code k ≡ Some i
+    → Led i c k p → Handled code c p k
 handled_as code c k p i is led j js = subst (λ z. Led z c k p) (some_same (sym is ∙ js)) led
 
 inserted_reached : (p q : Position) (at x : ℕ) → Inserted p q at → IsReached p x → IsReached q x
@@ -29,7 +35,8 @@ next_reached p q at x g (inl h) = inl (subst (λ z. HoldsPlace z x) (sym g.pendi
 next_reached p q at x g (inr h) = inr (subst (λ z. HoldsPlace z x) (sym g.read) h)
 
 module _ (code : List Instruction) (c k : ℕ) (old new : Position) where
-  pub followed_fork : (n : ℕ) (mid : Position) → slice_get code k ≡ Some (Fork n) → Inserted old mid (k + 1) → Inserted mid new (k + 1 + n) → Followed code c k old new
+  pub followed_fork : (n : ℕ) (mid : Position) → slice_get code k ≡ Some (Fork n) → Inserted old mid (k + 1)
+      → Inserted mid new (k + 1 + n) → Followed code c k old new
   followed_fork n mid is g h = record {
     size = h.size ∙ g.size;
     read = h.read ∙ g.read;
@@ -49,29 +56,38 @@ module _ (code : List Instruction) (c k : ℕ) (old new : Position) where
     only_next = λ x e. inl (subst (λ z. HoldsPlace z x) (h.next ∙ g.next) e);
   }
 
-  pub followed_jump : (n : ℕ) → slice_get code k ≡ Some (Jump n) → Inserted old new (k + 1 + n) → Followed code c k old new
+  pub followed_jump : (n : ℕ) → slice_get code k ≡ Some (Jump n) → Inserted old new (k + 1 + n)
+      → Followed code c k old new
   followed_jump n is g = record {
     size = g.size;
     read = g.read;
     handled = handled_as code c k new (Jump n) is (λ lt. g.adds (omega (arith, lt, g.size)));
     keeps = g.keeps;
     keeps_next = λ x e. subst (λ z. HoldsPlace z x) (sym g.next) e;
-    only = λ x e. elim (g.only x e) [ inl o ↦ inl o | inr same ↦ inr (λ s a. after_jump n code k s is (subst (λ z. Accepts code z s) same a)) ];
+    only = λ x e. elim (g.only x e) [
+      | inl o ↦ inl o
+      | inr same ↦ inr (λ s a. after_jump n code k s is (subst (λ z. Accepts code z s) same a))
+    ];
     only_next = λ x e. inl (subst (λ z. HoldsPlace z x) g.next e);
   }
 
-  pub followed_back : (n : ℕ) → slice_get code k ≡ Some (Back n) → Inserted old new (k - n) → Followed code c k old new
+  pub followed_back : (n : ℕ) → slice_get code k ≡ Some (Back n) → Inserted old new (k - n)
+      → Followed code c k old new
   followed_back n is g = record {
     size = g.size;
     read = g.read;
     handled = handled_as code c k new (Back n) is (λ lt. g.adds (omega (arith, lt, g.size)));
     keeps = g.keeps;
     keeps_next = λ x e. subst (λ z. HoldsPlace z x) (sym g.next) e;
-    only = λ x e. elim (g.only x e) [ inl o ↦ inl o | inr same ↦ inr (λ s a. after_back n code k s is (subst (λ z. Accepts code z s) same a)) ];
+    only = λ x e. elim (g.only x e) [
+      | inl o ↦ inl o
+      | inr same ↦ inr (λ s a. after_back n code k s is (subst (λ z. Accepts code z s) same a))
+    ];
     only_next = λ x e. inl (subst (λ z. HoldsPlace z x) g.next e);
   }
 
-  pub followed_end : (i j : ℕ) → slice_get code k ≡ Some (End i j) → c < 1114112 → new ≡ old → Followed code c k old new
+  pub followed_end : (i j : ℕ) → slice_get code k ≡ Some (End i j) → c < 1114112 → new ≡ old
+      → Followed code c k old new
   followed_end i j is lt same = record {
     size = ap (λ p. p.size) same;
     read = ap (λ p. p.read) same;
@@ -82,7 +98,8 @@ module _ (code : List Instruction) (c k : ℕ) (old new : Position) where
     only_next = λ x e. inl (subst (λ p. HoldsPlace p.next x) same e);
   }
 
-  pub followed_pass : (t : Test) → slice_get code k ≡ Some (Check t) → PassesTest t c → InsertedNext old new (k + 1) → Followed code c k old new
+  pub followed_pass : (t : Test) → slice_get code k ≡ Some (Check t) → PassesTest t c
+      → InsertedNext old new (k + 1) → Followed code c k old new
   followed_pass t is p g = record {
     size = g.size;
     read = g.read;
@@ -90,10 +107,14 @@ module _ (code : List Instruction) (c k : ℕ) (old new : Position) where
     keeps = λ x e. subst (λ z. HoldsPlace z x) (sym g.pending) e;
     keeps_next = g.keeps;
     only = λ x e. inl (subst (λ z. HoldsPlace z x) g.pending e);
-    only_next = λ x e. elim (g.only x e) [ inl o ↦ inl o | inr same ↦ inr (λ s a. after_test t code k c s is p (subst (λ z. Accepts code z s) same a)) ];
+    only_next = λ x e. elim (g.only x e) [
+      | inl o ↦ inl o
+      | inr same ↦ inr (λ s a. after_test t code k c s is p (subst (λ z. Accepts code z s) same a))
+    ];
   }
 
-  pub followed_more : (t : Test) (mid : Position) → slice_get code k ≡ Some (Repeat t) → PassesTest t c → Inserted old mid (k + 1) → InsertedNext mid new k → Followed code c k old new
+  pub followed_more : (t : Test) (mid : Position) → slice_get code k ≡ Some (Repeat t) → PassesTest t c
+      → Inserted old mid (k + 1) → InsertedNext mid new k → Followed code c k old new
   followed_more t mid is p g h = record {
     size = h.size ∙ g.size;
     read = h.read ∙ g.read;
@@ -113,29 +134,40 @@ module _ (code : List Instruction) (c k : ℕ) (old new : Position) where
     ];
   }
 
-  pub followed_last : (t : Test) → slice_get code k ≡ Some (Repeat t) → (PassesTest t c → ⊥) → Inserted old new (k + 1) → Followed code c k old new
+  pub followed_last : (t : Test) → slice_get code k ≡ Some (Repeat t) → (PassesTest t c → ⊥)
+      → Inserted old new (k + 1) → Followed code c k old new
   followed_last t is p g = record {
     size = g.size;
     read = g.read;
-    handled = handled_as code c k new (Repeat t) is ((λ lt. g.adds (omega (arith, lt, g.size))), (λ q lt. absurd (p q)));
+    handled = handled_as code c k new (Repeat t) is
+        ((λ lt. g.adds (omega (arith, lt, g.size))), (λ q lt. absurd (p q)));
     keeps = g.keeps;
     keeps_next = λ x e. subst (λ z. HoldsPlace z x) (sym g.next) e;
-    only = λ x e. elim (g.only x e) [ inl o ↦ inl o | inr same ↦ inr (λ s a. after_last t code k s is (subst (λ z. Accepts code z s) same a)) ];
+    only = λ x e. elim (g.only x e) [
+      | inl o ↦ inl o
+      | inr same ↦ inr (λ s a. after_last t code k s is (subst (λ z. Accepts code z s) same a))
+    ];
     only_next = λ x e. inl (subst (λ z. HoldsPlace z x) g.next e);
   }
 
-  pub followed_any : slice_get code k ≡ Some Components → (c ≡ 47 → ⊥) → InsertedNext old new k → Followed code c k old new
+  pub followed_any : slice_get code k ≡ Some Components → (c ≡ 47 → ⊥) → InsertedNext old new k
+      → Followed code c k old new
   followed_any is p g = record {
     size = g.size;
     read = g.read;
-    handled = handled_as code c k new Components is ((λ lt. g.adds (omega (arith, lt, g.size))), (λ q lt. absurd (p q)));
+    handled = handled_as code c k new Components is
+        ((λ lt. g.adds (omega (arith, lt, g.size))), (λ q lt. absurd (p q)));
     keeps = λ x e. subst (λ z. HoldsPlace z x) (sym g.pending) e;
     keeps_next = g.keeps;
     only = λ x e. inl (subst (λ z. HoldsPlace z x) g.pending e);
-    only_next = λ x e. elim (g.only x e) [ inl o ↦ inl o | inr same ↦ inr (λ s a. after_any code k c s is (subst (λ z. Accepts code z s) same a)) ];
+    only_next = λ x e. elim (g.only x e) [
+      | inl o ↦ inl o
+      | inr same ↦ inr (λ s a. after_any code k c s is (subst (λ z. Accepts code z s) same a))
+    ];
   }
 
-  pub followed_slash : (mid : Position) → slice_get code k ≡ Some Components → c ≡ 47 → InsertedNext old mid k → InsertedNext mid new (k + 1) → Followed code c k old new
+  pub followed_slash : (mid : Position) → slice_get code k ≡ Some Components → c ≡ 47 → InsertedNext old mid k
+      → InsertedNext mid new (k + 1) → Followed code c k old new
   followed_slash mid is p g h = record {
     size = h.size ∙ g.size;
     read = h.read ∙ g.read;
@@ -156,12 +188,16 @@ module _ (code : List Instruction) (c k : ℕ) (old new : Position) where
   }
 
 -- ---- one step of a round
-led_later : (i : Instruction) (c k : ℕ) (p q : Position) → q.size ≡ p.size → ((x : ℕ) → IsReached p x → IsReached q x) → ((x : ℕ) → HoldsPlace p.next x → HoldsPlace q.next x) →
+led_later : (i : Instruction) (c k : ℕ) (p q : Position) → q.size ≡ p.size
+    → ((x : ℕ) → IsReached p x → IsReached q x) → ((x : ℕ) → HoldsPlace p.next x → HoldsPlace q.next x) →
     Led i c k p → Led i c k q
 led_later (Check t) c k p q e f g h = λ a lt. g (k + 1) (h a (omega (arith, lt, e)))
-led_later (Repeat t) c k p q e f g h = ((λ lt. f (k + 1) (h.0 (omega (arith, lt, e)))), (λ a lt. g k (h.1 a (omega (arith, lt, e)))))
-led_later Components c k p q e f g h = ((λ lt. g k (h.0 (omega (arith, lt, e)))), (λ a lt. g (k + 1) (h.1 a (omega (arith, lt, e)))))
-led_later (Fork n) c k p q e f g h = ((λ lt. f (k + 1) (h.0 (omega (arith, lt, e)))), (λ lt. f (k + 1 + n) (h.1 (omega (arith, lt, e)))))
+led_later (Repeat t) c k p q e f g h =
+    ((λ lt. f (k + 1) (h.0 (omega (arith, lt, e)))), (λ a lt. g k (h.1 a (omega (arith, lt, e)))))
+led_later Components c k p q e f g h =
+    ((λ lt. g k (h.0 (omega (arith, lt, e)))), (λ a lt. g (k + 1) (h.1 a (omega (arith, lt, e)))))
+led_later (Fork n) c k p q e f g h =
+    ((λ lt. f (k + 1) (h.0 (omega (arith, lt, e)))), (λ lt. f (k + 1 + n) (h.1 (omega (arith, lt, e)))))
 led_later (Jump n) c k p q e f g h = λ lt. f (k + 1 + n) (h (omega (arith, lt, e)))
 led_later (Back n) c k p q e f g h = λ lt. f (k - n) (h (omega (arith, lt, e)))
 led_later (End i j) c k p q e f g h = h
@@ -186,7 +222,8 @@ module _ (code : List Instruction) (c : ℕ) (old : List Bool) where
     step_reached : (x : ℕ) → IsReached p x → IsReached r x
     step_reached x (inl h) = elim (t.others x h) [
       | inl m ↦ inl (f.keeps x m)
-      | inr same ↦ inr (subst (λ z. HoldsPlace z x) (sym f.read) (subst (HoldsPlace q.read) (sym same) t.reads))
+      | inr same ↦
+          inr (subst (λ z. HoldsPlace z x) (sym f.read) (subst (HoldsPlace q.read) (sym same) t.reads))
     ]
     step_reached x (inr h) = inr (subst (λ z. HoldsPlace z x) (sym f.read) (t.keeps x h))
 
@@ -257,7 +294,9 @@ module _ (code : List Instruction) (c : ℕ) (old : List Bool) where
     reaches : (n k : ℕ) (s : List ℕ) → IsReached p k → AcceptsIn code n k (c ∷ s) → AnyOf code p.next s
     reaches zero k s h a = absurd a
     reaches (suc n) k s h (inl a) = absurd (cons_nil a.1)
-    reaches (suc n) k s h (inr a) = goes n k s a.0 (d.handled k (was_read k h (slice_get_within code k a.0 a.1)) a.0 a.1) a.2 (λ x g b. reaches n x s g b)
+    reaches (suc n) k s h (inr a) =
+        goes n k s a.0 (d.handled k (was_read k h (slice_get_within code k a.0 a.1)) a.0 a.1) a.2
+        (λ x g b. reaches n x s g b)
 
     pub round_end : Advances code c old p.next
     round_end = record {
@@ -273,7 +312,8 @@ module _ (code : List Instruction) (c : ℕ) (old : List Bool) where
 
     -- where no character is left, only the program's end accepts
     stops : (n k : ℕ) (i : Instruction) → Led i c k p → Moves i (AcceptsIn code n) k [] →
-        ((x : ℕ) → IsReached p x → AcceptsIn code n x [] → HoldsPlace p.pending p.size) → HoldsPlace p.pending p.size
+        ((x : ℕ) → IsReached p x → AcceptsIn code n x [] → HoldsPlace p.pending p.size)
+        → HoldsPlace p.pending p.size
     stops n k (Check t) led m again = absurd m
     stops n k (Repeat t) led m again = again (k + 1) (led.0 (below n (k + 1) [] m)) m
     stops n k Components led m again = absurd m
@@ -290,46 +330,56 @@ module _ (code : List Instruction) (c : ℕ) (old : List Bool) where
     ends : (n k : ℕ) → IsReached p k → AcceptsIn code n k [] → HoldsPlace p.pending p.size
     ends zero k h a = absurd a
     ends (suc n) k h (inl a) = at_end k h a.0
-    ends (suc n) k h (inr a) = stops n k a.0 (d.handled k (was_read k h (slice_get_within code k a.0 a.1)) a.0 a.1) a.2 (λ x g b. ends n x g b)
+    ends (suc n) k h (inr a) = stops n k a.0
+        (d.handled k (was_read k h (slice_get_within code k a.0 a.1)) a.0 a.1) a.2 (λ x g b. ends n x g b)
 
     pub round_ends : AnyOf code old [] → HoldsPlace p.pending p.size
     round_ends h = ends h.2.0 h.0 (d.begins h.0 h.1) h.2.1
 
 -- ---- the whole text
-pub stays_start : (code : List Instruction) (start : ℕ) (text : List ℕ) (p q : Position) → p.size ≡ length code → IsEmpty p.pending → IsEmpty p.read → Inserted p q start → Stays code start text text q.pending
+pub stays_start : (code : List Instruction) (start : ℕ) (text : List ℕ) (p q : Position)
+    → p.size ≡ length code → IsEmpty p.pending → IsEmpty p.read → Inserted p q start
+    → Stays code start text text q.pending
 stays_start code start text p q sized no_pending no_read g = record {
   onward = λ h. (start, at_start (g.adds (omega (arith, in_range code h.0 start text h.1, sized))), h);
-  backward = λ h. elim (g.only h.0 h.1) [ inl m ↦ absurd (no_pending h.0 m) | inr same ↦ subst (λ z. Accepts code z text) same h.2 ];
+  backward = λ h. elim (g.only h.0
+      h.1) [ inl m ↦ absurd (no_pending h.0 m) | inr same ↦ subst (λ z. Accepts code z text) same h.2 ];
 }
   where
     at_start : IsReached q start → HoldsPlace q.pending start
     at_start (inl h) = h
     at_start (inr h) = absurd (no_read start (subst (λ z. HoldsPlace z start) g.read h))
 
-pub stays_step : (code : List Instruction) (start : ℕ) (text left rest : List ℕ) (set next : List Bool) (c : ℕ) → left ≡ c ∷ rest → Stays code start text left set → Advances code c set next → Stays code start text rest next
+pub stays_step : (code : List Instruction) (start : ℕ) (text left rest : List ℕ) (set next : List Bool)
+    (c : ℕ) → left ≡ c ∷ rest → Stays code start text left set → Advances code c set next
+    → Stays code start text rest next
 stays_step code start text left rest set next c e s a = record {
   onward = λ h. a.onward rest (subst (AnyOf code set) e (s.onward h));
   backward = λ h. s.backward (subst (AnyOf code set) (sym e) (a.backward rest h));
 }
 
 pub drop_one : (xs : List ℕ) (i c : ℕ) → i < length xs → c ≡ get_or xs i c → drop i xs ≡ c ∷ drop (i + 1) xs
-drop_one xs i c h e = let n : suc i ≡ i + 1 = omega arith in drop-cons xs i c h ∙ ap (λ z. z ∷ drop (suc i) xs) (sym e) ∙ ap (λ z. c ∷ drop z xs) n
+drop_one xs i c h e = let n : suc i ≡ i + 1 = omega arith in
+    drop-cons xs i c h ∙ ap (λ z. z ∷ drop (suc i) xs) (sym e) ∙ ap (λ z. c ∷ drop z xs) n
 
 -- so many rounds, each of at most `len` reads
 pub reads_within : (len i n old new : ℕ) → i ≤ n → new ≤ old + len * i + len → new ≤ old + len * (n + 1)
 reads_within len i n old new le h =
-    let a : len * (i + 1) ≤ len * (n + 1) = mul-le-mul_left len (let e : i + 1 ≤ n + 1 = omega (arith, le) in e) in
+    let a : len * (i + 1) ≤ len * (n + 1) =
+    mul-le-mul_left len (let e : i + 1 ≤ n + 1 = omega (arith, le) in e) in
     omega (arith, a, h)
 
 -- so many rounds, one more, and what is left is counted by its bytes
-pub reads_passed : (len m r n bytes old met mid passed new : ℕ) → 4 ≤ len → (m + 1) + r ≡ n → bytes ≤ 4 * r → met ≤ old + len * m → mid ≤ met + len
+pub reads_passed : (len m r n bytes old met mid passed new : ℕ) → 4 ≤ len → (m + 1) + r ≡ n → bytes ≤ 4 * r
+    → met ≤ old + len * m → mid ≤ met + len
     → passed ≤ mid + bytes → new ≤ passed + len → new ≤ old + len * (n + 1)
 reads_passed len m r n bytes old met mid passed new wide e few a b d h =
     let less : 4 * r ≤ len * r = mul-le-mul_right r (let k : 4 ≤ len = wide in k) in
     subst (λ k. new ≤ old + len * (k + 1)) e (omega (arith, less, few, a, b, d, h))
 
 -- a character takes one to four bytes
-pub chars_few : (bs : List ℕ) → IsUtf8 bs → (length (chars bs) ≤ length bs) × (length bs ≤ 4 * length (chars bs))
+pub chars_few : (bs : List ℕ) → IsUtf8 bs → (length (chars bs) ≤ length bs)
+    × (length bs ≤ 4 * length (chars bs))
 chars_few bs utf8 = (omega (arith, length-le-encodes (chars bs), same), omega (arith, four (chars bs), same))
   where
     same : length (encode_utf8_all (chars bs)) ≡ length bs
@@ -337,16 +387,26 @@ chars_few bs utf8 = (omega (arith, length-le-encodes (chars bs), same), omega (a
 
     four : (cs : List ℕ) → length (encode_utf8_all cs) ≤ 4 * length cs
     four [] = omega arith
-    four (c ∷ cs) = omega (arith, four cs, length-append (encode_utf8 c) (encode_utf8_all cs), length-encode c, (len_utf8_bounds c).1)
+    four (c ∷ cs) = omega (
+      arith,
+      four cs,
+      length-append (encode_utf8 c) (encode_utf8_all cs),
+      length-encode c,
+      (len_utf8_bounds c).1,
+    )
 
 -- a longer program
-pub reads_longer : (len most n old new : ℕ) → len < most → new ≤ old + len * (n + 1) → new ≤ old + most * (n + 1)
+pub reads_longer : (len most n old new : ℕ) → len < most → new ≤ old + len * (n + 1)
+    → new ≤ old + most * (n + 1)
 reads_longer len most n old new few h =
-    let a : len * (n + 1) ≤ most * (n + 1) = mul-le-mul_right (n + 1) (let e : len ≤ most = omega (arith, few) in e) in
+    let a : len * (n + 1) ≤ most * (n + 1) =
+    mul-le-mul_right (n + 1) (let e : len ≤ most = omega (arith, few) in e) in
     omega (arith, a, h)
 
 -- where no instruction is left, no text that goes on is accepted
-pub stays_done : (code : List Instruction) (start : ℕ) (text left rest : List ℕ) (c : ℕ) (p : Position) → left ≡ c ∷ rest → p.size ≡ length code → IsDone p → Stays code start text left p.pending → Accepts code start text → ⊥
+pub stays_done : (code : List Instruction) (start : ℕ) (text left rest : List ℕ) (c : ℕ) (p : Position)
+    → left ≡ c ∷ rest → p.size ≡ length code → IsDone p → Stays code start text left p.pending
+    → Accepts code start text → ⊥
 stays_done code start text left rest c p e sized done s a =
     let h : AnyOf code p.pending (c ∷ rest) = subst (AnyOf code p.pending) e (s.onward a) in
     ended h.2.0 h.0 (omega (arith, done h.0 h.1, sized)) h.2.1

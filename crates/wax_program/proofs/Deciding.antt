@@ -1,5 +1,8 @@
--- Whether a program accepts a text that begins with a given one and goes on in a given way, as a decided fact.
-use Rattle.std.proofs.Common.{◌≡◌, ◌↔◌, ◌⊎◌, ℕ, zero, suc, ◌+◌, ◌-◌, ◌<◌, ◌≤◌, Bool, true, false, List, [], ◌∷◌, ◌++◌, Option, Some, None, length, set, slice_get, slice_index_or, inl, inr, refl, sym, ◌∙◌, ap, subst, true≢false, length-set, arith}
+-- Whether a program accepts a text that begins with a given one and goes on in a
+-- given way, as a decided fact.
+use Rattle.std.proofs.Common.{◌≡◌, ◌↔◌, ◌⊎◌, ℕ, zero, suc, ◌+◌, ◌-◌, ◌<◌, ◌≤◌, Bool, true, false, List, []}
+use Rattle.std.proofs.Common.{◌∷◌, ◌++◌, Option, Some, None, length, set, slice_get, slice_index_or, inl, inr}
+use Rattle.std.proofs.Common.{refl, sym, ◌∙◌, ap, subst, true≢false, length-set, arith}
 use Rattle.std.proofs.lemmas.Bool.{cases_eq, cases_lt}
 use Rattle.std.proofs.lemmas.List.{get_or_past}
 use Rattle.std.proofs.lemmas.Option.{slice_get_within}
@@ -7,13 +10,15 @@ use Rattle.wax_program.specs.Places.{HoldsPlace, member_count}
 use Rattle.wax_program.proofs.Members.{added_only, members_set, members_within}
 use Rattle.wax_token.specs.Decided.{Decided, both, either, is_true}
 use Rattle.wax_program.specs.declared.instruction.Instruction.{Instruction}
-use Rattle.wax_program.specs.declared.instruction.Instruction.TheVariants.{Check, Repeat, Components, Fork, Jump, Back, End}
+use Rattle.wax_program.specs.declared.instruction.Instruction.TheVariants.{Check, Repeat, Components, Fork}
+use Rattle.wax_program.specs.declared.instruction.Instruction.TheVariants.{Jump, Back, End}
 use Rattle.wax_program.specs.declared.instruction.Test.{Test}
 use Rattle.wax_program.specs.declared.onward.Ahead.{Ahead}
 use Rattle.wax_program.specs.Machine.{PassesTest, Moves, AcceptsIn, Accepts, mark}
 use Rattle.wax_program.specs.Onward.{IsAhead, flags_for}
 use Rattle.wax_program.proofs.Finding.{flags_found}
-use Rattle.wax_program.proofs.Steps.{after_test, after_last, after_one, after_any, after_slash, after_fork, after_jump, after_back}
+use Rattle.wax_program.proofs.Steps.{after_test, after_last, after_one, after_any, after_slash, after_fork}
+use Rattle.wax_program.proofs.Steps.{after_jump, after_back}
 use Rattle.wax_program.proofs.Tested.{decided_by, passes_decided}
 
 -- ---- sets of places that are closed
@@ -31,7 +36,8 @@ held_inside s k h = elim (cases_lt k (length s)) [
   | inr past ↦ absurd (true≢false (sym h ∙ get_or_past s k false past))
 ]
 
-module _ (size : ℕ) (P : ℕ → Type 0) (Derives : List Bool → ℕ → Type 0) (decide : (s : List Bool) (k : ℕ) → Decided (Derives s k))
+module _ (size : ℕ) (P : ℕ → Type 0) (Derives : List Bool → ℕ → Type 0)
+    (decide : (s : List Bool) (k : ℕ) → Decided (Derives s k))
     (sound : (s : List Bool) → ((k : ℕ) → HoldsPlace s k → P k) → (k : ℕ) → Derives s k → P k) where
   abbrev Missing : List Bool → ℕ → Type 0
   Missing s n = (k : ℕ) × (k < n) × (HoldsPlace s k → ⊥) × Derives s k
@@ -61,16 +67,19 @@ module _ (size : ℕ) (P : ℕ → Type 0) (Derives : List Bool → ℕ → Type
   abbrev Closed : Type 0
   Closed = (s : List Bool) × ((k : ℕ) → HoldsPlace s k → P k) × Full s size
 
-  no_more : (s : List Bool) (k : ℕ) → length s ≡ size → size ≤ member_count s → k < size → (HoldsPlace s k → ⊥) → ⊥
+  no_more : (s : List Bool) (k : ℕ) → length s ≡ size → size ≤ member_count s → k < size
+      → (HoldsPlace s k → ⊥) → ⊥
   no_more s k e many lt none =
       let bigger = members_set s k (omega (arith, lt, e)) none in
       let within = members_within (length (set s k true)) (set s k true) (held_inside (set s k true)) in
       omega (arith, bigger, within, length-set s k true, e, many)
 
-  sound_more : (s : List Bool) (k : ℕ) → ((x : ℕ) → HoldsPlace s x → P x) → P k → (x : ℕ) → HoldsPlace (set s k true) x → P x
+  sound_more : (s : List Bool) (k : ℕ) → ((x : ℕ) → HoldsPlace s x → P x) → P k → (x : ℕ)
+      → HoldsPlace (set s k true) x → P x
   sound_more s k all here x h = elim (added_only s k x h) [ inl g ↦ all x g | inr e ↦ subst P (sym e) here ]
 
-  close : (left : ℕ) (s : List Bool) → length s ≡ size → size ≤ member_count s + left → ((k : ℕ) → HoldsPlace s k → P k) → Closed
+  close : (left : ℕ) (s : List Bool) → length s ≡ size → size ≤ member_count s + left
+      → ((k : ℕ) → HoldsPlace s k → P k) → Closed
   close zero s e many all = elim (find s size) [
     | inr full ↦ (s, all, full)
     | inl (k, lt, none, d) ↦ absurd (no_more s k e (omega (arith, many)) lt none)
@@ -130,9 +139,11 @@ module _ (code : List Instruction) where
     to_decided (Fork n) s k = either (held s (k + 1)) (held s (k + 1 + n))
     to_decided (Jump n) s k = held s (k + 1 + n)
     to_decided (Back n) s k = held s (k - n)
-    to_decided (End low high) s k = both (le_decided (mark low) d) (both (le_decided d (mark high)) (held onto (length code)))
+    to_decided (End low high) s k =
+        both (le_decided (mark low) d) (both (le_decided d (mark high)) (held onto (length code)))
 
-    at_decided : (s : List Bool) (k : ℕ) (o : Option Instruction) → slice_get code k ≡ o → Decided (Derives s k)
+    at_decided : (s : List Bool) (k : ℕ) (o : Option Instruction) → slice_get code k ≡ o
+        → Decided (Derives s k)
     at_decided s k None e = inr (λ (i, is, h). none_some (sym e ∙ is))
     at_decided s k (Some i) e = elim (to_decided i s k) [
       | inl h ↦ inl (i, e, h)
@@ -155,10 +166,12 @@ module _ (code : List Instruction) where
     as_mark low r least none = let e : d ≡ mark (d - 1114112) = omega (arith, least) in cc
 
     module _ (s : List Bool) (all : (k : ℕ) → HoldsPlace s k → Goes k) where
-      on_soundly : (k x : ℕ) → ((r : List ℕ) → Accepts code x r → Accepts code k (d ∷ r)) → HoldsPlace onto x → Goes k
+      on_soundly : (k x : ℕ) → ((r : List ℕ) → Accepts code x r → Accepts code k (d ∷ r))
+          → HoldsPlace onto x → Goes k
       on_soundly k x on h = let (r, q, a) = (are x).0 h in (d ∷ r, (refl, q), on r a)
 
-      from_soundly : (k x : ℕ) → ((r : List ℕ) → Accepts code x r → Accepts code k r) → HoldsPlace s x → Goes k
+      from_soundly : (k x : ℕ) → ((r : List ℕ) → Accepts code x r → Accepts code k r)
+          → HoldsPlace s x → Goes k
       from_soundly k x on h = let (r, q, a) = all x h in (r, q, on r a)
 
       to_soundly : (i : Instruction) (k : ℕ) → slice_get code k ≡ Some i → To i s k → Goes k
@@ -168,12 +181,28 @@ module _ (code : List Instruction) where
       to_soundly Components k is (inl h) = on_soundly k k (λ r a. after_any code k d r is a) h
       to_soundly Components k is (inr (e, h)) = on_soundly k (k + 1) (λ r a. after_slash code k d r is e a) h
       to_soundly (Fork n) k is (inl h) = from_soundly k (k + 1) (λ r a. after_fork n code k r is (inl a)) h
-      to_soundly (Fork n) k is (inr h) = from_soundly k (k + 1 + n) (λ r a. after_fork n code k r is (inr a)) h
+      to_soundly (Fork n) k is (inr h) =
+          from_soundly k (k + 1 + n) (λ r a. after_fork n code k r is (inr a)) h
       to_soundly (Jump n) k is h = from_soundly k (k + 1 + n) (λ r a. after_jump n code k r is a) h
       to_soundly (Back n) k is h = from_soundly k (k - n) (λ r a. after_back n code k r is a) h
       to_soundly (End low high) k is (least, (most, h)) =
-          let (r, q, a) = (are (length code)).0 h in
-          (d ∷ r, (refl, q), (1, inr (End low high, is, (d - 1114112, omega (arith, least), omega (arith, most), as_mark low r least (nothing_left a.0 r a.1)))))
+          let (r, q, a) = (are (length code)).0 h in (
+            d ∷ r,
+            (refl, q),
+            (
+              1,
+              inr (
+                End low high,
+                is,
+                (
+                  d - 1114112,
+                  omega (arith, least),
+                  omega (arith, most),
+                  as_mark low r least (nothing_left a.0 r a.1),
+                ),
+              ),
+            ),
+          )
 
       soundly : (k : ℕ) → Derives s k → Goes k
       soundly k (i, is, h) = to_soundly i k is h
@@ -188,13 +217,15 @@ module _ (code : List Instruction) where
       on_held : (n x : ℕ) (t : List ℕ) → Q t → AcceptsIn code n x t → HoldsPlace onto x
       on_held n x t q a = (are x).1 (t, q, (n, a))
 
-      moved : (n k : ℕ) (i : Instruction) (t : List ℕ) → ((x : ℕ) (r : List ℕ) → AcceptsIn code n x r → Then d Q r → HoldsPlace s x)
+      moved : (n k : ℕ) (i : Instruction) (t : List ℕ)
+          → ((x : ℕ) (r : List ℕ) → AcceptsIn code n x r → Then d Q r → HoldsPlace s x)
           → Then d Q t → Moves i (AcceptsIn code n) k t → To i s k
       moved n k (Check u) [] again h g = absurd g
       moved n k (Check u) (c ∷ t) again (e, q) (p, a) = (subst (PassesTest u) e p, on_held n (k + 1) t q a)
       moved n k (Repeat u) [] again h a = absurd h
       moved n k (Repeat u) (c ∷ t) again h (inl a) = inl (again (k + 1) (c ∷ t) a h)
-      moved n k (Repeat u) (c ∷ t) again (e, q) (inr (p, a)) = inr (subst (PassesTest u) e p, on_held n k t q a)
+      moved n k (Repeat u) (c ∷ t) again (e, q) (inr (p, a)) =
+          inr (subst (PassesTest u) e p, on_held n k t q a)
       moved n k Components [] again h g = absurd g
       moved n k Components (c ∷ t) again (e, q) (inl a) = inl (on_held n k t q a)
       moved n k Components (c ∷ t) again (e, q) (inr (f, a)) = inr (sym e ∙ f, on_held n (k + 1) t q a)
@@ -204,8 +235,13 @@ module _ (code : List Instruction) where
       moved n k (Back b) t again h a = again (k - b) t a h
       moved n k (End low high) [] again h a = absurd h
       moved n k (End low high) (c ∷ t) again (e, q) (number, least, most, same) =
-          let m : c ≡ mark number = heads same in
-          (omega (arith, m, e, least), (omega (arith, m, e, most), (are (length code)).1 ([], subst Q (tails same) q, (1, inl (refl, refl)))))
+          let m : c ≡ mark number = heads same in (
+            omega (arith, m, e, least),
+            (
+              omega (arith, m, e, most),
+              (are (length code)).1 ([], subst Q (tails same) q, (1, inl (refl, refl))),
+            ),
+          )
 
       all_held : (n k : ℕ) (t : List ℕ) → AcceptsIn code n k t → Then d Q t → HoldsPlace s k
       all_held zero k t a h = absurd a
@@ -222,7 +258,8 @@ module _ (code : List Instruction) where
   After [] Q t = Q t
   After (d ∷ text) Q t = Then d (After text Q) t
 
-  after_exact : (text : List ℕ) (Q : List ℕ → Type 0) (s : List Bool) → Exact Q s → (s : List Bool) × Exact (After text Q) s
+  after_exact : (text : List ℕ) (Q : List ℕ → Type 0) (s : List Bool) → Exact Q s
+      → (s : List Bool) × Exact (After text Q) s
   after_exact [] Q s are = (s, are)
   after_exact (d ∷ text) Q s are = let (r, is) = after_exact text Q s are in then_exact d (After text Q) r is
 
@@ -230,7 +267,8 @@ module _ (code : List Instruction) where
   after_append [] Q t q = q
   after_append (d ∷ text) Q t q = (refl, after_append text Q t q)
 
-  after_split : (text : List ℕ) (Q : List ℕ → Type 0) (t : List ℕ) → After text Q t → (r : List ℕ) × (t ≡ text ++ r) × Q r
+  after_split : (text : List ℕ) (Q : List ℕ → Type 0) (t : List ℕ) → After text Q t
+      → (r : List ℕ) × (t ≡ text ++ r) × Q r
   after_split [] Q t h = (t, refl, h)
   after_split (d ∷ text) Q [] h = absurd h
   after_split (d ∷ text) Q (c ∷ t) (e, h) = let (r, f, q) = after_split text Q t h in (r, pair e f, q)
@@ -239,12 +277,14 @@ module _ (code : List Instruction) where
       pair e f = cc
 
   -- some text of the kind is accepted after the given one
-  pub ahead_decided : (m : Ahead) (start : ℕ) (text : List ℕ) → Decided ((s : List ℕ) × IsAhead m s × Accepts code start (text ++ s))
+  pub ahead_decided : (m : Ahead) (start : ℕ) (text : List ℕ)
+      → Decided ((s : List ℕ) × IsAhead m s × Accepts code start (text ++ s))
   ahead_decided m start text =
       let (f, are) = flags_found code in
       let (r, is) = after_exact text (IsAhead m) (flags_for m f) (are m) in
       decided_by (
         (λ h. (let (t, g, a) = (is start).0 h in
-            let (rest, e, q) = after_split text (IsAhead m) t g in (rest, q, subst (Accepts code start) e a))),
+            let (rest, e, q) = after_split text (IsAhead m) t g in
+            (rest, q, subst (Accepts code start) e a))),
         (λ (rest, q, a). (is start).1 (text ++ rest, after_append text (IsAhead m) rest q, a)),
       ) (is_true (slice_index_or r start false))

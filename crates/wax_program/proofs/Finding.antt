@@ -1,17 +1,23 @@
 -- Each program has its flags: they are found by adding those that are missing.
-use Rattle.std.proofs.Common.{◌≡◌, ◌⊎◌, ℕ, zero, suc, ◌+◌, ◌-◌, ◌*◌, ◌<◌, ◌≤◌, Bool, true, false, List, [], ◌∷◌, Option, Some, None, length, set, slice_get, slice_index_or, inl, inr, refl, sym, ◌∙◌, ap, subst, true≢false, length-set, arith}
+use Rattle.std.proofs.Common.{◌≡◌, ◌⊎◌, ℕ, zero, suc, ◌+◌, ◌-◌, ◌*◌, ◌<◌, ◌≤◌, Bool, true, false, List, []}
+use Rattle.std.proofs.Common.{◌∷◌, Option, Some, None, length, set, slice_get, slice_index_or, inl, inr, refl}
+use Rattle.std.proofs.Common.{sym, ◌∙◌, ap, subst, true≢false, length-set, arith}
 use Rattle.std.proofs.lemmas.Bool.{cases_eq, cases_lt}
 use Rattle.wax_program.specs.Places.{HoldsPlace}
 use Rattle.wax_token.specs.Decided.{Decided, both, either, is_true}
 use Rattle.wax_program.specs.declared.instruction.Instruction.{Instruction}
-use Rattle.wax_program.specs.declared.instruction.Instruction.TheVariants.{Check, Repeat, Components, Fork, Jump, Back, End}
+use Rattle.wax_program.specs.declared.instruction.Instruction.TheVariants.{Check, Repeat, Components, Fork}
+use Rattle.wax_program.specs.declared.instruction.Instruction.TheVariants.{Jump, Back, End}
 use Rattle.wax_program.specs.declared.instruction.Test.{Test}
 use Rattle.wax_program.specs.declared.onward.Ahead.{Ahead}
 use Rattle.wax_program.specs.declared.onward.Ahead.TheVariants.{Rest, Path, Below}
 use Rattle.wax_program.specs.Onward.{AreFlagsOf, PlaceFlags, flags_for}
-use Rattle.wax_program.specs.inner.Leads.{AreSound, HaveRoom, Holds, HoldsAfter, IsClosedAt, IsClosedFor, LeadsOn, LeadsAt, LeadsBy, Marks, TakesMark, onward_by_other, onward_by_slash, flag_count}
+use Rattle.wax_program.specs.inner.Leads.{AreSound, HaveRoom, Holds, HoldsAfter, IsClosedAt, IsClosedFor}
+use Rattle.wax_program.specs.inner.Leads.{LeadsOn, LeadsAt, LeadsBy, Marks, TakesMark, onward_by_other}
+use Rattle.wax_program.specs.inner.Leads.{onward_by_slash, flag_count}
 use Rattle.wax_program.proofs.Leading.{flags_are}
-use Rattle.wax_program.proofs.Marking.{begins_soundly, few_below, few_path, few_rest, gains_mark, marks_below, marks_path, marks_rest, still_within}
+use Rattle.wax_program.proofs.Marking.{begins_soundly, few_below, few_path, few_rest, gains_mark, marks_below}
+use Rattle.wax_program.proofs.Marking.{marks_path, marks_rest, still_within}
 use Rattle.wax_program.proofs.Tested.{other_decided, passes_decided}
 
 -- ---- whether an instruction leads to a flag
@@ -24,7 +30,8 @@ after_decided f (Some m) k = holds_decided f m k
 
 by_decided : (t : Test) (f : PlaceFlags) (m : Ahead) (k : ℕ) → Decided (LeadsBy t f m k)
 by_decided t f m k =
-    either (both (other_decided t) (after_decided f (onward_by_other m) k)) (both (passes_decided t 47) (after_decided f (onward_by_slash m) k))
+    either (both (other_decided t) (after_decided f (onward_by_other m) k))
+    (both (passes_decided t 47) (after_decided f (onward_by_slash m) k))
 
 le_decided : (m n : ℕ) → Decided (m ≤ n)
 le_decided m n = elim (cases_lt n m) [ inl lt ↦ inr (λ h. omega (arith, lt, h)) | inr le ↦ inl le ]
@@ -38,7 +45,8 @@ leads_decided : (i : Instruction) (f : PlaceFlags) (m : Ahead) (k : ℕ) → Dec
 leads_decided (Check t) f m k = by_decided t f m (k + 1)
 leads_decided (Repeat t) f m k = either (holds_decided f m (k + 1)) (by_decided t f m k)
 leads_decided Components f m k =
-    either (after_decided f (onward_by_other m) k) (either (after_decided f (onward_by_slash m) k) (after_decided f (onward_by_slash m) (k + 1)))
+    either (after_decided f (onward_by_other m) k)
+    (either (after_decided f (onward_by_slash m) k) (after_decided f (onward_by_slash m) (k + 1)))
 leads_decided (Fork n) f m k = either (holds_decided f m (k + 1)) (holds_decided f m (k + 1 + n))
 leads_decided (Jump n) f m k = holds_decided f m (k + 1 + n)
 leads_decided (Back n) f m k = holds_decided f m (k - n)
@@ -107,7 +115,8 @@ module _ (code : List Instruction) where
   abbrev Missing : PlaceFlags → Ahead → ℕ → Type 0
   Missing f m k = (Holds f m k → ⊥) × LeadsAt code f m k
 
-  at_instruction : (f : PlaceFlags) (m : Ahead) (k : ℕ) (o : Option Instruction) → slice_get code k ≡ o → (Holds f m k → ⊥)
+  at_instruction : (f : PlaceFlags) (m : Ahead) (k : ℕ) (o : Option Instruction)
+      → slice_get code k ≡ o → (Holds f m k → ⊥)
       → Missing f m k ⊎ IsClosedFor code f m k
   at_instruction f m k None e none = inr (λ i is h. absurd (none_some (sym e ∙ is)))
   at_instruction f m k (Some i) e none = elim (leads_decided i f m k) [
@@ -132,12 +141,14 @@ module _ (code : List Instruction) where
       ]
     ]
   ] where
-    each : IsClosedFor code f Rest k → IsClosedFor code f Path k → IsClosedFor code f Below k → IsClosedAt code f k
+    each : IsClosedFor code f Rest k → IsClosedFor code f Path k → IsClosedFor code f Below k
+        → IsClosedAt code f k
     each rest path below Rest = rest
     each rest path below Path = path
     each rest path below Below = below
 
-  find : (f : PlaceFlags) (n : ℕ) → ((m : Ahead) × (k : ℕ) × (k < n) × Missing f m k) ⊎ ((k : ℕ) → k < n → IsClosedAt code f k)
+  find : (f : PlaceFlags) (n : ℕ) → ((m : Ahead) × (k : ℕ) × (k < n) × Missing f m k)
+      ⊎ ((k : ℕ) → k < n → IsClosedAt code f k)
   find f zero = inr (λ k lt. absurd (omega (arith, lt)))
   find f (suc n) = elim (find f n) [
     | inl (m, k, lt, miss) ↦ inl (m, k, omega (arith, lt), miss)

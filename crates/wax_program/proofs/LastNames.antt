@@ -1,5 +1,6 @@
 -- Programs that begin with components and stay in one from then on.
-use Rattle.std.proofs.Common.{◌≡◌, ℕ, zero, suc, ◌+◌, ◌-◌, ◌≤◌, ◌<◌, ◌⊎◌, ◌↔◌, List, [], ◌∷◌, ◌++◌, length, Some, slice_get, refl, sym, ◌∙◌, ap, subst, inl, inr, arith}
+use Rattle.std.proofs.Common.{◌≡◌, ℕ, zero, suc, ◌+◌, ◌-◌, ◌≤◌, ◌<◌, ◌⊎◌, ◌↔◌, List, [], ◌∷◌, ◌++◌, length}
+use Rattle.std.proofs.Common.{Some, slice_get, refl, sym, ◌∙◌, ap, subst, inl, inr, arith}
 use Rattle.std.proofs.Common.{◌*◌, length-append}
 use Rattle.std.proofs.lemmas.Option.{slice_get_within}
 use Rattle.std.proofs.Common.{Bool, IfOk, IsTrue}
@@ -10,7 +11,8 @@ use Rattle.std.specs.Prelude.{Result, Ok, Err}
 use Rattle.std.proofs.lemmas.Str.Ascii.{IsAscii-cons, IsAscii-nil}
 use Rattle.std.specs.Str.{IsUtf8, chars}
 use Rattle.wax_program.specs.declared.instruction.Instruction.{Instruction}
-use Rattle.wax_program.specs.declared.instruction.Instruction.TheVariants.{Check, Repeat, Components, Fork, Jump, Back, End}
+use Rattle.wax_program.specs.declared.instruction.Instruction.TheVariants.{Check, Repeat, Components, Fork}
+use Rattle.wax_program.specs.declared.instruction.Instruction.TheVariants.{Jump, Back, End}
 use Rattle.wax_program.specs.Last.{IsCutBetween, IsLastName, ReadsLast}
 use Rattle.wax_program.specs.Machine.{PassesTest, Moves, AcceptsIn, Accepts}
 use Rattle.wax_program.specs.inner.Names.{StaysInName, StayInName}
@@ -45,7 +47,8 @@ name_same (c ∷ p) q (d ∷ r) s e h g = name_same p q r s (tail_same e) h g
 module _ (code : List Instruction) where
   -- ---- from the place 2 on
   moved : (n k : ℕ) (i : Instruction) (s : List ℕ) → 2 ≤ k → StaysInName i k
-      → ((x : ℕ) (t : List ℕ) → 2 ≤ x → AcceptsIn code n x t → HasNoSlash t) → Moves i (AcceptsIn code n) k s → HasNoSlash s
+      → ((x : ℕ) (t : List ℕ) → 2 ≤ x → AcceptsIn code n x t → HasNoSlash t)
+      → Moves i (AcceptsIn code n) k s → HasNoSlash s
   moved n k (Check t) [] le stays again m = absurd m
   moved n k (Check t) (c ∷ s) le stays again m =
       ((λ e. stays (subst (PassesTest t) e m.0)), again (k + 1) s (omega (arith, le)) m.1)
@@ -71,7 +74,8 @@ module _ (code : List Instruction) where
 
     module _ (fork : slice_get code 0 ≡ Some (Fork 1)) (components : slice_get code 1 ≡ Some Components) where
       not_ended : (k : ℕ) (i : Instruction) → slice_get code k ≡ Some i → k ≡ length code → ⊥
-      not_ended k i is e = let inside : k < length code = slice_get_within code k i is in omega (arith, inside, e)
+      not_ended k i is e = let inside : k < length code = slice_get_within code k i is in
+          omega (arith, inside, e)
 
       -- ---- the components are some text and a `/`
       taken : (n : ℕ) (s : List ℕ) → AcceptsIn code n 1 s
@@ -79,10 +83,12 @@ module _ (code : List Instruction) where
       taken zero s a = absurd a
       taken (suc n) s (inl a) = absurd (not_ended 1 Components components a.0)
       taken (suc n) [] (inr a) =
-          let m : Moves Components (AcceptsIn code n) 1 [] = subst (λ z. Moves z (AcceptsIn code n) 1 []) (some_same (sym a.1 ∙ components)) a.2 in
+          let m : Moves Components (AcceptsIn code n) 1 [] =
+          subst (λ z. Moves z (AcceptsIn code n) 1 []) (some_same (sym a.1 ∙ components)) a.2 in
           absurd m
       taken (suc n) (c ∷ s) (inr a) =
-          let m : Moves Components (AcceptsIn code n) 1 (c ∷ s) = subst (λ z. Moves z (AcceptsIn code n) 1 (c ∷ s)) (some_same (sym a.1 ∙ components)) a.2 in
+          let m : Moves Components (AcceptsIn code n) 1 (c ∷ s) =
+          subst (λ z. Moves z (AcceptsIn code n) 1 (c ∷ s)) (some_same (sym a.1 ∙ components)) a.2 in
           elim m [
             | inl b ↦ (let (p, q, e, acc) = taken n s b in (c ∷ p, q, ap (λ z. c ∷ z) e, acc))
             | inr b ↦ ([], s, ap (λ z. z ∷ s) b.0, (n, b.1))
@@ -97,7 +103,8 @@ module _ (code : List Instruction) where
       forked s (zero, a) = absurd a
       forked s (suc n, inl a) = absurd (not_ended 0 (Fork 1) fork a.0)
       forked s (suc n, inr a) =
-          let m : Moves (Fork 1) (AcceptsIn code n) 0 s = subst (λ z. Moves z (AcceptsIn code n) 0 s) (some_same (sym a.1 ∙ fork)) a.2 in
+          let m : Moves (Fork 1) (AcceptsIn code n) 0 s =
+          subst (λ z. Moves z (AcceptsIn code n) 0 s) (some_same (sym a.1 ∙ fork)) a.2 in
           elim m [ inl b ↦ inl (n, b) | inr b ↦ inr (n, b) ]
 
       pub reads_last_of : ReadsLast code
@@ -105,7 +112,8 @@ module _ (code : List Instruction) where
         where
           alone : Accepts code 0 name → Accepts code 2 name
           alone a = elim (forked name a) [
-            | inl b ↦ (let (p, q, e, acc) = taken b.0 name b.1 in absurd (slash_inside p q (subst HasNoSlash e none)))
+            | inl b ↦ (let (p, q, e, acc) = taken b.0 name b.1 in
+                absurd (slash_inside p q (subst HasNoSlash e none)))
             | inr b ↦ b
           ]
 
@@ -115,9 +123,11 @@ module _ (code : List Instruction) where
           whole : Accepts code 0 (before ++ 47 ∷ name) → Accepts code 2 name
           whole a = elim (forked (before ++ 47 ∷ name) a) [
             | inl b ↦ (let (p, q, e, acc) = taken b.0 (before ++ 47 ∷ name) b.1 in
-                let same : name ≡ q = name_same before name p q e none (no_slash acc.0 2 q (omega arith) acc.1) in
+                let same : name ≡ q =
+                name_same before name p q e none (no_slash acc.0 2 q (omega arith) acc.1) in
                 subst (Accepts code 2) (sym same) acc)
-            | inr b ↦ absurd (slash_inside before name (no_slash b.0 2 (before ++ 47 ∷ name) (omega arith) b.1))
+            | inr b ↦
+                absurd (slash_inside before name (no_slash b.0 2 (before ++ 47 ∷ name) (omega arith) b.1))
           ]
 
           whole_too : Accepts code 2 name → Accepts code 0 (before ++ 47 ∷ name)
@@ -125,7 +135,8 @@ module _ (code : List Instruction) where
 
 -- ---- the last component of a text
 past_slash : (bs : List ℕ) → IsUtf8 bs → IsUtf8 (47 ∷ bs)
-past_slash bs u = IsUtf8-append (47 ∷ []) bs (IsUtf8-from_ascii (47 ∷ []) (IsAscii-cons 47 [] (omega arith) IsAscii-nil)) u
+past_slash bs u =
+    IsUtf8-append (47 ∷ []) bs (IsUtf8-from_ascii (47 ∷ []) (IsAscii-cons 47 [] (omega arith) IsAscii-nil)) u
 
 -- the bytes of a text that is cut behind a `/`
 pub cut_chars : (front name : List ℕ) → IsUtf8 front → IsUtf8 name

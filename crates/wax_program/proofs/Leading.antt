@@ -1,17 +1,21 @@
 -- PlaceFlags that no instruction adds to are exactly those of the places that lead on.
-use Rattle.std.proofs.Common.{◌≡◌, ◌≢◌, ◌⊎◌, ℕ, zero, suc, ◌+◌, ◌-◌, ◌<◌, ◌≤◌, List, [], ◌∷◌, Option, Some, None, length, slice_get, inl, inr, refl, sym, ◌∙◌, subst, arith}
+use Rattle.std.proofs.Common.{◌≡◌, ◌≢◌, ◌⊎◌, ℕ, zero, suc, ◌+◌, ◌-◌, ◌<◌, ◌≤◌, List, [], ◌∷◌, Option, Some}
+use Rattle.std.proofs.Common.{None, length, slice_get, inl, inr, refl, sym, ◌∙◌, subst, arith}
 use Rattle.std.proofs.lemmas.Option.{slice_get_within}
 use Rattle.wax_query.proofs.Below.{path_begins, path_goes_on}
 use Rattle.wax_query.specs.Below.{IsPlainPath}
 use Rattle.wax_program.specs.declared.instruction.Instruction.{Instruction}
-use Rattle.wax_program.specs.declared.instruction.Instruction.TheVariants.{Check, Repeat, Components, Fork, Jump, Back, End}
+use Rattle.wax_program.specs.declared.instruction.Instruction.TheVariants.{Check, Repeat, Components, Fork}
+use Rattle.wax_program.specs.declared.instruction.Instruction.TheVariants.{Jump, Back, End}
 use Rattle.wax_program.specs.declared.instruction.Test.{Test}
 use Rattle.wax_program.specs.declared.onward.Ahead.{Ahead}
 use Rattle.wax_program.specs.declared.onward.Ahead.TheVariants.{Rest, Path, Below}
 use Rattle.wax_program.specs.Machine.{PassesTest, Moves, AcceptsIn, Accepts, mark}
 use Rattle.wax_program.specs.Onward.{AreFlagsOf, PlaceFlags, GoesOn, IsAhead}
-use Rattle.wax_program.specs.inner.Leads.{AreSound, Holds, HoldsAfter, IsClosedAt, LeadsOn, LeadsBy, TakesMark, onward_by_other, onward_by_slash}
-use Rattle.wax_program.proofs.Steps.{after_test, after_last, after_one, after_any, after_slash as past_slash, after_fork, after_jump, after_back}
+use Rattle.wax_program.specs.inner.Leads.{AreSound, Holds, HoldsAfter, IsClosedAt, LeadsOn, LeadsBy}
+use Rattle.wax_program.specs.inner.Leads.{TakesMark, onward_by_other, onward_by_slash}
+use Rattle.wax_program.proofs.Steps.{after_test, after_last, after_one, after_any, after_slash as past_slash}
+use Rattle.wax_program.proofs.Steps.{after_fork, after_jump, after_back}
 
 -- ---- how a text goes on
 abbrev IsAheadIf : Option Ahead → List ℕ → Type 0
@@ -60,7 +64,8 @@ mark_least Rest low high h = h
 mark_least Path low high h = h
 mark_least Below low high h = absurd h
 
-takes_mark : (m : Ahead) (low high number : ℕ) (s : List ℕ) → s ≡ mark number ∷ [] → IsAhead m s → low ≤ number → number ≤ high → TakesMark m low high
+takes_mark : (m : Ahead) (low high number : ℕ) (s : List ℕ) → s ≡ mark number ∷ [] → IsAhead m s
+    → low ≤ number → number ≤ high → TakesMark m low high
 takes_mark Rest low high number s e h least most = omega (arith, least, most)
 takes_mark Path low high number s e h least most = omega (arith, least, most)
 takes_mark Below low high number s e h least most = absurd (no_slash number (heads (sym e ∙ h.2)))
@@ -84,31 +89,42 @@ module _ (code : List Instruction) (f : PlaceFlags) where
     zero_other : (c : ℕ) → c ≡ 0 → c ≢ 47
     zero_other c z e = omega (arith, z, e)
 
-    sound_by : (t : Test) (m : Ahead) (k x : ℕ) → ((c : ℕ) (s : List ℕ) → PassesTest t c → Accepts code x s → Accepts code k (c ∷ s))
+    sound_by : (t : Test) (m : Ahead) (k x : ℕ)
+        → ((c : ℕ) (s : List ℕ) → PassesTest t c → Accepts code x s → Accepts code k (c ∷ s))
         → LeadsBy t f m x → GoesOn code m k
     sound_by t m k x on (inl ((c, ne, p), h)) =
         let (s, ahead, a) = goes_if (onward_by_other m) x h in (c ∷ s, ahead_other m c s ne ahead, on c s p a)
     sound_by t m k x on (inr (p, h)) =
         let (s, ahead, a) = goes_if (onward_by_slash m) x h in (47 ∷ s, ahead_slash m s ahead, on 47 s p a)
 
-    sound_from : (m : Ahead) (k x : ℕ) → ((s : List ℕ) → Accepts code x s → Accepts code k s) → Holds f m x → GoesOn code m k
+    sound_from : (m : Ahead) (k x : ℕ) → ((s : List ℕ) → Accepts code x s → Accepts code k s)
+        → Holds f m x → GoesOn code m k
     sound_from m k x on h = let (s, ahead, a) = sound m x h in (s, ahead, on s a)
 
-    pub leads_soundly : (m : Ahead) (k : ℕ) (i : Instruction) → slice_get code k ≡ Some i → LeadsOn i f m k → GoesOn code m k
+    pub leads_soundly : (m : Ahead) (k : ℕ) (i : Instruction) → slice_get code k ≡ Some i
+        → LeadsOn i f m k → GoesOn code m k
     leads_soundly m k (Check t) is h = sound_by t m k (k + 1) (λ c s p a. after_test t code k c s is p a) h
     leads_soundly m k (Repeat t) is (inl h) = sound_from m k (k + 1) (λ s a. after_last t code k s is a) h
     leads_soundly m k (Repeat t) is (inr h) = sound_by t m k k (λ c s p a. after_one t code k c s is p a) h
     leads_soundly m k Components is (inl h) =
-        let (s, ahead, a) = goes_if (onward_by_other m) k h in (0 ∷ s, ahead_other m 0 s (zero_other 0 refl) ahead, after_any code k 0 s is a)
+        let (s, ahead, a) = goes_if (onward_by_other m) k h in
+        (0 ∷ s, ahead_other m 0 s (zero_other 0 refl) ahead, after_any code k 0 s is a)
     leads_soundly m k Components is (inr (inl h)) =
-        let (s, ahead, a) = goes_if (onward_by_slash m) k h in (47 ∷ s, ahead_slash m s ahead, after_any code k 47 s is a)
+        let (s, ahead, a) = goes_if (onward_by_slash m) k h in
+        (47 ∷ s, ahead_slash m s ahead, after_any code k 47 s is a)
     leads_soundly m k Components is (inr (inr h)) =
-        let (s, ahead, a) = goes_if (onward_by_slash m) (k + 1) h in (47 ∷ s, ahead_slash m s ahead, past_slash code k 47 s is refl a)
+        let (s, ahead, a) = goes_if (onward_by_slash m) (k + 1) h in
+        (47 ∷ s, ahead_slash m s ahead, past_slash code k 47 s is refl a)
     leads_soundly m k (Fork n) is (inl h) = sound_from m k (k + 1) (λ s a. after_fork n code k s is (inl a)) h
-    leads_soundly m k (Fork n) is (inr h) = sound_from m k (k + 1 + n) (λ s a. after_fork n code k s is (inr a)) h
+    leads_soundly m k (Fork n) is (inr h) =
+        sound_from m k (k + 1 + n) (λ s a. after_fork n code k s is (inr a)) h
     leads_soundly m k (Jump n) is h = sound_from m k (k + 1 + n) (λ s a. after_jump n code k s is a) h
     leads_soundly m k (Back n) is h = sound_from m k (k - n) (λ s a. after_back n code k s is a) h
-    leads_soundly m k (End low high) is h = (mark low ∷ [], mark_ahead m low high low h, (1, inr (End low high, is, (low, omega arith, mark_least m low high h, refl))))
+    leads_soundly m k (End low high) is h = (
+      mark low ∷ [],
+      mark_ahead m low high low h,
+      (1, inr (End low high, is, (low, omega arith, mark_least m low high h, refl))),
+    )
 
   -- ---- which places have a flag
   module _ (closed : (k : ℕ) → k < length code → IsClosedAt code f k) (end : Holds f Rest (length code)) where
@@ -155,7 +171,8 @@ module _ (code : List Instruction) (f : PlaceFlags) where
     holds_all zero m k s a h = absurd a
     holds_all (suc n) m k s (inl (e, none)) h = at_end m k e (subst (IsAhead m) none h)
     holds_all (suc n) m k s (inr (i, is, a)) h =
-        closed k (slice_get_within code k i is) m i is (leads_on n m k i s (λ m x t b g. holds_all n m x t b g) h a)
+        closed k (slice_get_within code k i is) m i is
+        (leads_on n m k i s (λ m x t b g. holds_all n m x t b g) h a)
 
     pub flags_are : AreSound code f → AreFlagsOf code f
     flags_are sound m k = (sound m k, (λ g. holds_all g.2.0 m k g.0 g.2.1 g.1))

@@ -1,5 +1,6 @@
 -- PlaceFlags that are added.
-use Rattle.std.proofs.Common.{◌≡◌, ◌⊎◌, ℕ, ◌+◌, ◌*◌, ◌<◌, ◌≤◌, Bool, true, Some, List, [], length, set, slice_get, inl, inr, refl, sym, ◌∙◌, ap, subst, arith}
+use Rattle.std.proofs.Common.{◌≡◌, ◌⊎◌, ℕ, ◌+◌, ◌*◌, ◌<◌, ◌≤◌, Bool, true, Some, List, [], length, set}
+use Rattle.std.proofs.Common.{slice_get, inl, inr, refl, sym, ◌∙◌, ap, subst, arith}
 use Rattle.wax_program.specs.Places.{HoldsPlace, Within, member_count}
 use Rattle.wax_program.proofs.Members.{added_keeps, added_only, has_added, members_set, members_within}
 use Rattle.wax_program.specs.declared.instruction.Instruction.{Instruction}
@@ -44,12 +45,14 @@ module _ (f : PlaceFlags) (x : List Bool) (k : ℕ) (within : k ≤ f.size) (roo
         counted = omega (arith, counted f.rest x k e lt none);
       }
     where
-      kept : (n : Ahead) (y : ℕ) → Holds f n y → Holds (record { size = f.size; rest = x; path = f.path; below = f.below }) n y
+      kept : (n : Ahead) (y : ℕ) → Holds f n y
+          → Holds (record { size = f.size; rest = x; path = f.path; below = f.below }) n y
       kept Rest y h = keeps f.rest x k e y h
       kept Path y h = h
       kept Below y h = h
 
-      added : (n : Ahead) (y : ℕ) → Holds (record { size = f.size; rest = x; path = f.path; below = f.below }) n y → Holds f n y ⊎ ((n ≡ Rest) × (y ≡ k))
+      added : (n : Ahead) (y : ℕ) → Holds (record { size = f.size; rest = x; path = f.path; below = f.below })
+          n y → Holds f n y ⊎ ((n ≡ Rest) × (y ≡ k))
       added Rest y h = tagged refl (only f.rest x k e y h)
       added Path y h = inl h
       added Below y h = inl h
@@ -66,12 +69,14 @@ module _ (f : PlaceFlags) (x : List Bool) (k : ℕ) (within : k ≤ f.size) (roo
         counted = omega (arith, counted f.path x k e lt none);
       }
     where
-      kept : (n : Ahead) (y : ℕ) → Holds f n y → Holds (record { size = f.size; rest = f.rest; path = x; below = f.below }) n y
+      kept : (n : Ahead) (y : ℕ) → Holds f n y
+          → Holds (record { size = f.size; rest = f.rest; path = x; below = f.below }) n y
       kept Rest y h = h
       kept Path y h = keeps f.path x k e y h
       kept Below y h = h
 
-      added : (n : Ahead) (y : ℕ) → Holds (record { size = f.size; rest = f.rest; path = x; below = f.below }) n y → Holds f n y ⊎ ((n ≡ Path) × (y ≡ k))
+      added : (n : Ahead) (y : ℕ) → Holds (record { size = f.size; rest = f.rest; path = x; below = f.below })
+          n y → Holds f n y ⊎ ((n ≡ Path) × (y ≡ k))
       added Rest y h = inl h
       added Path y h = tagged refl (only f.path x k e y h)
       added Below y h = inl h
@@ -88,12 +93,14 @@ module _ (f : PlaceFlags) (x : List Bool) (k : ℕ) (within : k ≤ f.size) (roo
         counted = omega (arith, counted f.below x k e lt none);
       }
     where
-      kept : (n : Ahead) (y : ℕ) → Holds f n y → Holds (record { size = f.size; rest = f.rest; path = f.path; below = x }) n y
+      kept : (n : Ahead) (y : ℕ) → Holds f n y
+          → Holds (record { size = f.size; rest = f.rest; path = f.path; below = x }) n y
       kept Rest y h = h
       kept Path y h = h
       kept Below y h = keeps f.below x k e y h
 
-      added : (n : Ahead) (y : ℕ) → Holds (record { size = f.size; rest = f.rest; path = f.path; below = x }) n y → Holds f n y ⊎ ((n ≡ Below) × (y ≡ k))
+      added : (n : Ahead) (y : ℕ) → Holds (record { size = f.size; rest = f.rest; path = f.path; below = x })
+          n y → Holds f n y ⊎ ((n ≡ Below) × (y ≡ k))
       added Rest y h = inl h
       added Path y h = inl h
       added Below y h = tagged refl (only f.below x k e y h)
@@ -101,19 +108,30 @@ module _ (f : PlaceFlags) (x : List Bool) (k : ℕ) (within : k ≤ f.size) (roo
   few_of : (a b c : List Bool) → Within (f.size + 1) a → Within (f.size + 1) b → Within (f.size + 1) c
       → member_count a + member_count b + member_count c ≤ 3 * (f.size + 1)
   few_of a b c wa wb wc =
-      omega (arith, members_within (f.size + 1) a wa, members_within (f.size + 1) b wb, members_within (f.size + 1) c wc)
+      omega (
+        arith,
+        members_within (f.size + 1) a wa,
+        members_within (f.size + 1) b wb,
+        members_within (f.size + 1) c wc,
+      )
 
   inside : k < f.size + 1
   inside = omega (arith, within)
 
-  pub few_rest : x ≡ set f.rest k true → member_count x + member_count f.path + member_count f.below ≤ 3 * (f.size + 1)
-  few_rest e = few_of x f.path f.below (still_within f.rest x k e (f.size + 1) inside room.rest_within) room.path_within room.below_within
+  pub few_rest : x ≡ set f.rest k true
+      → member_count x + member_count f.path + member_count f.below ≤ 3 * (f.size + 1)
+  few_rest e = few_of x f.path f.below (still_within f.rest x k e (f.size + 1) inside room.rest_within)
+      room.path_within room.below_within
 
-  pub few_path : x ≡ set f.path k true → member_count f.rest + member_count x + member_count f.below ≤ 3 * (f.size + 1)
-  few_path e = few_of f.rest x f.below room.rest_within (still_within f.path x k e (f.size + 1) inside room.path_within) room.below_within
+  pub few_path : x ≡ set f.path k true
+      → member_count f.rest + member_count x + member_count f.below ≤ 3 * (f.size + 1)
+  few_path e = few_of f.rest x f.below room.rest_within
+      (still_within f.path x k e (f.size + 1) inside room.path_within) room.below_within
 
-  pub few_below : x ≡ set f.below k true → member_count f.rest + member_count f.path + member_count x ≤ 3 * (f.size + 1)
-  few_below e = few_of f.rest f.path x room.rest_within room.path_within (still_within f.below x k e (f.size + 1) inside room.below_within)
+  pub few_below : x ≡ set f.below k true
+      → member_count f.rest + member_count f.path + member_count x ≤ 3 * (f.size + 1)
+  few_below e = few_of f.rest f.path x room.rest_within room.path_within
+      (still_within f.below x k e (f.size + 1) inside room.below_within)
 
 -- ---- the flags of a program
 module _ (code : List Instruction) where
@@ -125,14 +143,16 @@ module _ (code : List Instruction) where
     counted = omega (arith, ap flag_count e);
   }
 
-  pub gains_mark : (old new : PlaceFlags) (m : Ahead) (k : ℕ) → Marks old new m k → (i : Instruction) → slice_get code k ≡ Some i → LeadsOn i old m k
+  pub gains_mark : (old new : PlaceFlags) (m : Ahead) (k : ℕ) → Marks old new m k → (i : Instruction)
+      → slice_get code k ≡ Some i → LeadsOn i old m k
       → Gains code old new
   gains_mark old new m k marks i is leads = record {
     size = marks.size;
     keeps = marks.keeps;
     sound = λ s n x h. elim (marks.only n x h) [
       | inl g ↦ s n x g
-      | inr (en, ex) ↦ subst (λ n. GoesOn code n x) (sym en) (subst (GoesOn code m) (sym ex) (leads_soundly code old s m k i is leads))
+      | inr (en, ex) ↦ subst (λ n. GoesOn code n x) (sym en)
+          (subst (GoesOn code m) (sym ex) (leads_soundly code old s m k i is leads))
     ];
     counted = omega (arith, marks.counted);
   }
@@ -146,7 +166,8 @@ module _ (code : List Instruction) where
   }
 
   -- the first flag is that of the program's end
-  pub begins_soundly : (old new : PlaceFlags) (k : ℕ) → ((m : Ahead) (x : ℕ) → Holds old m x → ⊥) → Marks old new Rest k → k ≡ length code
+  pub begins_soundly : (old new : PlaceFlags) (k : ℕ) → ((m : Ahead) (x : ℕ) → Holds old m x → ⊥)
+      → Marks old new Rest k → k ≡ length code
       → AreSound code new
   begins_soundly old new k none marks e m x h = elim (marks.only m x h) [
     | inl g ↦ absurd (none m x g)

@@ -1,12 +1,15 @@
 -- The ends that a round reads.
-use Rattle.std.proofs.Common.{Contains, ◌++◌, ◌↔◌, get_or, ◌≡◌, ℕ, zero, suc, ◌+◌, ◌-◌, ◌<◌, ◌≤◌, ◌⊎◌, Bool, List, [], ◌∷◌, length, Some, slice_get, refl, sym, ◌∙◌, ap, subst, inl, inr, arith}
+use Rattle.std.proofs.Common.{Contains, ◌++◌, ◌↔◌, get_or, ◌≡◌, ℕ, zero, suc, ◌+◌, ◌-◌, ◌<◌, ◌≤◌, ◌⊎◌, Bool}
+use Rattle.std.proofs.Common.{List, [], ◌∷◌, length, Some, slice_get, refl, sym, ◌∙◌, ap, subst, inl, inr}
+use Rattle.std.proofs.Common.{arith}
 use Rattle.std.proofs.lemmas.Bool.{cases_lt}
 use Rattle.std.proofs.lemmas.List.{get_or_default}
 use Rattle.std.proofs.lemmas.List.Elements.{Contains-append_left, Contains-push, Contains-push_cases}
 use Rattle.std.proofs.lemmas.Option.{slice_get_within}
 use Rattle.wax_program.specs.Places.{HoldsPlace}
 use Rattle.wax_program.specs.declared.instruction.Instruction.{Instruction}
-use Rattle.wax_program.specs.declared.instruction.Instruction.TheVariants.{Check, Repeat, Components, Fork, Jump, Back, End}
+use Rattle.wax_program.specs.declared.instruction.Instruction.TheVariants.{Check, Repeat, Components, Fork}
+use Rattle.wax_program.specs.declared.instruction.Instruction.TheVariants.{Jump, Back, End}
 use Rattle.wax_program.specs.Closed.{LeadsWithin, IsClosed, AreEndsAt, IsEndAt, ReadsEnd}
 use Rattle.wax_program.specs.Machine.{Moves, AcceptsIn, mark}
 use Rattle.wax_program.specs.Threads.{AnyOf, IsDone, IsReached, Led, Position, Round}
@@ -21,7 +24,8 @@ nil_cons e = cc
 head_same : {a b : ℕ} {t u : List ℕ} → a ∷ t ≡ b ∷ u → a ≡ b
 head_same e = cc
 
-closed_at : (code : List Instruction) (k : ℕ) (i : Instruction) → IsClosed code → slice_get code k ≡ Some i → LeadsWithin i (length code - k - 1)
+closed_at : (code : List Instruction) (k : ℕ) (i : Instruction) → IsClosed code → slice_get code k ≡ Some i
+    → LeadsWithin i (length code - k - 1)
 closed_at [] k i closed is = absurd (omega (arith, slice_get_within [] k i is))
 closed_at (j ∷ js) zero i closed is =
     let e : length js ≡ length (j ∷ js) - 0 - 1 = omega arith in
@@ -46,7 +50,8 @@ module _ (code : List Instruction) (closed : IsClosed code) where
   never_nil : (n k : ℕ) → k < length code → AcceptsIn code n k [] → ⊥
   never_nil zero k lt h = h
   never_nil (suc n) k lt (inl h) = omega (arith, lt, h.0)
-  never_nil (suc n) k lt (inr h) = nil_moves n k h.0 lt (closed_at code k h.0 closed h.1) (λ x l m. never_nil n x l m) h.2
+  never_nil (suc n) k lt (inr h) =
+      nil_moves n k h.0 lt (closed_at code k h.0 closed h.1) (λ x l m. never_nil n x l m) h.2
 
   nil_end : (x : List ℕ) (c : ℕ) → x ++ c ∷ [] ≡ [] → ⊥
   nil_end [] c e = nil_cons (sym e)
@@ -56,16 +61,19 @@ module _ (code : List Instruction) (closed : IsClosed code) where
   tail_same e = cc
 
   plain_moves : (n k : ℕ) (i : Instruction) (x : List ℕ) (c : ℕ) → c < 1114112 → slice_get code k ≡ Some i
-      → ((y : ℕ) (z : List ℕ) → AcceptsIn code n y (z ++ c ∷ []) → ⊥) → Moves i (AcceptsIn code n) k (x ++ c ∷ []) → ⊥
+      → ((y : ℕ) (z : List ℕ) → AcceptsIn code n y (z ++ c ∷ []) → ⊥)
+      → Moves i (AcceptsIn code n) k (x ++ c ∷ []) → ⊥
   plain_moves n k (Check t) [] c low is again m =
       let lt : k < length code = slice_get_within code k (Check t) is in
       never_nil n (k + 1) (omega (arith, lt, closed_at code k (Check t) closed is)) m.1
   plain_moves n k (Check t) (d ∷ x) c low is again m = again (k + 1) x m.1
   plain_moves n k (Repeat t) [] c low is again (inl m) = again (k + 1) [] m
-  plain_moves n k (Repeat t) [] c low is again (inr m) = never_nil n k (slice_get_within code k (Repeat t) is) m.1
+  plain_moves n k (Repeat t) [] c low is again (inr m) =
+      never_nil n k (slice_get_within code k (Repeat t) is) m.1
   plain_moves n k (Repeat t) (d ∷ x) c low is again (inl m) = again (k + 1) (d ∷ x) m
   plain_moves n k (Repeat t) (d ∷ x) c low is again (inr m) = again k x m.1
-  plain_moves n k Components [] c low is again (inl m) = never_nil n k (slice_get_within code k Components is) m
+  plain_moves n k Components [] c low is again (inl m) =
+      never_nil n k (slice_get_within code k Components is) m
   plain_moves n k Components [] c low is again (inr m) =
       let lt : k < length code = slice_get_within code k Components is in
       never_nil n (k + 1) (omega (arith, lt, closed_at code k Components closed is)) m.1
@@ -82,27 +90,36 @@ module _ (code : List Instruction) (closed : IsClosed code) where
   pub never_plain : (n k : ℕ) (x : List ℕ) (c : ℕ) → c < 1114112 → AcceptsIn code n k (x ++ c ∷ []) → ⊥
   never_plain zero k x c low h = h
   never_plain (suc n) k x c low (inl h) = nil_end x c h.1
-  never_plain (suc n) k x c low (inr h) = plain_moves n k h.0 x c low h.1 (λ y z m. never_plain n y z c low m) h.2
+  never_plain (suc n) k x c low (inr h) =
+      plain_moves n k h.0 x c low h.1 (λ y z m. never_plain n y z c low m) h.2
 
-  module _ (old : List Bool) (p : Position) (sized : p.size ≡ length code) (done : IsDone p) (d : Round code 47 old p) where
+  module _ (old : List Bool) (p : Position) (sized : p.size ≡ length code) (done : IsDone p)
+      (d : Round code 47 old p) where
     below : (n k : ℕ) (s : List ℕ) → AcceptsIn code n k s → k ≤ p.size
     below n k s a = omega (arith, in_range code n k s a, sized)
 
-    mark_moves : (j n k : ℕ) (i : Instruction) → slice_get code k ≡ Some i → HoldsPlace p.read k → Led i 47 k p
+    mark_moves : (j n k : ℕ) (i : Instruction) → slice_get code k ≡ Some i
+        → HoldsPlace p.read k → Led i 47 k p
         → ((x : ℕ) → IsReached p x → AcceptsIn code n x (mark j ∷ []) → ReadsEnd code p j)
         → Moves i (AcceptsIn code n) k (mark j ∷ []) → ReadsEnd code p j
     mark_moves j n k (Check t) is read led again m =
         let lt : k < length code = slice_get_within code k (Check t) is in
         absurd (never_nil n (k + 1) (omega (arith, lt, closed_at code k (Check t) closed is)) m.1)
-    mark_moves j n k (Repeat t) is read led again (inl m) = again (k + 1) (led.0 (below n (k + 1) (mark j ∷ []) m)) m
-    mark_moves j n k (Repeat t) is read led again (inr m) = absurd (never_nil n k (slice_get_within code k (Repeat t) is) m.1)
-    mark_moves j n k Components is read led again (inl m) = absurd (never_nil n k (slice_get_within code k Components is) m)
+    mark_moves j n k (Repeat t) is read led again (inl m) =
+        again (k + 1) (led.0 (below n (k + 1) (mark j ∷ []) m)) m
+    mark_moves j n k (Repeat t) is read led again (inr m) =
+        absurd (never_nil n k (slice_get_within code k (Repeat t) is) m.1)
+    mark_moves j n k Components is read led again (inl m) =
+        absurd (never_nil n k (slice_get_within code k Components is) m)
     mark_moves j n k Components is read led again (inr m) =
         let lt : k < length code = slice_get_within code k Components is in
         absurd (never_nil n (k + 1) (omega (arith, lt, closed_at code k Components closed is)) m.1)
-    mark_moves j n k (Fork b) is read led again (inl m) = again (k + 1) (led.0 (below n (k + 1) (mark j ∷ []) m)) m
-    mark_moves j n k (Fork b) is read led again (inr m) = again (k + 1 + b) (led.1 (below n (k + 1 + b) (mark j ∷ []) m)) m
-    mark_moves j n k (Jump b) is read led again m = again (k + 1 + b) (led (below n (k + 1 + b) (mark j ∷ []) m)) m
+    mark_moves j n k (Fork b) is read led again (inl m) =
+        again (k + 1) (led.0 (below n (k + 1) (mark j ∷ []) m)) m
+    mark_moves j n k (Fork b) is read led again (inr m) =
+        again (k + 1 + b) (led.1 (below n (k + 1 + b) (mark j ∷ []) m)) m
+    mark_moves j n k (Jump b) is read led again m =
+        again (k + 1 + b) (led (below n (k + 1 + b) (mark j ∷ []) m)) m
     mark_moves j n k (Back b) is read led again m = again (k - b) (led (below n (k - b) (mark j ∷ []) m)) m
     mark_moves j n k (End low high) is read led again m =
         let same : m.0 ≡ j = omega (arith, head_same m.3) in
@@ -112,26 +129,33 @@ module _ (code : List Instruction) (closed : IsClosed code) where
     finds j zero k h a = absurd a
     finds j (suc n) k h (inl a) = absurd (nil_cons (sym a.1))
     finds j (suc n) k h (inr a) =
-        let read : HoldsPlace p.read k = was_read code 47 old p sized done d k h (slice_get_within code k a.0 a.1) in
+        let read : HoldsPlace p.read k =
+        was_read code 47 old p sized done d k h (slice_get_within code k a.0 a.1) in
         mark_moves j n k a.0 a.1 read (d.handled k read a.0 a.1) (λ x g b. finds j n x g b) a.2
 
     pub end_found : (j : ℕ) → AnyOf code old (mark j ∷ []) → ReadsEnd code p j
     end_found j h = finds j h.2.0 h.0 (d.begins h.0 h.1) h.2.1
 
     pub end_accepts : (j : ℕ) → ReadsEnd code p j → AnyOf code old (mark j ∷ [])
-    end_accepts j h = d.no_more h.0 (inr h.1) (mark j ∷ []) (1, inr (End h.2.0 h.2.1, h.2.2, (j, h.2.3, h.2.4, refl)))
+    end_accepts j h =
+        d.no_more h.0 (inr h.1) (mark j ∷ []) (1, inr (End h.2.0 h.2.1, h.2.2, (j, h.2.3, h.2.4, refl)))
 
 -- a round by `/` from a set of places reads exactly the ends whose marks some place of the set accepts
 pub ends_read : (code : List Instruction) (p q : Position) → IsClosed code → q.size ≡ length code → IsDone q
-    → Round code 47 p.pending q → (number : ℕ) → AnyOf code p.pending (mark number ∷ []) ↔ ReadsEnd code q number
-ends_read code p q closed sized done d j = ((λ h. end_found code closed p.pending q sized done d j h), (λ h. end_accepts code closed p.pending q sized done d j h))
+    → Round code 47 p.pending q → (number : ℕ) → AnyOf code p.pending (mark number ∷ [])
+    ↔ ReadsEnd code q number
+ends_read code p q closed sized done d j = (
+  (λ h. end_found code closed p.pending q sized done d j h),
+  (λ h. end_accepts code closed p.pending q sized done d j h),
+)
 
 -- ---- the ends at places before an index
 abbrev pub AreEndsBefore : List Instruction → List ℕ → ℕ → List ℕ → Type 0
 AreEndsBefore code places i numbers = (number : ℕ) → Contains numbers number
     ↔ ((k : ℕ) × ((j : ℕ) × (j < i) × (get_or places j k ≡ k)) × IsEndAt code k number)
 
-pub ends_step : (code : List Instruction) (places : List ℕ) (i x : ℕ) (old new : List ℕ) → i < length places → x ≡ get_or places i x
+pub ends_step : (code : List Instruction) (places : List ℕ) (i x : ℕ) (old new : List ℕ) → i < length places
+    → x ≡ get_or places i x
     → ((number : ℕ) → Contains new number ↔ (Contains old number ⊎ IsEndAt code x number))
     → AreEndsBefore code places i old → AreEndsBefore code places (i + 1) new
 ends_step code places i x old new lt is more before = λ number. (
@@ -148,13 +172,15 @@ ends_step code places i x old new lt is more before = λ number. (
   ]),
 )
 
-pub ends_none : (code : List Instruction) (places numbers : List ℕ) → numbers ≡ [] → AreEndsBefore code places 0 numbers
+pub ends_none : (code : List Instruction) (places numbers : List ℕ) → numbers ≡ []
+    → AreEndsBefore code places 0 numbers
 ends_none code places numbers none number = (
   (λ h. absurd (let lt : h.0 < length numbers = h.1 in omega (arith, lt, ap length none))),
   (λ h. absurd (omega (arith, h.1.1))),
 )
 
-pub ends_whole : (code : List Instruction) (places : List ℕ) (i : ℕ) (numbers : List ℕ) → length places ≤ i → i ≤ length places
+pub ends_whole : (code : List Instruction) (places : List ℕ) (i : ℕ) (numbers : List ℕ)
+    → length places ≤ i → i ≤ length places
     → AreEndsBefore code places i numbers → AreEndsAt code places numbers
 ends_whole code places i numbers past within before number = (
   (λ h. (let f = (before number).0 h in (f.0, (f.1.0, omega (arith, f.1.1, within), f.1.2), f.2))),
@@ -170,7 +196,8 @@ range_nothing low high old lt number = (
 )
 
 abbrev pub HasRange : ℕ → ℕ → List ℕ → List ℕ → Type 0
-HasRange low end old new = (number : ℕ) → Contains new number ↔ (Contains old number ⊎ ((low ≤ number) × (number < end)))
+HasRange low end old new = (number : ℕ) → Contains new number
+    ↔ (Contains old number ⊎ ((low ≤ number) × (number < end)))
 
 pub range_begins : (low : ℕ) (old : List ℕ) → HasRange low low old old
 range_begins low old number = (
@@ -178,7 +205,8 @@ range_begins low old number = (
   (λ h. elim h [ inl was ↦ was | inr g ↦ absurd (omega (arith, g.0, g.1)) ]),
 )
 
-pub range_step : (low end : ℕ) (old new : List ℕ) → low ≤ end → HasRange low end old new → HasRange low (end + 1) old (new ++ end ∷ [])
+pub range_step : (low end : ℕ) (old new : List ℕ) → low ≤ end → HasRange low end old new
+    → HasRange low (end + 1) old (new ++ end ∷ [])
 range_step low end old new le range number = (
   (λ h. elim (Contains-push_cases new end number h) [
     | inl was ↦ elim ((range number).0 was) [ inl g ↦ inl g | inr g ↦ inr (g.0, omega (arith, g.1)) ]
@@ -205,7 +233,8 @@ some_end : {low high from to : ℕ} → Some (End low high) ≡ Some (End from t
 some_end e = (cc, cc)
 
 -- what a range adds is what the end with it takes
-pub ends_of_range : (code : List Instruction) (k low high : ℕ) (old new : List ℕ) → slice_get code k ≡ Some (End low high)
+pub ends_of_range : (code : List Instruction) (k low high : ℕ) (old new : List ℕ)
+    → slice_get code k ≡ Some (End low high)
     → ((number : ℕ) → Contains new number ↔ (Contains old number ⊎ ((low ≤ number) × (number ≤ high))))
     → (number : ℕ) → Contains new number ↔ (Contains old number ⊎ IsEndAt code k number)
 ends_of_range code k low high old new is range number = (
@@ -218,7 +247,8 @@ ends_of_range code k low high old new is range number = (
 )
 
 -- where no end stands, nothing is added
-pub ends_of_none : (code : List Instruction) (k : ℕ) (old : List ℕ) → ((low high : ℕ) → slice_get code k ≡ Some (End low high) → ⊥)
+pub ends_of_none : (code : List Instruction) (k : ℕ) (old : List ℕ)
+    → ((low high : ℕ) → slice_get code k ≡ Some (End low high) → ⊥)
     → (number : ℕ) → Contains old number ↔ (Contains old number ⊎ IsEndAt code k number)
 ends_of_none code k old never number = (
   (λ h. inl h),

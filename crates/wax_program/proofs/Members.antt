@@ -1,5 +1,7 @@
 -- Sets of places as flags.
-use Rattle.std.proofs.Common.{◌≡◌, ℕ, zero, suc, ◌+◌, ◌<◌, ◌≤◌, ◌⊎◌, inl, inr, Bool, true, false, List, [], ◌∷◌, length, set, refl, sym, ◌∙◌, arith, true≢false, get_or-set_same, get_or-set_other, length-set}
+use Rattle.std.proofs.Common.{◌≡◌, ℕ, zero, suc, ◌+◌, ◌<◌, ◌≤◌, ◌⊎◌, inl, inr, Bool, true, false, List, []}
+use Rattle.std.proofs.Common.{◌∷◌, length, set, refl, sym, ◌∙◌, arith, true≢false, get_or-set_same}
+use Rattle.std.proofs.Common.{get_or-set_other, length-set}
 use Rattle.std.proofs.lemmas.Bool.{cases_eq, cases_lt}
 use Rattle.std.proofs.lemmas.List.{get_or_past}
 use Rattle.wax_program.specs.Places.{HoldsPlace, IsEmpty, Within, member_count}
@@ -15,8 +17,10 @@ members_within zero (false ∷ flags) h = members_within zero flags (λ k g. abs
   where
     no_place : (k : ℕ) → suc k < 0 → ⊥
     no_place k e = omega (arith, e)
-members_within (suc n) (true ∷ flags) h = omega (arith, members_within n flags (λ k g. let e : suc k < suc n = h (suc k) g in omega (arith, e)))
-members_within (suc n) (false ∷ flags) h = omega (arith, members_within n flags (λ k g. let e : suc k < suc n = h (suc k) g in omega (arith, e)))
+members_within (suc n) (true ∷ flags) h =
+    omega (arith, members_within n flags (λ k g. let e : suc k < suc n = h (suc k) g in omega (arith, e)))
+members_within (suc n) (false ∷ flags) h =
+    omega (arith, members_within n flags (λ k g. let e : suc k < suc n = h (suc k) g in omega (arith, e)))
 
 pub members_none : (flags : List Bool) → IsEmpty flags → member_count flags ≡ 0
 members_none flags none = omega (arith, members_within 0 flags (λ k h. absurd (none k h)))
@@ -28,7 +32,8 @@ members_some (false ∷ flags) zero h = absurd (true≢false (sym h))
 members_some (false ∷ flags) (suc k) h = members_some flags k h
 
 -- a new place counts one more
-pub members_set : (flags : List Bool) (at : ℕ) → at < length flags → (HoldsPlace flags at → ⊥) → member_count (set flags at true) ≡ member_count flags + 1
+pub members_set : (flags : List Bool) (at : ℕ) → at < length flags → (HoldsPlace flags at → ⊥)
+    → member_count (set flags at true) ≡ member_count flags + 1
 members_set [] at h e = omega (arith, h)
 members_set (true ∷ flags) zero h e = absurd (e refl)
 members_set (false ∷ flags) zero h e = refl
@@ -64,7 +69,8 @@ module _ (flags : List Bool) (k : ℕ) where
   removed_fewer x h = elim (cases_eq x k) [
     | inl same ↦ elim (cases_lt k (length flags)) [
       | inl lt ↦ absurd (true≢false (sym h ∙ (rw same (get_or-set_same flags k false false lt))))
-      | inr past ↦ absurd (true≢false (sym h ∙ get_or_past (set flags k false) x false (omega (arith, same, past, length-set flags k false))))
+      | inr past ↦ absurd (true≢false (sym h
+          ∙ get_or_past (set flags k false) x false (omega (arith, same, past, length-set flags k false))))
     ]
     | inr other ↦ sym (get_or-set_other flags k x false false other) ∙ h
   ]

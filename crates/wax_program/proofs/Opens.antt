@@ -1,5 +1,6 @@
 -- How a folder's text goes on to the texts of what is below it.
-use Rattle.std.proofs.Common.{◌≡◌, ◌≢◌, ◌↔◌, ℕ, ◌*◌, ◌≤◌, ◌==◌, Bool, true, false, List, [], ◌∷◌, ◌++◌, length, if◌then◌else◌, inl, inr, refl, sym, ◌∙◌, ap, subst, arith, append_assoc}
+use Rattle.std.proofs.Common.{◌≡◌, ◌≢◌, ◌↔◌, ℕ, ◌*◌, ◌≤◌, ◌==◌, Bool, true, false, List, [], ◌∷◌, ◌++◌}
+use Rattle.std.proofs.Common.{length, if◌then◌else◌, inl, inr, refl, sym, ◌∙◌, ap, subst, arith, append_assoc}
 use Rattle.std.proofs.lemmas.Bool.Decides.{nat_tests}
 use Rattle.std.proofs.lemmas.List.{nil_from_length}
 use Rattle.std.proofs.lemmas.Str.{chars-nil}
@@ -39,19 +40,23 @@ is_zero n e = grind (arith, nat_tests)
 is_some : (n : ℕ) → (n == 0) ≡ false → n ≢ 0
 is_some n e = grind (arith, nat_tests)
 
-pub ahead_after : (text : List ℕ) (bytes : List ℕ) → IsLastName text (chars bytes) → (length bytes == 0) ≡ true → Path ≡ ahead_of text
+pub ahead_after : (text : List ℕ) (bytes : List ℕ) → IsLastName text (chars bytes)
+    → (length bytes == 0) ≡ true → Path ≡ ahead_of text
 ahead_after text bytes last e =
     let none : chars bytes ≡ [] = ap chars (nil_from_length bytes (is_zero (length bytes) e)) ∙ chars-nil in
     ap (λ b. if b then Path else Below) (sym (last_open text (chars bytes) last ∙ ap ends_open none))
 
-pub ahead_inside : (text : List ℕ) (bytes : List ℕ) → IsUtf8 bytes → IsLastName text (chars bytes) → (length bytes == 0) ≡ false → Below ≡ ahead_of text
-ahead_inside text bytes utf8 last some = ap (λ b. if b then Path else Below) (sym (last_open text (chars bytes) last ∙ closed (chars bytes) refl))
+pub ahead_inside : (text : List ℕ) (bytes : List ℕ) → IsUtf8 bytes → IsLastName text (chars bytes)
+    → (length bytes == 0) ≡ false → Below ≡ ahead_of text
+ahead_inside text bytes utf8 last some =
+    ap (λ b. if b then Path else Below) (sym (last_open text (chars bytes) last ∙ closed (chars bytes) refl))
   where
     no_bytes : length bytes ≤ 4 * 0 → ⊥
     no_bytes le = is_some (length bytes) some (omega (arith, le))
 
     closed : (cs : List ℕ) → cs ≡ chars bytes → ends_open cs ≡ false
-    closed [] e = absurd (no_bytes (subst (λ (z : List ℕ). length bytes ≤ 4 * length z) (sym e) (chars_few bytes utf8).1))
+    closed [] e = absurd
+        (no_bytes (subst (λ (z : List ℕ). length bytes ≤ 4 * length z) (sym e) (chars_few bytes utf8).1))
     closed (c ∷ cs) e = name_closed c cs (subst HasNoSlash (sym e) last.0)
 
 -- a plain path ends with a name
@@ -71,15 +76,18 @@ path_closed s h text = from s ((path_begins s).0 h)
 -- ---- what is below a folder
 module _ (P : List ℕ → Type 0) (text : List ℕ) where
   each_way : (b : Bool) → ((s : List ℕ) × IsAhead (if b then Path else Below) s × P (text ++ s))
-      ↔ ((x : List ℕ) × ((path : List ℕ) × IsPlainPath path × (x ≡ (if b then text else text ++ 47 ∷ []) ++ path)) × P x)
+      ↔ ((x : List ℕ)
+      × ((path : List ℕ) × IsPlainPath path × (x ≡ (if b then text else text ++ 47 ∷ []) ++ path)) × P x)
   each_way true = (
     (λ (s, h, p). (text ++ s, (s, h, refl), p)),
     (λ (x, (path, h, e), p). (path, h, subst P e p)),
   )
   each_way false = (
-    (λ (s, (path, h, e), p). (text ++ s, (path, h, ap (λ z. text ++ z) e ∙ sym (append_assoc text (47 ∷ []) path)), p)),
+    (λ (s, (path, h, e), p).
+        (text ++ s, (path, h, ap (λ z. text ++ z) e ∙ sym (append_assoc text (47 ∷ []) path)), p)),
     (λ (x, (path, h, e), p). (47 ∷ path, (path, h, refl), subst P (e ∙ append_assoc text (47 ∷ []) path) p)),
   )
 
-  pub ahead_below : ((s : List ℕ) × IsAhead (ahead_of text) s × P (text ++ s)) ↔ ((x : List ℕ) × IsBelow text x × P x)
+  pub ahead_below : ((s : List ℕ) × IsAhead (ahead_of text) s × P (text ++ s))
+      ↔ ((x : List ℕ) × IsBelow text x × P x)
   ahead_below = each_way (ends_open text)

@@ -1,7 +1,8 @@
 -- Places that are taken: they were still to be read, and count as read.
 use Rattle.std.proofs.Common.{ℕ, ◌<◌, ◌≤◌, inl, inr, Bool, true, false, List, length, set, refl, arith}
 use Rattle.wax_program.specs.Places.{HoldsPlace, member_count}
-use Rattle.wax_program.proofs.Members.{added_keeps, added_only, has_added, members_set, members_within, removed_fewer, removed_others}
+use Rattle.wax_program.proofs.Members.{added_keeps, added_only, has_added, members_set, members_within}
+use Rattle.wax_program.proofs.Members.{removed_fewer, removed_others}
 use Rattle.wax_program.specs.Threads.{AreSets, Taken}
 
 -- a place that is still to be read counts as read
@@ -19,7 +20,8 @@ module _ (size first : ℕ) (pending read next : List Bool) (sets : AreSets size
       | inr same ↦ rw same lt
     ])
 
-    pub takes : Taken (record { size = size; pending = pending; read = read; next = next }) (record { size = size; pending = set pending at false; read = set read at true; next = next }) at
+    pub takes : Taken (record { size = size; pending = pending; read = read; next = next })
+        (record { size = size; pending = set pending at false; read = set read at true; next = next }) at
     takes = record {
       size = refl;
       below = lt;

@@ -25,7 +25,8 @@ passes_decided NotSlash c = elim (cases_eq c 47) [ inl e ↦ inr (λ ne. ne e) |
 passes_decided Any c = inl tt
 passes_decided Never c = inr (λ h. h)
 
-class_decided : (negated : Bool) (xs : List Archetype) (forward : Bool) → list_all is_forward xs ≡ forward → Decided (HoldsOther negated xs)
+class_decided : (negated : Bool) (xs : List Archetype) (forward : Bool) → list_all is_forward xs ≡ forward
+    → Decided (HoldsOther negated xs)
 class_decided negated xs false e = inr (λ h. none_reversed negated xs e h)
 class_decided true xs true e = inl (negated_other xs e)
 class_decided false xs true e = decided_by (plain_other xs e) (is_true (list_any is_other xs))

@@ -1,5 +1,6 @@
 -- Plain paths, character by character.
-use Rattle.std.proofs.Common.{◌≡◌, ◌≢◌, ◌↔◌, ◌⊎◌, ℕ, List, [], ◌∷◌, ◌++◌, inl, inr, refl, sym, ◌∙◌, ap, subst, arith}
+use Rattle.std.proofs.Common.{◌≡◌, ◌≢◌, ◌↔◌, ◌⊎◌, ℕ, List, [], ◌∷◌, ◌++◌, inl, inr, refl, sym, ◌∙◌, ap, subst}
+use Rattle.std.proofs.Common.{arith}
 use Rattle.wax_query.specs.Below.{AreNames, IsPlainPath, joined_names, slashed}
 use Rattle.wax_query.specs.Components.{HasNoSlash}
 
@@ -30,12 +31,14 @@ not_empty c s e = cc
 some_names : (n : List ℕ) (names : List (List ℕ)) → n ∷ names ≡ [] → ⊥
 some_names n names e = cc
 
-after_slash : (c d : ℕ) (s n : List ℕ) (names : List (List ℕ)) → c ≡ 47 → s ≡ n ++ slashed names → c ∷ d ∷ s ≡ [] ++ slashed ((d ∷ n) ∷ names)
+after_slash : (c d : ℕ) (s n : List ℕ) (names : List (List ℕ)) → c ≡ 47 → s ≡ n ++ slashed names
+    → c ∷ d ∷ s ≡ [] ++ slashed ((d ∷ n) ∷ names)
 after_slash c d s n names e f = cc
 
 parts : (s : List ℕ) → GoesOn s → Parts s
 parts [] h = ([], [], tt, tt, refl)
-parts (c ∷ s) (inl h) = let (n, names, hn, a, e) = parts s h.1 in (c ∷ n, names, (h.0, hn), a, ap (λ z. c ∷ z) e)
+parts (c ∷ s) (inl h) = let (n, names, hn, a, e) = parts s h.1 in
+    (c ∷ n, names, (h.0, hn), a, ap (λ z. c ∷ z) e)
 parts (c ∷ []) (inr h) = absurd h.1
 parts (c ∷ d ∷ s) (inr h) =
     let (n, names, hn, a, e) = parts s h.1.1 in
@@ -57,7 +60,8 @@ path_begins s = ((λ h. to h.0 h.1 h.2 h.3), from s)
 
 -- after a character of a name
 pub path_goes_on : (s : List ℕ) → ((c : ℕ) × IsPlainPath (c ∷ s)) ↔ GoesOn s
-path_goes_on s = ((λ h. ((path_begins (h.0 ∷ s)).0 h.1).1), (λ h. (0, (path_begins (0 ∷ s)).1 (zero_other 0 refl, h))))
+path_goes_on s =
+    ((λ h. ((path_begins (h.0 ∷ s)).0 h.1).1), (λ h. (0, (path_begins (0 ∷ s)).1 (zero_other 0 refl, h))))
   where
     zero_other : (c : ℕ) → c ≡ 0 → c ≢ 47
     zero_other c z e = omega (arith, z, e)

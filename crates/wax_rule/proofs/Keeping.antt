@@ -17,7 +17,8 @@ no_break (b ∷ bs) e = absurd (let f : ⊥ = cc in f)
 abbrev pub AllKeep : List (Tree Span) → Type 0
 AllKeep ts = (t : Tree Span) → Contains ts t → KeepsRules t
 
-pub push_keeps : (ts us : List (Tree Span)) (t : Tree Span) → us ≡ ts ++ t ∷ [] → AllKeep ts → KeepsRules t → AllKeep us
+pub push_keeps : (ts us : List (Tree Span)) (t : Tree Span) → us ≡ ts ++ t ∷ [] → AllKeep ts
+    → KeepsRules t → AllKeep us
 push_keeps ts us t e all kept = subst AllKeep (sym e) (λ u among. elim (Contains-push_cases ts t u among) [
   | inl before ↦ all u before
   | inr same ↦ subst KeepsRules same kept

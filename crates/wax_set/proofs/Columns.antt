@@ -7,9 +7,11 @@ none_before : (cs : List ℕ) → columns_before 0 cs ≡ 0
 none_before [] = refl
 none_before (c ∷ cs) = refl
 
-pub columns_at_none : (n left : ℕ) (cs : List ℕ) (all : ℕ) → left ≡ 0 → n + columns_before left cs ≡ all → n ≡ all
+pub columns_at_none : (n left : ℕ) (cs : List ℕ) (all : ℕ) → left ≡ 0
+    → n + columns_before left cs ≡ all → n ≡ all
 columns_at_none n left cs all e h =
-    let k : columns_before left cs ≡ 0 = ap (λ v. columns_before v cs) e ∙ none_before cs in omega (arith, k, h)
+    let k : columns_before left cs ≡ 0 = ap (λ v. columns_before v cs) e
+    ∙ none_before cs in omega (arith, k, h)
 
 pub one_more : (left c : ℕ) (cs : List ℕ) → (left == 0) ≡ false
     → columns_before left (c ∷ cs) ≡ 1 + columns_before (left - len_utf8 c) cs

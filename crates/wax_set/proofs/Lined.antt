@@ -1,6 +1,7 @@
 -- The lines of a picture.
 use Rattle.std.proofs.Common.{rules, ◌≡◌, ◌∙◌, ◌-◌, ◌^◌, ◌<◌, ◌==◌, ◌∷◌, ◌++◌, ℕ, List, [], max}
-use Rattle.std.proofs.Common.{ap, arith, refl, sym, subst, append_assoc, false, map, replicate, encode_utf8_all}
+use Rattle.std.proofs.Common.{ap, arith, refl, sym, subst, append_assoc, false, map, replicate}
+use Rattle.std.proofs.Common.{encode_utf8_all}
 use Rattle.std.specs.Prelude.{◌≢◌, All, codes}
 use Rattle.std.specs.Char.{encode_utf8}
 use Rattle.std.specs.List.{AllZip, join_with_byte, slice_split}

@@ -30,7 +30,8 @@ columns_are : (byte : ℕ) (e : List ℕ) (k : ℕ) → k < length e
     → (k < columns_before byte e) ↔ (byte_of_column e k < byte)
 columns_are byte [] k inside = absurd (omega (arith, inside))
 columns_are zero (c ∷ e) k inside = ((λ less. omega (arith, less)), (λ less. omega (arith, less)))
-columns_are (suc byte) (c ∷ e) zero inside = ((λ less. omega arith), (λ less. omega (arith, past_first byte c e)))
+columns_are (suc byte) (c ∷ e) zero inside =
+    ((λ less. omega arith), (λ less. omega (arith, past_first byte c e)))
 columns_are (suc byte) (c ∷ e) (suc k) inside =
     let one = past_first byte c e in
     let rest = columns_are (suc byte - len_utf8 c) e k (omega (arith, inside)) in (
@@ -45,7 +46,8 @@ column_of byte e = record { at_most = columns_fit byte e; exactly = columns_are 
 not_less : (e : List ℕ) (byte a b : ℕ) → IsColumnOf e byte a → IsColumnOf e byte b → a < b → ⊥
 not_less e byte a b first second less =
     let inside : a < length e = omega (arith, less, second.at_most) in
-    let itself : a < a = (first.exactly a inside).1 ((second.exactly a inside).0 less) in omega (arith, itself)
+    let itself : a < a = (first.exactly a inside).1 ((second.exactly a inside).0 less) in
+    omega (arith, itself)
 
 -- and there is no other such column
 only_column : (e : List ℕ) (byte a b : ℕ) → IsColumnOf e byte a → IsColumnOf e byte b → a ≡ b

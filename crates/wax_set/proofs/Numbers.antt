@@ -1,5 +1,7 @@
 -- Which of a set's patterns match a text.
-use Rattle.std.proofs.Common.{◌≡◌, ◌<◌, ◌↔◌, ◌++◌, ℕ, zero, suc, false, IsTrue, Option, Some, None, is_some, List, [], ◌∷◌, length, inl, inr, ◌≤◌, arith, ap, sym, subst, refl, ◌∙◌, ◌⊎◌, ◌+◌, get_or, take}
+use Rattle.std.proofs.Common.{◌≡◌, ◌<◌, ◌↔◌, ◌++◌, ℕ, zero, suc, false, IsTrue, Option, Some, None, is_some}
+use Rattle.std.proofs.Common.{List, [], ◌∷◌, length, inl, inr, ◌≤◌, arith, ap, sym, subst, refl, ◌∙◌, ◌⊎◌}
+use Rattle.std.proofs.Common.{◌+◌, get_or, take}
 use Rattle.std.proofs.lemmas.Bool.{false≢true}
 use Rattle.std.proofs.lemmas.List.{length-take-le, take_all, take_more}
 use Rattle.wax_lazy.specs.Numbers.{AreNumbers, IsLastNumber}
@@ -16,7 +18,8 @@ use Rattle.wax_token.specs.Syntax.{Tree, Trees, leaf, alternation, concatenation
 use Rattle.wax_token.specs.Words.{trees}
 
 -- the numbers that a program lists are the indexes of the patterns
-pub are_matches : (t : Tree Span) (code : List Instruction) (text numbers : List ℕ) → IsNumbered t code → AreNumbers code text numbers → AreMatches t text numbers
+pub are_matches : (t : Tree Span) (code : List Instruction) (text numbers : List ℕ) → IsNumbered t code
+    → AreNumbers code text numbers → AreMatches t text numbers
 are_matches t code text numbers n are = record {
   each = λ number. (
     (λ h. (n.means number text).0 ((are.0 number).0 h)),
@@ -25,7 +28,8 @@ are_matches t code text numbers n are = record {
   ascending = are.1;
 }
 
-branch_means : (ts : Trees Span) (number : ℕ) (s : List ℕ) → BranchMeans ts number s → MeansSome ts false false s
+branch_means : (ts : Trees Span) (number : ℕ) (s : List ℕ) → BranchMeans ts number s
+    → MeansSome ts false false s
 branch_means none number s m = absurd m
 branch_means (more t ts) zero s m = inl m
 branch_means (more t ts) (suc number) s m = inr (branch_means ts number s m)
@@ -37,7 +41,8 @@ matches_some (leaf a l) number s m = absurd m
 matches_some (concatenation a ts) number s m = absurd m
 matches_some (repetition a t low high) number s m = absurd m
 
-pub no_matches : (t : Tree Span) (s indexes : List ℕ) → indexes ≡ [] → (MeansText t s → ⊥) → AreMatches t s indexes
+pub no_matches : (t : Tree Span) (s indexes : List ℕ) → indexes ≡ [] → (MeansText t s → ⊥)
+    → AreMatches t s indexes
 no_matches t s indexes empty never = record {
   each = λ number. (
     (λ h. absurd (let lt : h.0 < length indexes = h.1 in omega (arith, lt, ap length empty))),
@@ -46,19 +51,22 @@ no_matches t s indexes empty never = record {
   ascending = λ k lt. absurd (omega (arith, lt, ap length empty));
 }
 
-branch_of_some : (ts : Trees Span) (s : List ℕ) → MeansSome ts false false s → (number : ℕ) × BranchMeans ts number s
+branch_of_some : (ts : Trees Span) (s : List ℕ) → MeansSome ts false false s
+    → (number : ℕ) × BranchMeans ts number s
 branch_of_some none s m = absurd m
 branch_of_some (more t ts) s (inl m) = (zero, m)
 branch_of_some (more t ts) s (inr m) = let r = branch_of_some ts s m in (suc r.0, r.1)
 
 -- where the set matches, one of the patterns does
-pattern_of_match : (t : Tree Span) (s : List ℕ) → IsAlternation t → MeansText t s → (number : ℕ) × MeansAt t number s
+pattern_of_match : (t : Tree Span) (s : List ℕ) → IsAlternation t → MeansText t s
+    → (number : ℕ) × MeansAt t number s
 pattern_of_match t s alternates m =
     let r = branch_of_some alternates.0 s (subst (λ u. MeansText u s) alternates.1 m) in
     (r.0, subst (λ u. MeansAt u r.0 s) (sym alternates.1) r.1)
 
 -- there is a last pattern that matches exactly if the set does
-pub last_decides : (t : Tree Span) (code : List Instruction) (s : List ℕ) (last : Option ℕ) → IsAlternation t → IsNumbered t code
+pub last_decides : (t : Tree Span) (code : List Instruction) (s : List ℕ) (last : Option ℕ)
+    → IsAlternation t → IsNumbered t code
     → IsLastNumber code s last → IsTrue (is_some last) ↔ MeansText t s
 last_decides t code s None alternates n never = (
   (λ yes. absurd (false≢true yes)),
@@ -72,10 +80,13 @@ last_decides t code s (Some number) alternates n is = (
 -- ---- branches with their indexes
 -- one more
 branch_push : (ts : List (Tree Span)) (t : Tree Span) (k : ℕ) (s : List ℕ)
-    → BranchMeans (trees (ts ++ t ∷ [])) k s ↔ (((k ≡ length ts) × MeansText t s) ⊎ BranchMeans (trees ts) k s)
+    → BranchMeans (trees (ts ++ t ∷ [])) k s
+    ↔ (((k ≡ length ts) × MeansText t s) ⊎ BranchMeans (trees ts) k s)
 branch_push [] t zero s = ((λ m. inl (refl, m)), (λ h. elim h [ inl g ↦ g.1 | inr g ↦ absurd g ]))
-branch_push [] t (suc k) s = ((λ m. absurd m), (λ h. elim h [ inl g ↦ absurd (omega (arith, g.0)) | inr g ↦ absurd g ]))
-branch_push (u ∷ ts) t zero s = ((λ m. inr m), (λ h. elim h [ inl g ↦ absurd (omega (arith, g.0)) | inr g ↦ g ]))
+branch_push [] t (suc k) s =
+    ((λ m. absurd m), (λ h. elim h [ inl g ↦ absurd (omega (arith, g.0)) | inr g ↦ absurd g ]))
+branch_push (u ∷ ts) t zero s =
+    ((λ m. inr m), (λ h. elim h [ inl g ↦ absurd (omega (arith, g.0)) | inr g ↦ g ]))
 branch_push (u ∷ ts) t (suc k) s =
     let r = branch_push ts t k s in (
       (λ m. elim (r.0 m) [ inl g ↦ inl (ap suc g.0, g.1) | inr g ↦ inr g ]),
@@ -86,39 +97,52 @@ branch_push (u ∷ ts) t (suc k) s =
 abbrev pub AreIndexed : List Numbered → List (Tree Span) → Type 0
 AreIndexed patterns ts = (k : ℕ) (s : List ℕ) → MeansNumbered patterns k s ↔ BranchMeans (trees ts) k s
 
-pub branch_added : (ts : List (Tree Span)) (i : ℕ) (t : Tree Span) (old new : List Numbered) (p : Numbered) → i < length ts → t ≡ get_or ts i t
-    → new ≡ old ++ p ∷ [] → p.number ≡ i → p.pattern.now ≡ t → AreIndexed old (take i ts) → AreIndexed new (take (i + 1) ts)
+pub branch_added : (ts : List (Tree Span)) (i : ℕ) (t : Tree Span) (old new : List Numbered) (p : Numbered)
+    → i < length ts → t ≡ get_or ts i t
+    → new ≡ old ++ p ∷ [] → p.number ≡ i → p.pattern.now ≡ t → AreIndexed old (take i ts)
+    → AreIndexed new (take (i + 1) ts)
 branch_added ts i t old new p lt is grown number pattern all k s =
-    let more : take (i + 1) ts ≡ take i ts ++ t ∷ [] = take_more ts i t lt ∙ ap (λ u. take i ts ++ u ∷ []) (sym is) in
+    let more : take (i + 1) ts ≡ take i ts ++ t ∷ [] =
+    take_more ts i t lt ∙ ap (λ u. take i ts ++ u ∷ []) (sym is) in
     let size : length (take i ts) ≡ i = length-take-le i ts (omega (arith, lt)) in
     let push = numbered_push old p k s in
     let branch = branch_push (take i ts) t k s in (
-      (λ m. subst (λ us. BranchMeans (trees us) k s) (sym more) (elim (push.0 (subst (λ ps. MeansNumbered ps k s) grown m)) [
-        | inl one ↦ branch.1 (inl (one.0 ∙ number ∙ sym size, subst (λ u. MeansText u s) pattern one.1))
-        | inr was ↦ branch.1 (inr ((all k s).0 was))
-      ])),
-      (λ m. subst (λ ps. MeansNumbered ps k s) (sym grown) (elim (branch.0 (subst (λ us. BranchMeans (trees us) k s) more m)) [
-        | inl one ↦ push.1 (inl (one.0 ∙ size ∙ sym number, subst (λ u. MeansText u s) (sym pattern) one.1))
-        | inr was ↦ push.1 (inr ((all k s).1 was))
-      ])),
+      (λ m. subst (λ us. BranchMeans (trees us) k s)
+          (sym more) (elim (push.0 (subst (λ ps. MeansNumbered ps k s) grown m)) [
+            | inl one ↦ branch.1 (inl (one.0 ∙ number ∙ sym size, subst (λ u. MeansText u s) pattern one.1))
+            | inr was ↦ branch.1 (inr ((all k s).0 was))
+          ])),
+      (λ m. subst (λ ps. MeansNumbered ps k s)
+          (sym grown) (elim (branch.0 (subst (λ us. BranchMeans (trees us) k s) more m)) [
+            | inl one ↦
+                push.1 (inl (one.0 ∙ size ∙ sym number, subst (λ u. MeansText u s) (sym pattern) one.1))
+            | inr was ↦ push.1 (inr ((all k s).1 was))
+          ])),
     )
 
 -- the program of all branches
-pub indexed_program : (ts : List (Tree Span)) (i : ℕ) (patterns given : List Numbered) (code : List Instruction) → length ts ≤ i → given ≡ patterns
-    → AreIndexed patterns (take i ts) → ((number : ℕ) (s : List ℕ) → Accepts code 0 (s ++ mark number ∷ []) ↔ MeansNumbered given number s)
+pub indexed_program : (ts : List (Tree Span)) (i : ℕ) (patterns given : List Numbered)
+    (code : List Instruction) → length ts ≤ i → given ≡ patterns
+    → AreIndexed patterns (take i ts)
+    → ((number : ℕ) (s : List ℕ) → Accepts code 0 (s ++ mark number ∷ []) ↔ MeansNumbered given number s)
     → (number : ℕ) (s : List ℕ) → Accepts code 0 (s ++ mark number ∷ []) ↔ BranchMeans (trees ts) number s
 indexed_program ts i patterns given code past same all means number s =
     let whole : take i ts ≡ ts = take_all i ts past in
     let is = all number s in
     let ends = means number s in (
-      (λ a. subst (λ us. BranchMeans (trees us) number s) whole (is.0 (subst (λ ps. MeansNumbered ps number s) same (ends.0 a)))),
-      (λ m. ends.1 (subst (λ ps. MeansNumbered ps number s) (sym same) (is.1 (subst (λ us. BranchMeans (trees us) number s) (sym whole) m)))),
+      (λ a. subst (λ us. BranchMeans (trees us) number s) whole
+          (is.0 (subst (λ ps. MeansNumbered ps number s) same (ends.0 a)))),
+      (λ m. ends.1 (subst (λ ps. MeansNumbered ps number s) (sym same)
+          (is.1 (subst (λ us. BranchMeans (trees us) number s) (sym whole) m)))),
     )
 
 -- the program of the branches of an alternation
-pub numbers_branches : (ts : List (Tree Span)) (t : Tree Span) (code : List Instruction) → t ≡ alternation (0, 0) (trees ts)
-    → ((number : ℕ) (s : List ℕ) → Accepts code 0 (s ++ mark number ∷ []) ↔ BranchMeans (trees ts) number s) → IsClosed code → IsNumbered t code
+pub numbers_branches : (ts : List (Tree Span)) (t : Tree Span) (code : List Instruction)
+    → t ≡ alternation (0, 0) (trees ts)
+    → ((number : ℕ) (s : List ℕ) → Accepts code 0 (s ++ mark number ∷ []) ↔ BranchMeans (trees ts) number s)
+    → IsClosed code → IsNumbered t code
 numbers_branches ts t code e means closed = record {
-  means = λ number s. subst (λ u. Accepts code 0 (s ++ mark number ∷ []) ↔ MeansAt u number s) (sym e) (means number s);
+  means = λ number s. subst (λ u. Accepts code 0 (s ++ mark number ∷ []) ↔ MeansAt u number s)
+      (sym e) (means number s);
   closed = closed;
 }

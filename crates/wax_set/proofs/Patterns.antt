@@ -1,5 +1,6 @@
 -- What the alternation of the patterns' trees means, and why there is none.
-use Rattle.std.proofs.Common.{◌≡◌, ◌↔◌, ◌<◌, ◌≤◌, ◌++◌, ◌∷◌, ℕ, zero, suc, false, List, [], inl, inr, sym, ap, ◌∙◌, subst}
+use Rattle.std.proofs.Common.{◌≡◌, ◌↔◌, ◌<◌, ◌≤◌, ◌++◌, ◌∷◌, ℕ, zero, suc, false, List, [], inl, inr, sym, ap}
+use Rattle.std.proofs.Common.{◌∙◌, subst}
 use Rattle.std.proofs.lemmas.List.{append_assoc}
 use Rattle.wax_token.specs.Cost.{program_length}
 use Rattle.wax_token.specs.Meaning.{Means, MeansSome}
@@ -8,7 +9,8 @@ use Rattle.wax_token.specs.Syntax.{Tree, alternation}
 use Rattle.wax_token.specs.Words.{trees}
 use Rattle.wax_set.specs.Sets.{BranchMeans, MeansAt, MeansText}
 use Rattle.wax_set.specs.Expressions.{Spells}
-use Rattle.wax_set.specs.Patterns.{AreOversized, IsAnyOf, IsFirstRefused, IsOnly, NoSet, NumberMeans, OneMeans, SpellEach}
+use Rattle.wax_set.specs.Patterns.{AreOversized, IsAnyOf, IsFirstRefused, IsOnly, NoSet, NumberMeans}
+use Rattle.wax_set.specs.Patterns.{OneMeans, SpellEach}
 use Rattle.wax_set.specs.declared.error.build_error.BuildError.{BuildError}
 use Rattle.wax_set.specs.declared.error.build_error.BuildError.TheVariants.{Parse, Rule, Compile, Memory}
 
@@ -45,7 +47,8 @@ module _ {P : Type 0} (S : P → Tree Span → Type 0) where
   from_number [] [] h k s m = m
   from_number [] (t ∷ ts) h k s m = absurd h
   from_number (p ∷ ps) [] h k s m = absurd h
-  from_number (p ∷ ps) (t ∷ ts) h zero s (u, spells, m) = subst (λ u. Means u false false s) (h.0.1 u spells) m
+  from_number (p ∷ ps) (t ∷ ts) h zero s (u, spells, m) =
+      subst (λ u. Means u false false s) (h.0.1 u spells) m
   from_number (p ∷ ps) (t ∷ ts) h (suc k) s m = from_number ps ts h.1 k s m
 
   pub is_any_of : (ps : List P) (ts : List (Tree Span)) (t : Tree Span) → SpellEach S ps ts →
@@ -56,7 +59,8 @@ module _ {P : Type 0} (S : P → Tree Span → Type 0) where
     tree = e;
     fits = fits;
     means = λ s. subst (λ u. MeansText u s ↔ OneMeans S ps s) (sym e) (to_one ps ts h s, from_one ps ts h s);
-    numbers = λ k s. subst (λ u. MeansAt u k s ↔ NumberMeans S ps k s) (sym e) (to_number ps ts h k s, from_number ps ts h k s);
+    numbers = λ k s. subst (λ u. MeansAt u k s ↔ NumberMeans S ps k s) (sym e)
+        (to_number ps ts h k s, from_number ps ts h k s);
   }
 
   pub are_oversized : (ps : List P) (ts : List (Tree Span)) (t : Tree Span) → SpellEach S ps ts →
@@ -76,7 +80,8 @@ module _ {P : Type 0} (S : P → Tree Span → Type 0) where
   one_more (q ∷ ps) (u ∷ ts) p t h k = (h.0, one_more ps ts p t h.1 k)
 
 -- the tree that an expression spells is the only one
-pub only_spelled : (e : List ℕ) (t : Tree Span) → Spells e t → ((u : Tree Span) → Reads e u → u ≡ t) → IsOnly (Spells e) t
+pub only_spelled : (e : List ℕ) (t : Tree Span) → Spells e t → ((u : Tree Span) → Reads e u → u ≡ t)
+    → IsOnly (Spells e) t
 only_spelled e t spells only = (spells, λ u h. only u h.0)
 
 -- the first of those that are left is taken
@@ -86,7 +91,8 @@ one_taken before p rest left all taken joined =
     append_assoc before (p ∷ []) rest ∙ ap (λ z. before ++ z) (sym taken) ∙ joined
 
 module _ {P : Type 0} (S : P → Tree Span → Type 0) (R : P → BuildError → Type 0) where
-  pub refused_first : (all before : List P) (ts : List (Tree Span)) (p : P) (after : List P) (e : BuildError) →
+  pub refused_first : (all before : List P) (ts : List (Tree Span)) (p : P) (after : List P) (e : BuildError)
+      →
       SpellEach S before ts → all ≡ before ++ p ∷ after → R p e → IsFirstRefused S R all e
   refused_first all before ts p after e h same r = record {
     before = before;
@@ -105,7 +111,8 @@ module _ {P : Type 0} (S : P → Tree Span → Type 0) (R : P → BuildError →
   no_set all Memory h = tt
 
   -- the pattern after those that spell a tree is refused
-  pub refused_next : (all before : List P) (ts : List (Tree Span)) (p : P) (rest after : List P) (e : BuildError) →
+  pub refused_next : (all before : List P) (ts : List (Tree Span)) (p : P)
+      (rest after : List P) (e : BuildError) →
       SpellEach S before ts → before ++ rest ≡ all → rest ≡ p ∷ after → R p e → NoSet S R all e
   refused_next all before ts p rest after e h joined here r =
       no_set all e (refused_first all before ts p after e h (sym joined ∙ ap (λ z. before ++ z) here) r)

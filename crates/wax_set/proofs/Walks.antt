@@ -30,7 +30,8 @@ module _ {D C : Type 0} (t : Tree Span) (law : Law D C) (d : D) (start : List �
   pub set_begins : (inner view : WalkView D) → Selects inner view range.min
       → BeginsAt law d (origin_from start rooted names) (from_the_top range) inner
       → BeginsRequest law d
-      (request_from by_matches (record { rooted = rooted; glob = t; filters = [] }) start asked depth names) view
+      (request_from by_matches (record { rooted = rooted; glob = t; filters = [] }) start asked depth names)
+      view
   set_begins inner view seen begins = begins_least t law d start asked depth inner view
       (subst (λ r. Selects inner view r.min) same seen) rooted names
       (subst (λ r. BeginsAt law d (origin_from start rooted names) (from_the_top r) inner) same begins)

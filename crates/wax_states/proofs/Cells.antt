@@ -1,34 +1,43 @@
 -- What cells say.
-use Rattle.std.proofs.Common.{◌≡◌, ℕ, zero, suc, ◌+◌, ◌-◌, ◌*◌, ◌/◌, ◌%◌, ◌≤◌, inl, inr, List, Some, None, replicate, sym, ◌∙◌, ap, subst, arith}
+use Rattle.std.proofs.Common.{◌≡◌, ℕ, zero, suc, ◌+◌, ◌-◌, ◌*◌, ◌/◌, ◌%◌, ◌≤◌, inl, inr, List, Some, None}
+use Rattle.std.proofs.Common.{replicate, sym, ◌∙◌, ap, subst, arith}
 use Rattle.wax_states.specs.declared.table.State.{State}
 use Rattle.wax_states.specs.declared.table.WideCell.{WideCell}
 use Rattle.wax_states.specs.States.{AreEmpty, IsDead, IsTransition, LeadsTo, TakesAll}
 use Rattle.wax_program.specs.declared.instruction.Instruction.{Instruction}
 
 -- ---- where a cell leads
-pub leads_on : (code : List Instruction) (states : List State) (place : List ℕ) (c cell : ℕ) → IsTransition code states place c cell
+pub leads_on : (code : List Instruction) (states : List State) (place : List ℕ) (c cell : ℕ)
+    → IsTransition code states place c cell
     → 3 ≤ cell → LeadsTo code states place c (cell - 3)
 leads_on code states place c cell (inl e) h = absurd (omega (arith, e, h))
 leads_on code states place c cell (inr (inl d)) h = absurd (let e : cell ≡ 1 = d.0 in omega (arith, e, h))
-leads_on code states place c cell (inr (inr (inl t))) h = absurd (let e : cell ≡ 2 = t.0 in omega (arith, e, h))
+leads_on code states place c cell (inr (inr (inl t))) h =
+    absurd (let e : cell ≡ 2 = t.0 in omega (arith, e, h))
 leads_on code states place c cell (inr (inr (inr l))) h =
     let e : cell ≡ l.0 + 3 = l.1 in
     let same : l.0 ≡ cell - 3 = omega (arith, e) in
     subst (LeadsTo code states place c) same l.2
 
-pub leads_nowhere : (code : List Instruction) (states : List State) (place : List ℕ) (c cell : ℕ) → IsTransition code states place c cell
+pub leads_nowhere : (code : List Instruction) (states : List State) (place : List ℕ) (c cell : ℕ)
+    → IsTransition code states place c cell
     → cell ≡ 1 → IsDead code place c
 leads_nowhere code states place c cell (inl e) h = absurd (omega (arith, e, h))
 leads_nowhere code states place c cell (inr (inl d)) h = d.1
-leads_nowhere code states place c cell (inr (inr (inl t))) h = absurd (let e : cell ≡ 2 = t.0 in omega (arith, e, h))
-leads_nowhere code states place c cell (inr (inr (inr l))) h = absurd (let e : cell ≡ l.0 + 3 = l.1 in omega (arith, e, h))
+leads_nowhere code states place c cell (inr (inr (inl t))) h =
+    absurd (let e : cell ≡ 2 = t.0 in omega (arith, e, h))
+leads_nowhere code states place c cell (inr (inr (inr l))) h =
+    absurd (let e : cell ≡ l.0 + 3 = l.1 in omega (arith, e, h))
 
-pub leads_everywhere : (code : List Instruction) (states : List State) (place : List ℕ) (c cell : ℕ) → IsTransition code states place c cell
+pub leads_everywhere : (code : List Instruction) (states : List State) (place : List ℕ) (c cell : ℕ)
+    → IsTransition code states place c cell
     → cell ≡ 2 → TakesAll code place c
 leads_everywhere code states place c cell (inl e) h = absurd (omega (arith, e, h))
-leads_everywhere code states place c cell (inr (inl d)) h = absurd (let e : cell ≡ 1 = d.0 in omega (arith, e, h))
+leads_everywhere code states place c cell (inr (inl d)) h =
+    absurd (let e : cell ≡ 1 = d.0 in omega (arith, e, h))
 leads_everywhere code states place c cell (inr (inr (inl t))) h = t.1
-leads_everywhere code states place c cell (inr (inr (inr l))) h = absurd (let e : cell ≡ l.0 + 3 = l.1 in omega (arith, e, h))
+leads_everywhere code states place c cell (inr (inr (inr l))) h =
+    absurd (let e : cell ≡ l.0 + 3 = l.1 in omega (arith, e, h))
 
 -- ---- empty cells
 some_cell : {w v : WideCell} → Some w ≡ Some v → w ≡ v

@@ -1,5 +1,8 @@
 -- Listed sets of places.
-use Rattle.std.proofs.Common.{IsPermutation, MatchBool, ◌≡◌, ◌+◌, ◌<◌, ◌≤◌, ◌⊎◌, ◌↔◌, ◌++◌, inl, inr, ℕ, zero, suc, Bool, true, false, not, ◌&&◌, List, [], ◌∷◌, Option, Some, None, MatchOption, is_some, length, get_or, set, slice_get, Contains, true≢false, refl, sym, ◌∙◌, ap, subst, arith, length-append, length-set, get_or-set_same}
+use Rattle.std.proofs.Common.{IsPermutation, MatchBool, ◌≡◌, ◌+◌, ◌<◌, ◌≤◌, ◌⊎◌, ◌↔◌, ◌++◌, inl, inr, ℕ, zero}
+use Rattle.std.proofs.Common.{suc, Bool, true, false, not, ◌&&◌, List, [], ◌∷◌, Option, Some, None}
+use Rattle.std.proofs.Common.{MatchOption, is_some, length, get_or, set, slice_get, Contains, true≢false}
+use Rattle.std.proofs.Common.{refl, sym, ◌∙◌, ap, subst, arith, length-append, length-set, get_or-set_same}
 use Rattle.std.proofs.lemmas.Bool.{cases_eq, cases_lt}
 use Rattle.std.proofs.lemmas.List.{get_or_default}
 use Rattle.std.proofs.lemmas.List.Filters.{dedup_is}
@@ -11,22 +14,27 @@ use Rattle.std.specs.List.Retain.{DiffersFromLast, IsFiltered}
 use Rattle.std.specs.List.Sorted.{IsSorted, IsStrictlyIncreasing}
 use Rattle.std.specs.Ordering.{nat_cmp}
 use Rattle.std.proofs.lemmas.List.Sorted.{Contains-permutation, IsPermutation-sym}
-use Rattle.std.proofs.lemmas.List.Elements.{Contains-append_left, Contains-get_or, Contains-push, Contains-push_cases}
+use Rattle.std.proofs.lemmas.List.Elements.{Contains-append_left, Contains-get_or, Contains-push}
+use Rattle.std.proofs.lemmas.List.Elements.{Contains-push_cases}
 use Rattle.std.proofs.lemmas.Option.{get_or_from_slice_get, slice_get-get_or, slice_get_within}
-use Rattle.wax_states.specs.inner.Listed.{AreHeld, AreRead, HasLost, Inserts, IsJoined, IsLoaded, IsListing, Listing, Lists, Waits, unread}
+use Rattle.wax_states.specs.inner.Listed.{AreHeld, AreRead, HasLost, Inserts, IsJoined, IsLoaded, IsListing}
+use Rattle.wax_states.specs.inner.Listed.{Listing, Lists, Waits, unread}
 use Rattle.wax_states.specs.Reached.{AreEndsMarked, AreReached}
 use Rattle.wax_program.specs.declared.instruction.Instruction.{Instruction}
 use Rattle.wax_program.specs.Places.{HoldsPlace, IsEmpty, Within, member_count}
-use Rattle.wax_program.specs.Threads.{Advances, AnyAmong, AnyOf, Inserted, InsertedNext, IsDone, Position, Round, Taken}
+use Rattle.wax_program.specs.Threads.{Advances, AnyAmong, AnyOf, Inserted, InsertedNext, IsDone, Position}
+use Rattle.wax_program.specs.Threads.{Round, Taken}
 use Rattle.wax_program.proofs.Advancing.{in_range}
 use Rattle.wax_program.proofs.Marks.{ends_read}
 use Rattle.wax_program.specs.Closed.{AreEndsAt, IsClosed, IsEndAt, ReadsEnd}
 use Rattle.wax_program.specs.declared.instruction.Instruction.TheVariants.{End}
 use Rattle.wax_program.specs.Machine.{mark}
-use Rattle.wax_program.proofs.Members.{added_keeps, added_only, has_added, members_none, members_set, members_within, removed_fewer}
+use Rattle.wax_program.proofs.Members.{added_keeps, added_only, has_added, members_none, members_set}
+use Rattle.wax_program.proofs.Members.{members_within, removed_fewer}
 
 -- ---- lists
-slice_get_append : {X : Type 0} (xs ys : List X) (t : ℕ) → t < length xs → slice_get (xs ++ ys) t ≡ slice_get xs t
+slice_get_append : {X : Type 0} (xs ys : List X) (t : ℕ) → t < length xs
+    → slice_get (xs ++ ys) t ≡ slice_get xs t
 slice_get_append [] ys t h = absurd (omega (arith, h))
 slice_get_append (x ∷ xs) ys zero h = refl
 slice_get_append (x ∷ xs) ys (suc t) h = slice_get_append xs ys t (omega (arith, h))
@@ -41,7 +49,8 @@ and_not true true = ((λ e. absurd (true≢false (sym e))), (λ h. absurd (h.1 r
 and_not true false = ((λ e. (refl, (λ f. true≢false (sym f)))), (λ h. refl))
 and_not false r = ((λ e. absurd (true≢false (sym e))), (λ h. absurd (true≢false (sym h.0))))
 
-pub unread_held : (here read : List Bool) (k : ℕ) → HoldsPlace (unread here read) k ↔ (HoldsPlace here k × ¬ (HoldsPlace read k))
+pub unread_held : (here read : List Bool) (k : ℕ) → HoldsPlace (unread here read) k
+    ↔ (HoldsPlace here k × ¬ (HoldsPlace read k))
 unread_held [] read k = ((λ h. absurd (true≢false (sym h))), (λ h. absurd (true≢false (sym h.0))))
 unread_held (b ∷ here) [] k = ((λ h. (h, (λ e. true≢false (sym e)))), (λ h. h.0))
 unread_held (b ∷ here) (r ∷ read) zero = and_not b r
@@ -55,7 +64,8 @@ pub unread_all : (here read : List Bool) → IsEmpty read → unread here read �
 unread_all [] read none = refl
 unread_all (b ∷ here) [] none = refl
 unread_all (b ∷ here) (true ∷ read) none = absurd (none 0 refl)
-unread_all (b ∷ here) (false ∷ read) none = ap (λ x. x ∷ unread here read) (keep_all b) ∙ ap (λ z. b ∷ z) (unread_all here read (λ k h. none (suc k) h))
+unread_all (b ∷ here) (false ∷ read) none = ap (λ x. x ∷ unread here read) (keep_all b)
+    ∙ ap (λ z. b ∷ z) (unread_all here read (λ k h. none (suc k) h))
 
 -- whether a place is in a set
 pub held_or_not : (flags : List Bool) (k : ℕ) → HoldsPlace flags k ⊎ ¬ (HoldsPlace flags k)
@@ -70,14 +80,17 @@ some_eq e = cc
 
 pub contains_at : (places : List ℕ) (i k : ℕ) → slice_get places i ≡ Some k → Contains places k
 contains_at places i k is =
-    subst (Contains places) (get_or_from_slice_get places i k k is) (Contains-get_or places i k (slice_get_within places i k is))
+    subst (Contains places) (get_or_from_slice_get places i k k is)
+    (Contains-get_or places i k (slice_get_within places i k is))
 
 not_in : (k : ℕ) → Contains [] k → ⊥
 not_in k h = absurd (let lt : h.0 < 0 = h.1 in omega (arith, lt))
 
 -- ---- a place is inserted
-module _ (limit capacity at : ℕ) (flags : List Bool) (places : List ℕ) (listing : IsListing limit flags places capacity) where
-  pub inserts_none : HoldsPlace flags at → Inserts (record { limit = limit; flags = flags; places = places }) (record { limit = limit; flags = flags; places = places }) at
+module _ (limit capacity at : ℕ) (flags : List Bool) (places : List ℕ)
+    (listing : IsListing limit flags places capacity) where
+  pub inserts_none : HoldsPlace flags at → Inserts (record { limit = limit; flags = flags; places = places })
+      (record { limit = limit; flags = flags; places = places }) at
   inserts_none held = record {
     limit = refl;
     has = held;
@@ -89,7 +102,8 @@ module _ (limit capacity at : ℕ) (flags : List Bool) (places : List ℕ) (list
     waits = λ taken few. inl held;
   }
 
-pub listing_none : (limit capacity : ℕ) (flags : List Bool) → limit ≤ length flags → IsEmpty flags → limit ≤ capacity → IsListing limit flags [] capacity
+pub listing_none : (limit capacity : ℕ) (flags : List Bool) → limit ≤ length flags → IsEmpty flags
+    → limit ≤ capacity → IsListing limit flags [] capacity
 listing_none limit capacity flags room none fits = record {
   room = room;
   within = λ k h. absurd (none k h);
@@ -105,9 +119,11 @@ pub record RemovedBefore (was now : List Bool) (places : List ℕ) (i : ℕ) : T
   pub gone : (j k : ℕ) → j < i → get_or places j 0 ≡ k → ¬ (HoldsPlace now k)
 
 pub removed_none : (was : List Bool) (places : List ℕ) → RemovedBefore was was places 0
-removed_none was places = record { room = refl; fewer = λ k h. h; gone = λ j k lt. absurd (omega (arith, lt)) }
+removed_none was places =
+    record { room = refl; fewer = λ k h. h; gone = λ j k lt. absurd (omega (arith, lt)) }
 
-pub removed_one : (was now : List Bool) (places : List ℕ) (i : ℕ) → get_or places i 0 < length now → RemovedBefore was now places i
+pub removed_one : (was now : List Bool) (places : List ℕ) (i : ℕ) → get_or places i 0 < length now
+    → RemovedBefore was now places i
     → RemovedBefore was (set now (get_or places i 0) false) places (i + 1)
 removed_one was now places i inside r =
     let at : ℕ = get_or places i 0 in
@@ -117,11 +133,13 @@ removed_one was now places i inside r =
       gone = λ j k lt e h. elim (cases_lt j i) [
         | inl before ↦ r.gone j k before e (removed_fewer now at k h)
         | inr past ↦ (let same : at ≡ k = ap (λ n. get_or places n 0) (omega (arith, lt, past)) ∙ e in
-            true≢false (sym h ∙ ap (λ x. get_or (set now at false) x false) (sym same) ∙ get_or-set_same now at false false inside))
+            true≢false (sym h ∙ ap (λ x. get_or (set now at false) x false) (sym same)
+            ∙ get_or-set_same now at false false inside))
       ];
     }
 
-pub removed_all : (was now : List Bool) (places : List ℕ) (i : ℕ) → length places ≤ i → RemovedBefore was now places i → HasLost was places now
+pub removed_all : (was now : List Bool) (places : List ℕ) (i : ℕ) → length places ≤ i
+    → RemovedBefore was now places i → HasLost was places now
 removed_all was now places i past r = record {
   room = r.room;
   fewer = r.fewer;
@@ -129,19 +147,23 @@ removed_all was now places i past r = record {
 }
 
 -- a set that has lost all that it had
-pub all_lost : (old : List Bool) (places : List ℕ) (new : List Bool) → ((k : ℕ) → HoldsPlace old k → Contains places k) → HasLost old places new → IsEmpty new
+pub all_lost : (old : List Bool) (places : List ℕ) (new : List Bool)
+    → ((k : ℕ) → HoldsPlace old k → Contains places k) → HasLost old places new → IsEmpty new
 all_lost old places new listed lost k h = lost.gone k (listed k (lost.fewer k h)) h
 
 -- a place more was read
-pub read_more : (places : List ℕ) (from i size : ℕ) (read : List Bool) → i < length places → (get_or places i 0 < size → HoldsPlace read (get_or places i 0))
+pub read_more : (places : List ℕ) (from i size : ℕ) (read : List Bool) → i < length places
+    → (get_or places i 0 < size → HoldsPlace read (get_or places i 0))
     → AreRead places from i size read → AreRead places from (i + 1) size read
 read_more places from i size read inside one before j k low lt is small = elim (cases_lt j i) [
   | inl earlier ↦ before j k low earlier is small
-  | inr past ↦ (let same : get_or places i 0 ≡ k = some_eq (sym (slice_get-get_or places i 0 inside) ∙ ap (slice_get places) (omega (arith, lt, past)) ∙ is) in
+  | inr past ↦ (let same : get_or places i 0 ≡ k = some_eq
+      (sym (slice_get-get_or places i 0 inside) ∙ ap (slice_get places) (omega (arith, lt, past)) ∙ is) in
       subst (HoldsPlace read) same (one (omega (arith, same, small))))
 ]
 
-module _ (limit capacity at : ℕ) (flags : List Bool) (places : List ℕ) (listing : IsListing limit flags places capacity) (lt : at < limit) (new : ¬ (HoldsPlace flags at)) where
+module _ (limit capacity at : ℕ) (flags : List Bool) (places : List ℕ)
+    (listing : IsListing limit flags places capacity) (lt : at < limit) (new : ¬ (HoldsPlace flags at)) where
   more : member_count (set flags at true) ≡ member_count flags + 1
   more = members_set flags at (omega (arith, lt, listing.room)) new
 
@@ -150,16 +172,19 @@ module _ (limit capacity at : ℕ) (flags : List Bool) (places : List ℕ) (list
 
   -- so there is room for it in the list
   pub room_left : length places < capacity
-  room_left = omega (arith, members_within limit (set flags at true) stays_within, more, listing.counted, listing.fits)
+  room_left = omega
+      (arith, members_within limit (set flags at true) stays_within, more, listing.counted, listing.fits)
 
-  pub listing_one : (wider : ℕ) → capacity ≤ wider → IsListing limit (set flags at true) (places ++ at ∷ []) wider
+  pub listing_one : (wider : ℕ) → capacity ≤ wider
+      → IsListing limit (set flags at true) (places ++ at ∷ []) wider
   listing_one wider le = record {
     room = omega (arith, listing.room, length-set flags at true);
     within = stays_within;
     lists = λ k. (
       (λ h. elim (Contains-push_cases places at k h) [
         | inl old ↦ added_keeps flags at k ((listing.lists k).0 old)
-        | inr same ↦ subst (HoldsPlace (set flags at true)) same (has_added flags at (omega (arith, lt, listing.room)))
+        | inr same ↦
+            subst (HoldsPlace (set flags at true)) same (has_added flags at (omega (arith, lt, listing.room)))
       ]),
       (λ h. elim (added_only flags at k h) [
         | inl old ↦ Contains-append_left places (at ∷ []) k ((listing.lists k).1 old)
@@ -170,7 +195,8 @@ module _ (limit capacity at : ℕ) (flags : List Bool) (places : List ℕ) (list
     fits = omega (arith, listing.fits, le);
   }
 
-  pub inserts_one : Inserts (record { limit = limit; flags = flags; places = places }) (record { limit = limit; flags = set flags at true; places = places ++ at ∷ [] }) at
+  pub inserts_one : Inserts (record { limit = limit; flags = flags; places = places })
+      (record { limit = limit; flags = set flags at true; places = places ++ at ∷ [] }) at
   inserts_one = record {
     limit = refl;
     has = has_added flags at (omega (arith, lt, listing.room));
@@ -178,15 +204,18 @@ module _ (limit capacity at : ℕ) (flags : List Bool) (places : List ℕ) (list
     only = added_only flags at;
     lists = (listing_one capacity (omega arith)).lists;
     longer = omega (arith, length-append places (at ∷ []));
-    stays = λ taken k w. (w.0, w.1, slice_get_append places (at ∷ []) w.0 (slice_get_within places w.0 k w.2) ∙ w.2);
+    stays = λ taken k w.
+        (w.0, w.1, slice_get_append places (at ∷ []) w.0 (slice_get_within places w.0 k w.2) ∙ w.2);
     waits = λ taken few. inr (length places, few, slice_get_end places at);
   }
 
 -- ---- the sets of a step
 abbrev pub sets_of : ℕ → Listing → List Bool → Listing → Position
-sets_of size here read next = record { size = size; pending = unread here.flags read; read = read; next = next.flags }
+sets_of size here read next =
+    record { size = size; pending = unread here.flags read; read = read; next = next.flags }
 
-module _ (size taken : ℕ) (here next : Listing) (read : List Bool) (listed : AreHeld size here taken read next) where
+module _ (size taken : ℕ) (here next : Listing) (read : List Bool)
+    (listed : AreHeld size here taken read next) where
   -- a place is inserted here
   module _ (at : ℕ) (low : at ≤ size) (new : Listing) (i : Inserts here new at) where
     pub inserts_here : Inserted (sets_of size here read next) (sets_of size new read next) at
@@ -198,7 +227,8 @@ module _ (size taken : ℕ) (here next : Listing) (read : List Bool) (listed : A
         | inl was ↦ inr was
         | inr fresh ↦ inl ((unread_held new.flags read at).1 (i.has, fresh))
       ];
-      keeps = λ k h. (let was = (unread_held here.flags read k).0 h in (unread_held new.flags read k).1 (i.keeps k was.0, was.1));
+      keeps = λ k h. (let was = (unread_held here.flags read k).0 h in
+          (unread_held new.flags read k).1 (i.keeps k was.0, was.1));
       only = λ k h. (let is = (unread_held new.flags read k).0 h in
           elim (i.only k is.0) [
             | inl old ↦ inl ((unread_held here.flags read k).1 (old, is.1))
@@ -211,7 +241,8 @@ module _ (size taken : ℕ) (here next : Listing) (read : List Bool) (listed : A
       here_room = omega (arith, listed.here_room, i.limit);
       next_room = listed.next_room;
       read_room = listed.read_room;
-      here_within = λ k h. elim (i.only k h) [ inl old ↦ listed.here_within k old | inr same ↦ omega (arith, same, low) ];
+      here_within = λ k h.
+          elim (i.only k h) [ inl old ↦ listed.here_within k old | inr same ↦ omega (arith, same, low) ];
       read_within = listed.read_within;
       next_within = listed.next_within;
       next_lists = listed.next_lists;
@@ -228,7 +259,8 @@ module _ (size taken : ℕ) (here next : Listing) (read : List Bool) (listed : A
           ]);
     }
 
-  pub inserts_nothing : (at : ℕ) → size < at → Inserted (sets_of size here read next) (sets_of size here read next) at
+  pub inserts_nothing : (at : ℕ) → size < at
+      → Inserted (sets_of size here read next) (sets_of size here read next) at
   inserts_nothing at lt = record {
     size = refl;
     read = refl;
@@ -257,14 +289,16 @@ module _ (size taken : ℕ) (here next : Listing) (read : List Bool) (listed : A
       read_room = listed.read_room;
       here_within = listed.here_within;
       read_within = listed.read_within;
-      next_within = λ k h. elim (i.only k h) [ inl old ↦ listed.next_within k old | inr same ↦ omega (arith, same, low) ];
+      next_within = λ k h.
+          elim (i.only k h) [ inl old ↦ listed.next_within k old | inr same ↦ omega (arith, same, low) ];
       next_lists = i.lists;
       taken_within = listed.taken_within;
       read_here = listed.read_here;
       waiting = listed.waiting;
     }
 
-  pub inserts_nothing_next : (at : ℕ) → size < at → InsertedNext (sets_of size here read next) (sets_of size here read next) at
+  pub inserts_nothing_next : (at : ℕ) → size < at
+      → InsertedNext (sets_of size here read next) (sets_of size here read next) at
   inserts_nothing_next at lt = record {
     size = refl;
     pending = refl;
@@ -275,15 +309,18 @@ module _ (size taken : ℕ) (here next : Listing) (read : List Bool) (listed : A
   }
 
   -- nothing is left to be read
-  pub all_read : AreRead here.places taken (length here.places) size read → IsDone (sets_of size here read next)
+  pub all_read : AreRead here.places taken (length here.places) size read
+      → IsDone (sets_of size here read next)
   all_read read_all k h = elim (cases_lt k size) [
     | inr past ↦ past
     | inl lt ↦ (let w = listed.waiting k lt h in
-        absurd (((unread_held here.flags read k).0 h).1 (read_all w.0 k w.1 (slice_get_within here.places w.0 k w.2) w.2 lt)))
+        absurd (((unread_held here.flags read k).0 h).1
+        (read_all w.0 k w.1 (slice_get_within here.places w.0 k w.2) w.2 lt)))
   ]
 
   -- the place at an index is taken
-  module _ (lists : Lists here.places here.flags) (index at : ℕ) (is : slice_get here.places index ≡ Some at) (lt : at < size) (fresh : ¬ (HoldsPlace read at)) where
+  module _ (lists : Lists here.places here.flags) (index at : ℕ) (is : slice_get here.places index ≡ Some at)
+      (lt : at < size) (fresh : ¬ (HoldsPlace read at)) where
     reached : HoldsPlace here.flags at
     reached = (lists at).0 (contains_at here.places index at is)
 
@@ -313,12 +350,14 @@ module _ (size taken : ℕ) (here next : Listing) (read : List Bool) (listed : A
     }
 
     within_read : Within size (set read at true)
-    within_read k h = elim (added_only read at k h) [ inl old ↦ listed.read_within k old | inr same ↦ rw same lt ]
+    within_read k h =
+        elim (added_only read at k h) [ inl old ↦ listed.read_within k old | inr same ↦ rw same lt ]
 
     pub takes_few : member_count (set read at true) ≤ size
     takes_few = members_within size (set read at true) within_read
 
-    pub listed_taken : AreRead here.places taken index size read → AreHeld size here (index + 1) (set read at true) next
+    pub listed_taken : AreRead here.places taken index size read
+        → AreHeld size here (index + 1) (set read at true) next
     listed_taken before = record {
       here_room = listed.here_room;
       next_room = listed.next_room;
@@ -328,40 +367,49 @@ module _ (size taken : ℕ) (here next : Listing) (read : List Bool) (listed : A
       next_within = listed.next_within;
       next_lists = listed.next_lists;
       taken_within = omega (arith, slice_get_within here.places index at is);
-      read_here = λ k h. elim (added_only read at k h) [ inl old ↦ listed.read_here k old | inr same ↦ subst (HoldsPlace here.flags) (sym same) reached ];
+      read_here = λ k h. elim (added_only read at k h) [
+        | inl old ↦ listed.read_here k old
+        | inr same ↦ subst (HoldsPlace here.flags) (sym same) reached
+      ];
       waiting = λ k low h. (let now = (unread_held here.flags (set read at true) k).0 h in
           let old : ¬ (HoldsPlace read k) = λ was. now.1 (added_keeps read at k was) in
           let w = listed.waiting k low ((unread_held here.flags read k).1 (now.0, old)) in
           elim (cases_lt w.0 (index + 1)) [
             | inr later ↦ (w.0, later, w.2)
             | inl earlier ↦ elim (cases_eq w.0 index) [
-              | inl there ↦ absurd (now.1 (subst (HoldsPlace (set read at true)) (some_eq (sym is ∙ ap (slice_get here.places) (sym there) ∙ w.2)) (has_added read at room)))
+              | inl there ↦ absurd (now.1 (subst (HoldsPlace (set read at true))
+                  (some_eq (sym is ∙ ap (slice_get here.places) (sym there) ∙ w.2)) (has_added read at room)))
               | inr other ↦ absurd (old (before w.0 k w.1 (omega (arith, earlier, other)) w.2 low))
             ]
           ]);
     }
 
 pub lists_none : (places : List ℕ) (flags : List Bool) → places ≡ [] → IsEmpty flags → Lists places flags
-lists_none places flags e none k = ((λ h. absurd (not_in k (subst (λ z. Contains z k) e h))), (λ h. absurd (none k h)))
+lists_none places flags e none k =
+    ((λ h. absurd (not_in k (subst (λ z. Contains z k) e h))), (λ h. absurd (none k h)))
 
 -- no place is left here
-pub nothing_listed : (size : ℕ) (here next : Listing) (read : List Bool) → size < here.limit → size < next.limit → size < length read → IsEmpty here.flags
-    → IsEmpty read → Within (size + 1) next.flags → Lists next.places next.flags → AreHeld size here 0 read next
-nothing_listed size here next read here_room next_room read_room no_here no_read next_within next_lists = record {
-  here_room = here_room;
-  next_room = next_room;
-  read_room = read_room;
-  here_within = λ k h. absurd (no_here k h);
-  read_within = λ k h. absurd (no_read k h);
-  next_within = next_within;
-  next_lists = next_lists;
-  taken_within = omega arith;
-  read_here = λ k h. absurd (no_read k h);
-  waiting = λ k lt h. absurd (no_here k ((unread_held here.flags read k).0 h).0);
-}
+pub nothing_listed : (size : ℕ) (here next : Listing) (read : List Bool) → size < here.limit
+    → size < next.limit → size < length read → IsEmpty here.flags
+    → IsEmpty read → Within (size + 1) next.flags → Lists next.places next.flags
+    → AreHeld size here 0 read next
+nothing_listed size here next read here_room next_room read_room no_here no_read next_within next_lists =
+    record {
+      here_room = here_room;
+      next_room = next_room;
+      read_room = read_room;
+      here_within = λ k h. absurd (no_here k h);
+      read_within = λ k h. absurd (no_read k h);
+      next_within = next_within;
+      next_lists = next_lists;
+      taken_within = omega arith;
+      read_here = λ k h. absurd (no_read k h);
+      waiting = λ k lt h. absurd (no_here k ((unread_held here.flags read k).0 h).0);
+    }
 
 -- the next position is here
-pub turned : (size taken : ℕ) (here next clear : Listing) (read none : List Bool) → AreHeld size here taken read next → clear.limit ≡ here.limit → IsEmpty clear.flags
+pub turned : (size taken : ℕ) (here next clear : Listing) (read none : List Bool)
+    → AreHeld size here taken read next → clear.limit ≡ here.limit → IsEmpty clear.flags
     → clear.places ≡ [] → length none ≡ length read → IsEmpty none → AreHeld size next 0 none clear
 turned size taken here next clear read none listed limit no_clear no_places room no_read = record {
   here_room = listed.next_room;
@@ -373,22 +421,27 @@ turned size taken here next clear read none listed limit no_clear no_places room
   next_lists = lists_none clear.places clear.flags no_places no_clear;
   taken_within = omega arith;
   read_here = λ k h. absurd (no_read k h);
-  waiting = λ k lt h. (let in_list = (listed.next_lists k).1 ((unread_held next.flags none k).0 h).0 in
-      (in_list.0, omega arith, slice_get-get_or next.places in_list.0 k in_list.1 ∙ ap (λ x. Some x) in_list.2));
+  waiting = λ k lt h. (let in_list = (listed.next_lists k).1 ((unread_held next.flags none k).0 h).0 in (
+    in_list.0,
+    omega arith,
+    slice_get-get_or next.places in_list.0 k in_list.1 ∙ ap (λ x. Some x) in_list.2,
+  ));
 }
 
 pub none_unread : (here read : List Bool) → IsEmpty here → IsEmpty (unread here read)
 none_unread here read none k h = none k ((unread_held here read k).0 h).0
 
 -- ---- steps
-module _ (code : List Instruction) (places : List ℕ) (size : ℕ) (set : List Bool) (sized : size ≡ length code) (loaded : IsLoaded places size set) where
+module _ (code : List Instruction) (places : List ℕ) (size : ℕ) (set : List Bool) (sized : size ≡ length code)
+    (loaded : IsLoaded places size set) where
   pub any_loaded : (s : List ℕ) → AnyAmong code places s ↔ AnyOf code set s
   any_loaded s = (
     (λ h. (h.0, loaded.all h.0 h.1 (omega (arith, in_range code h.2.0 h.0 s h.2.1, sized)), h.2)),
     (λ h. (h.0, loaded.only h.0 h.1, h.2)),
   )
 
-  pub reached_listed : (c : ℕ) (also reached : List ℕ) (next more : List Bool) → Advances code c set next → IsJoined next also size more
+  pub reached_listed : (c : ℕ) (also reached : List ℕ) (next more : List Bool) → Advances code c set next
+      → IsJoined next also size more
       → Lists reached more → AreReached code c places also reached
   reached_listed c also reached next more a joined listed s = (
     (λ h. elim (joined.only h.0 ((listed h.0).0 h.1)) [
@@ -396,30 +449,40 @@ module _ (code : List Instruction) (places : List ℕ) (size : ℕ) (set : List 
       | inr new ↦ inr (h.0, new, h.2)
     ]),
     (λ h. elim h [
-      | inl old ↦ (let g : AnyOf code next s = a.onward s ((any_loaded (c ∷ s)).0 old) in (g.0, (listed g.0).1 (joined.keeps g.0 g.1), g.2))
-      | inr new ↦ (new.0, (listed new.0).1 (joined.all new.0 new.1 (omega (arith, in_range code new.2.0 new.0 s new.2.1, sized))), new.2)
+      | inl old ↦ (let g : AnyOf code next s = a.onward s ((any_loaded (c ∷ s)).0 old) in
+          (g.0, (listed g.0).1 (joined.keeps g.0 g.1), g.2))
+      | inr new ↦ (
+        new.0,
+        (listed new.0).1
+            (joined.all new.0 new.1 (omega (arith, in_range code new.2.0 new.0 s new.2.1, sized))),
+        new.2,
+      )
     ]),
   )
 
   -- they lead nowhere
-  pub reached_nothing : (c : ℕ) (next : List Bool) → Advances code c set next → IsEmpty next → AreReached code c places [] []
+  pub reached_nothing : (c : ℕ) (next : List Bool) → Advances code c set next → IsEmpty next
+      → AreReached code c places [] []
   reached_nothing c next a empty s = (
     (λ h. absurd (not_in h.0 h.1)),
     (λ h. elim h [
-      | inl old ↦ (let g : AnyOf code next s = a.onward s ((any_loaded (c ∷ s)).0 old) in absurd (empty g.0 g.1))
+      | inl old ↦
+          (let g : AnyOf code next s = a.onward s ((any_loaded (c ∷ s)).0 old) in absurd (empty g.0 g.1))
       | inr new ↦ absurd (not_in new.0 new.1)
     ]),
   )
 
 -- ---- answers as truth values
-pub done_by : {A C : Type 0} {X : Type 0} {Y : ℕ × ℕ → Type 0} (o : Option (ℕ × ℕ)) (b : Bool) → is_some o ≡ not b → MatchOption o X Y → (X → A) → ((p : ℕ × ℕ) → Y p → C)
+pub done_by : {A C : Type 0} {X : Type 0} {Y : ℕ × ℕ → Type 0} (o : Option (ℕ × ℕ)) (b : Bool)
+    → is_some o ≡ not b → MatchOption o X Y → (X → A) → ((p : ℕ × ℕ) → Y p → C)
     → MatchBool b A C
 done_by None true e m f g = f m
 done_by None false e m f g = absurd (true≢false (sym e))
 done_by (Some p) true e m f g = absurd (true≢false e)
 done_by (Some p) false e m f g = g p m
 
-pub lists_permuted : (places others : List ℕ) (flags : List Bool) → IsPermutation places others → Lists places flags → Lists others flags
+pub lists_permuted : (places others : List ℕ) (flags : List Bool) → IsPermutation places others
+    → Lists places flags → Lists others flags
 lists_permuted places others flags p lists k = (
   (λ h. (lists k).0 (Contains-permutation others places k (IsPermutation-sym places others p) h)),
   (λ h. Contains-permutation places others k p ((lists k).1 h)),
@@ -434,9 +497,11 @@ joined_nothing set size = record {
 }
 
 -- ---- ends
-module _ (code : List Instruction) (size taken : ℕ) (here next : Listing) (read : List Bool) (listed : AreHeld size here taken read next) (sized : size ≡ length code)
+module _ (code : List Instruction) (size taken : ℕ) (here next : Listing) (read : List Bool)
+    (listed : AreHeld size here taken read next) (sized : size ≡ length code)
     (done : IsDone (sets_of size here read next)) (places : List ℕ) (lists : Lists places here.flags) where
-  pub list_read : (numbers : List ℕ) → AreEndsAt code places numbers → (number : ℕ) → Contains numbers number ↔ ReadsEnd code (sets_of size here read next) number
+  pub list_read : (numbers : List ℕ) → AreEndsAt code places numbers → (number : ℕ)
+      → Contains numbers number ↔ ReadsEnd code (sets_of size here read next) number
   list_read numbers l = λ number. (
     (λ h. (let f = (l number).0 h in (f.0, was f.0 number ((lists f.0).0 f.1) f.2, f.2))),
     (λ h. (l number).1 (h.0, (lists h.0).1 (listed.read_here h.0 h.1), h.2)),
@@ -449,8 +514,11 @@ module _ (code : List Instruction) (size taken : ℕ) (here next : Listing) (rea
             omega (arith, low, slice_get_within code k (End end.0 end.1) end.2, sized))
       ]
 
-pub list_marked : (code : List Instruction) (places : List ℕ) (p q : Position) (numbers : List ℕ) → IsClosed code → p.size ≡ length code → q.size ≡ length code
-    → IsLoaded places p.size p.pending → IsDone q → Round code 47 p.pending q → ((number : ℕ) → Contains numbers number ↔ ReadsEnd code q number) → AreEndsMarked code places numbers
+pub list_marked : (code : List Instruction) (places : List ℕ) (p q : Position) (numbers : List ℕ)
+    → IsClosed code → p.size ≡ length code → q.size ≡ length code
+    → IsLoaded places p.size p.pending → IsDone q → Round code 47 p.pending q
+    → ((number : ℕ) → Contains numbers number ↔ ReadsEnd code q number)
+    → AreEndsMarked code places numbers
 list_marked code places p q numbers closed old_sized sized loaded done round l = λ number.
     let among = any_loaded code places p.size p.pending old_sized loaded (mark number ∷ []) in
     let read = ends_read code p q closed sized done round number in (
@@ -459,14 +527,19 @@ list_marked code places p q numbers closed old_sized sized loaded done round l =
     )
 
 -- ---- numbers that were sorted, each once
-pub numbers_ascend : (sorted left : List ℕ) → IsSorted nat_cmp sorted → IsFiltered (DiffersFromLast eqb) [] sorted left → IsStrictlyIncreasing left
-numbers_ascend sorted left s f = subst IsStrictlyIncreasing (sym (dedup_is eqb sorted left f)) (IsStrictlyIncreasing-dedup sorted s)
+pub numbers_ascend : (sorted left : List ℕ) → IsSorted nat_cmp sorted
+    → IsFiltered (DiffersFromLast eqb) [] sorted left → IsStrictlyIncreasing left
+numbers_ascend sorted left s f =
+    subst IsStrictlyIncreasing (sym (dedup_is eqb sorted left f)) (IsStrictlyIncreasing-dedup sorted s)
 
-pub numbers_sorted : (code : List Instruction) (places numbers sorted left : List ℕ) → IsPermutation numbers sorted
-    → IsFiltered (DiffersFromLast eqb) [] sorted left → AreEndsMarked code places numbers → AreEndsMarked code places left
+pub numbers_sorted : (code : List Instruction) (places numbers sorted left : List ℕ)
+    → IsPermutation numbers sorted
+    → IsFiltered (DiffersFromLast eqb) [] sorted left → AreEndsMarked code places numbers
+    → AreEndsMarked code places left
 numbers_sorted code places numbers sorted left p f marked number =
     let e : left ≡ dedup eqb sorted = dedup_is eqb sorted left f in (
       (λ h. (marked number).0 (Contains-permutation sorted numbers number (IsPermutation-sym numbers sorted p)
           (Contains-from_dedup eqb sorted number (subst (λ z. Contains z number) e h)))),
-      (λ h. subst (λ z. Contains z number) (sym e) (Contains-dedup_nat sorted number (Contains-permutation numbers sorted number p ((marked number).1 h)))),
+      (λ h. subst (λ z. Contains z number) (sym e) (Contains-dedup_nat sorted number
+          (Contains-permutation numbers sorted number p ((marked number).1 h)))),
     )

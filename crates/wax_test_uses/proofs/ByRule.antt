@@ -6,7 +6,8 @@ use Rattle.wax.specs.Walks.{changed_by, closure_view, cut_by, EntryResidue, Fact
 use Rattle.wax.specs.Walks.{Yielded, Given, is_kept, IsSeenAs, Law, Mark, mark_of, Pending, SaysByRule, Took}
 use Rattle.wax.specs.Walks.{TreeEntry, WalkView}
 
-module _ {F : Type 0} (step : F → Bor TreeEntry → Option EntryResidue → F → Type 0) (rule : Facts → Mark) where
+module _ {F : Type 0} (step : F → Bor TreeEntry → Option EntryResidue → F → Type 0)
+    (rule : Facts → Mark) where
   -- in whatever state, the closure answers what the rule says
   abbrev pub AlwaysSays : Type 0
   AlwaysSays = (f : F) (e : Bor TreeEntry) (r : Option EntryResidue) (t : F) → step f e r t
@@ -26,6 +27,7 @@ module _ {F : Type 0} (step : F → Bor TreeEntry → Option EntryResidue → F 
     subst (λ n. Yielded (law.tells new) n (filtered_pending (changed_by rule) (cut_by rule) p) xs)
         seen.listings_left
         (took.all (filtered_pending (changed_by rule) (cut_by rule) p)
-        (seen.to_come (filtered_pending (changed_by rule) (cut_by rule) p) (rule, says_by_rule h f, (p, comes, refl)))),
+        (seen.to_come (filtered_pending (changed_by rule) (cut_by rule) p)
+        (rule, says_by_rule h f, (p, comes, refl)))),
     kept,
   )

@@ -1,5 +1,6 @@
 -- What a rule that is asked last leaves of a glob's walk.
-use Rattle.std.proofs.Common.{◌≡◌, ◌∙◌, ◌++◌, ◌∷◌, Bool, true, false, cond, List, [], ℕ, map, refl, sym, subst}
+use Rattle.std.proofs.Common.{◌≡◌, ◌∙◌, ◌++◌, ◌∷◌, Bool, true, false, cond, List, [], ℕ, map, refl, sym}
+use Rattle.std.proofs.Common.{subst}
 use Rattle.std.proofs.Common.{inl, inr}
 use Rattle.std.specs.Prelude.{◌⊎◌, All, Err, Ok, Result, filter, if◌then◌else◌, chars, ⊤}
 use Rattle.std.proofs.lemmas.List.Elements.{All-append, All-cons, All-filter, All-head, All-nil, All-push}
@@ -7,7 +8,8 @@ use Rattle.std.proofs.lemmas.List.Elements.{All-same, All-tail, All-weaker}
 use Rattle.wax.specs.Exclusions.{IsNotRule}
 use Rattle.wax.specs.GlobView.{GlobView, HasCaptures, IsMeant}
 use Rattle.wax.specs.GlobWalks.{Beginning, request_of, origin_from}
-use Rattle.wax_test_uses.specs.Excluding.{AreEntriesExcluding, IsCutOff, IsKnownFrom, IsMeantEntry, IsUnmeantEntry}
+use Rattle.wax_test_uses.specs.Excluding.{AreEntriesExcluding, IsCutOff, IsKnownFrom, IsMeantEntry}
+use Rattle.wax_test_uses.specs.Excluding.{IsUnmeantEntry}
 use Rattle.wax_test_uses.specs.Excluding as cut
 use Rattle.wax.specs.Language.{alternatives, Means, means_test, means_tested, Span, Tree}
 use Rattle.wax.specs.Queries.{Bounds, Depth}
@@ -18,7 +20,8 @@ use Rattle.wax.specs.Walks.{Filter, filter_mark, filtered, Forest, Given, given_
 use Rattle.wax.specs.Walks.{glob_mark, glob_walk, GlobEntry, is_beyond, is_kept, is_kept_entry, IsCutShort}
 use Rattle.wax.specs.Walks.{IsMatchedEntry, IsRuleOf, item, KeepsWanted, kept, KnownOutcome, lacks_memory}
 use Rattle.wax.specs.Walks.{Law, lists, Mark, no_memory, not_meant, nothing, of_candidate, over_budget}
-use Rattle.wax.specs.Walks.{preorder, DepthRange, Shown, TreeEntry, GlobRequest, request_walk, Unbounded, WalkError}
+use Rattle.wax.specs.Walks.{preorder, DepthRange, Shown, TreeEntry, GlobRequest, request_walk, Unbounded}
+use Rattle.wax.specs.Walks.{WalkError}
 use Rattle.wax.specs.Walks.{wanted_entries, origin_walk, with_tree}
 
 -- ---- what the last rule says of what is left
@@ -86,11 +89,13 @@ module _ {g : Tree Span} (start : List ℕ) (asked : DepthRange) (depth : Bounds
   walk_kept s true = All-nil (IsKeptBy not_rule)
   walk_kept s false =
       let first = of_candidate (glob_mark request.wanted.rooted request.wanted.glob) in
-      all_kept not_rule (filtered (changed_by first) (cut_by first) (origin_walk request.walked request.origin s))
+      all_kept not_rule
+      (filtered (changed_by first) (cut_by first) (origin_walk request.walked request.origin s))
 
   all_wanted : (s : Shown) → All (IsKeptBy not_rule) (filter is_kept (preorder (request_walk request s)))
   all_wanted s =
-      All-filter is_kept (IsKeptBy not_rule) (preorder (request_walk request s)) (walk_kept s (is_beyond request))
+      All-filter is_kept (IsKeptBy not_rule) (preorder (request_walk request s))
+      (walk_kept s (is_beyond request))
 
   abbrev pub all : Shown → List Given
   all s = filter is_kept (preorder (request_walk request s))
@@ -127,7 +132,8 @@ item_meant g (Ok e) h = h.0
 item_meant g (Err e) h = tt
 
 pub all_meant : (g : GlobView) (xs : List (Result GlobEntry WalkError))
-    → All (KnownOutcome (IsMatchedEntry (IsMeant g) (HasCaptures g))) xs → All (KnownOutcome (IsMeantEntry g)) xs
+    → All (KnownOutcome (IsMatchedEntry (IsMeant g) (HasCaptures g))) xs
+    → All (KnownOutcome (IsMeantEntry g)) xs
 all_meant g xs h = All-weaker (KnownOutcome (IsMatchedEntry (IsMeant g) (HasCaptures g)))
     (KnownOutcome (IsMeantEntry g)) (λ x k. item_meant g x k) xs h
 
@@ -183,9 +189,11 @@ module _ {D C : Type 0} (g : GlobView) (law : Law D C) (d : D) (start : List ℕ
 
     pub items_unmeant : All (KnownOutcome (IsUnmeantEntry other)) items
     items_unmeant = all_unmeant other of_residue items
-        (items_kept start asked h.0 known.beginning other.tree tells known.shown known.opened all_items keeps_less)
+        (items_kept start asked h.0 known.beginning other.tree tells known.shown known.opened
+        all_items keeps_less)
 
-    pub items_excluding : asked ≡ behavior_range (behavior_at Unbounded) → AreEntriesExcluding known other all_items
+    pub items_excluding : asked ≡ behavior_range (behavior_at Unbounded)
+        → AreEntriesExcluding known other all_items
     items_excluding f = subst (λ r. IsCutOff all_items ⊎ (filter is_kept_entry all_items
         ≡ wanted_entries other_request.wanted r other_request.origin known.shown)) f
         (entries_kept start asked h.0 known.beginning other.tree tells known.shown known.opened all_items

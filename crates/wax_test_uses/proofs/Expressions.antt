@@ -3,7 +3,8 @@ use Rattle.std.proofs.Common.{◌≡◌, ◌∙◌, ℕ, Bool, true, false, List
 use Rattle.std.proofs.Common.{ap, arith, inl, refl, subst, sym}
 use Rattle.std.specs.Str.{chars}
 use Rattle.wax.specs.Language.{Eager, Flags, NoWildcardFollows, Past, Place, Reads, Span, Tree}
-use Rattle.wax.specs.Language.{concatenation, group, is_one_of, leaf, literal, more, no_flags, none, separator}
+use Rattle.wax.specs.Language.{concatenation, group, is_one_of, leaf, literal, more, no_flags, none}
+use Rattle.wax.specs.Language.{separator}
 use Rattle.wax.specs.Language.{start, starts_with_one_of, tree, zero_or_more}
 use Rattle.wax.specs.Patterns.{Spells}
 

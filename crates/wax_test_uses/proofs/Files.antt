@@ -5,7 +5,8 @@ use Rattle.std.proofs.lemmas.List.{map-append}
 use Rattle.wax.specs.Language.{Span}
 use Rattle.wax.specs.Walks.{alone, changed_by, ComesExcluding, cut_by, entry, Facts, fault}
 use Rattle.wax.specs.Walks.{FileType, File, Filter, filtered, Folder, Forest, Given, is_kept}
-use Rattle.wax.specs.Walks.{is_kept_entry, item, kept, Law, Link, lists, Mark, no_memory, nothing, Pending, preorder}
+use Rattle.wax.specs.Walks.{is_kept_entry, item, kept, Law, Link, lists, Mark, no_memory, nothing, Pending}
+use Rattle.wax.specs.Walks.{preorder}
 use Rattle.wax.specs.Walks.{request_excluding, request_pending, WalkView, with_tree}
 use Rattle.wax_test_uses.specs.Walks.{folder_mark, KeepsByRule, KeepsFiles}
 use Rattle.wax_test_uses.proofs.Filtered.{less_more}
@@ -19,19 +20,22 @@ module _ {D C : Type 0} (law : Law D C) (x : Filter Span) (inner outer : WalkVie
   pub one_more_before_files : (filters : List (Filter Span)) → ComesExcluding law x inner outer
       → KeepsFiles law outer filters new items → KeepsFiles law inner (x ∷ filters) new items
   one_more_before_files filters takes keeps = λ d request s opened comes shows told.
-      subst (λ r. KeepsByRule (law.tells new) (request.walked.budget + 1) folder_mark (request_pending r s opened) items)
+      subst (λ r. KeepsByRule (law.tells new) (request.walked.budget + 1) folder_mark
+      (request_pending r s opened) items)
       (less_more request (x ∷ []) filters)
       (keeps d (request_excluding request (x ∷ [])) s opened (takes d request comes) shows told)
 
   -- the last filter
   pub last_before_files : ComesExcluding law x inner outer
-      → ((p : Pending Given) → outer.to_come p → KeepsByRule (law.tells new) outer.listings_left folder_mark p items)
+      → ((p : Pending Given) → outer.to_come p
+      → KeepsByRule (law.tells new) outer.listings_left folder_mark p items)
       → KeepsFiles law inner (x ∷ []) new items
   last_before_files takes collected = λ d request s opened comes shows told.
       let c = takes d request comes in
       subst (λ n. KeepsByRule (law.tells new) n folder_mark
       (request_pending (request_excluding request (x ∷ [])) s opened) items) c.listings
-      (collected (request_pending (request_excluding request (x ∷ [])) s opened) (c.comes s opened shows told))
+      (collected (request_pending (request_excluding request (x ∷ [])) s opened)
+      (c.comes s opened shows told))
 
 -- ---- without folders
 
@@ -89,7 +93,8 @@ module _ (path root candidate : List ℕ) (depth : ℕ) (xs : List Given) where
 
   one_file : (m : Mark) (kind : FileType)
       → filter is_kept (map changed xs) ≡ filter is_file (filter is_kept_entry xs)
-      → filter is_kept (map changed (entry m (at kind) ∷ xs)) ≡ filter is_file (filter is_kept_entry (entry m (at kind) ∷ xs))
+      → filter is_kept (map changed (entry m (at kind) ∷ xs))
+      ≡ filter is_file (filter is_kept_entry (entry m (at kind) ∷ xs))
   one_file kept File e = ap (λ v. entry kept (at File) ∷ v) e
   one_file kept Link e = ap (λ v. entry kept (at Link) ∷ v) e
   one_file kept Folder e = e
@@ -110,9 +115,11 @@ files_of (fault kind path depth ∷ xs) h = absurd h
 files_of (no_memory ∷ xs) h = absurd h
 
 -- memory ran out
-pub kept_before : (xs : List Given) → filter is_kept (xs ++ no_memory ∷ []) ≡ filter is_kept xs ++ no_memory ∷ []
+pub kept_before : (xs : List Given) → filter is_kept (xs ++ no_memory ∷ [])
+    ≡ filter is_kept xs ++ no_memory ∷ []
 kept_before [] = refl
-kept_before (x ∷ xs) = elim (is_kept x) as (λ b. cond b (x ∷ filter is_kept (xs ++ no_memory ∷ [])) (filter is_kept (xs ++ no_memory ∷ []))
+kept_before (x ∷ xs) = elim (is_kept x)
+    as (λ b. cond b (x ∷ filter is_kept (xs ++ no_memory ∷ [])) (filter is_kept (xs ++ no_memory ∷ []))
     ≡ cond b (x ∷ filter is_kept xs) (filter is_kept xs) ++ no_memory ∷ []) [
       | true ↦ ap (λ v. x ∷ v) (kept_before xs)
       | false ↦ kept_before xs

@@ -6,9 +6,11 @@ use Rattle.wax.specs.GlobWalks.{BeginsGlob, request_of}
 use Rattle.wax.specs.Language.{Span}
 use Rattle.wax.specs.Queries.{Bounds, Depth}
 use Rattle.wax.specs.Walks.{behavior_at, behavior_range, ComesExcluding, Filter, Given, gives, goes}
-use Rattle.wax.specs.Walks.{KeepsWanted, lacks_memory, Law, CanBegin, over_budget, tree_request, Shown, GlobRequest}
+use Rattle.wax.specs.Walks.{KeepsWanted, lacks_memory, Law, CanBegin, over_budget, tree_request, Shown}
+use Rattle.wax.specs.Walks.{GlobRequest}
 use Rattle.wax.specs.Walks.{request_excluding, Unbounded, WalkView, WantsUnfiltered}
-use Rattle.wax_test_uses.specs.Excluding.{AreEntriesLeft, AreEntriesWanted, IsCutOff, IsKnownFrom, KeepsFiltered}
+use Rattle.wax_test_uses.specs.Excluding.{AreEntriesLeft, AreEntriesWanted, IsCutOff, IsKnownFrom}
+use Rattle.wax_test_uses.specs.Excluding.{KeepsFiltered}
 use Rattle.wax_test_uses.specs.Excluding.{KeepsExcluding, OpenedFew}
 use Rattle.wax_test_uses.specs.Excluding as less
 
@@ -25,10 +27,12 @@ module _ {D C : Type 0} (law : Law D C) (x : Filter Span) (filters : List (Filte
   pub keeps_one_more : ComesExcluding law x inner outer → KeepsExcluding law outer filters new items
       → KeepsExcluding law inner (x ∷ filters) new items
   keeps_one_more takes keeps = λ d request s opened comes may shows told.
-      let same : request_excluding (request_excluding request (x ∷ [])) filters ≡ request_excluding request (x ∷ filters) =
+      let same : request_excluding (request_excluding request (x ∷ [])) filters
+      ≡ request_excluding request (x ∷ filters) =
       less_more request (x ∷ []) filters in
       subst (λ t. KeepsWanted (law.tells new) t s opened items) same
-      (keeps d (request_excluding request (x ∷ [])) s opened (takes d request comes) (subst CanBegin (sym same) may) shows told)
+      (keeps d (request_excluding request (x ∷ [])) s opened (takes d request comes)
+      (subst CanBegin (sym same) may) shows told)
 
 -- ---- of a glob's walk
 
@@ -64,9 +68,11 @@ module _ {D C : Type 0} (g : GlobView) (law : Law D C) (d : D) (start : List ℕ
   keeps_filtered view begins keeps known =
       let b = known.beginning in
       let plain = known.are_plain in
-      let kept : KeepsWanted (law.tells new) (request begins.depth begins.depth_is known) known.shown known.opened
+      let kept : KeepsWanted (law.tells new)
+      (request begins.depth begins.depth_is known) known.shown known.opened
       items =
-      keeps d (request_of start (behavior_range (behavior_at Unbounded)) begins.depth b []) known.shown known.opened
+      keeps d (request_of start (behavior_range (behavior_at Unbounded)) begins.depth b [])
+      known.shown known.opened
       (begins.comes b plain) (goes (begins.can b filters plain)) known.shows known.tells in record {
         entries = entries_wanted begins.depth begins.depth_is known kept;
         folders = opened_few begins.depth begins.depth_is known kept;
@@ -76,7 +82,8 @@ module _ {D C : Type 0} (g : GlobView) (law : Law D C) (d : D) (start : List ℕ
 
 pub entries_left : (wants : WantsUnfiltered) (start : List ℕ) (filters : List (Filter Span))
     (tells : List (List ℕ) → Type 0) (s : Shown) (opened : List (List ℕ)) (items : List Given)
-    → KeepsWanted tells (request_excluding (tree_request (behavior_range (behavior_at Unbounded)) start) filters) s opened
+    → KeepsWanted tells
+    (request_excluding (tree_request (behavior_range (behavior_at Unbounded)) start) filters) s opened
     items → AreEntriesLeft filters start s items
 entries_left wants start filters tells s opened items (gives e f l m) =
     inr (f ∙ wants filters (behavior_range (behavior_at Unbounded)) start s)

@@ -9,13 +9,16 @@ use Rattle.wax.specs.GlobWalks.{BeginsGlob, request_of, wants, within}
 use Rattle.wax.specs.Ignoring.{Line}
 use Rattle.wax.specs.Language.{Span, Tree}
 use Rattle.wax.specs.Queries.{Bounds}
-use Rattle.wax.specs.Walks.{CanWalk, FeedsByRequest, Yielded, Given, GivesWanted, IsWellNamed, WantsNothing, a_folder}
+use Rattle.wax.specs.Walks.{CanWalk, FeedsByRequest, Yielded, Given, GivesWanted, IsWellNamed, WantsNothing}
+use Rattle.wax.specs.Walks.{a_folder}
 use Rattle.wax.specs.Walks.{changed_by, cut_by, filtered_pending, glob_walk, is_kept, is_kept_entry}
-use Rattle.wax.specs.Walks.{IsDistinct, Law, WalkView, not_ignored, not_meant, nothing, preorder, request_pending}
+use Rattle.wax.specs.Walks.{IsDistinct, Law, WalkView, not_ignored, not_meant, nothing, preorder}
+use Rattle.wax.specs.Walks.{request_pending}
 use Rattle.wax.specs.Walks.{request_walk}
 use Rattle.wax_test_uses.proofs.Files.{files_in_order, files_of, is_file, kept_before}
 use Rattle.wax_test_uses.proofs.KeptSources.{file_at, folder_at, only_entries, origin, range, request}
-use Rattle.wax_test_uses.proofs.KeptSources.{source_beginning, source_filters, source_lines, source_wanted, sources_kept}
+use Rattle.wax_test_uses.proofs.KeptSources.{source_beginning, source_filters, source_lines, source_wanted}
+use Rattle.wax_test_uses.proofs.KeptSources.{sources_kept}
 use Rattle.wax_test_uses.proofs.Expressions.{in_src, with_b}
 use Rattle.wax_test_uses.proofs.SourceTree.{src_plain, well_named}
 use Rattle.wax_test_uses.specs.Sources.{HasPaths, kept_path, source_items}
@@ -39,7 +42,8 @@ module _ (gives : GivesWanted) (nothing_wanted : WantsNothing) (feeds : FeedsByR
   entries_are : filter is_kept_entry (preorder (request_walk (request depth) (a_folder source_items)))
       ≡ file_at (codes "src/a.rs") ∷ file_at (codes "src/main.rs") ∷ folder_at (codes "src/net") ∷ []
   entries_are = elim (cases_lt (within range depth).max 1) [
-    | inl l ↦ absurd (empty_not (sym (nothing_wanted source_wanted range origin (a_folder source_items) named.plain
+    | inl l ↦
+        absurd (empty_not (sym (nothing_wanted source_wanted range origin (a_folder source_items) named.plain
         refl (inl (within range depth, can, l))) ∙ sources_kept))
     | inr g ↦ subst (λ b. filter is_kept_entry (preorder
         (if b then nothing else glob_walk source_wanted (within range depth) origin (a_folder source_items)))
@@ -73,8 +77,10 @@ pub source_files_kept : {D C : Type 0} (law : Law D C) (d new : D) (view : WalkV
     (g t : Tree Span) (lines : List (Line Span)) → BeginsGlob g law d [] range view
     → KeepsFiles law view (not_meant t ∷ not_ignored lines ∷ []) new items → in_src ≡ g → with_b ≡ t
     → lines ≡ source_lines → law.shows d [] (a_folder source_items) → law.tells d []
-    → IsDistinct (a_folder source_items) → GivesWanted → WantsNothing → FeedsByRequest → HasPaths file_paths items
-source_files_kept law d new view items g t lines begun kept_is is_glob is_pattern are_lines shown told distinct gives
+    → IsDistinct (a_folder source_items) → GivesWanted → WantsNothing → FeedsByRequest
+    → HasPaths file_paths items
+source_files_kept law d new view items g t lines begun kept_is is_glob is_pattern are_lines
+    shown told distinct gives
     nothing_wanted feeds =
     let begins = subst (λ v. BeginsGlob v law d [] range view) (sym is_glob) begun in
     let keeps : KeepsFiles law view source_filters new items =

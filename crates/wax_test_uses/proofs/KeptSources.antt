@@ -1,6 +1,7 @@
 -- What is wanted of the small tree, by `src/*` without what `**/b*` matches and the lines `src/m*` and
 -- `!src/main.rs` ignore.
-use Rattle.std.proofs.Common.{◌≡◌, ◌∙◌, ◌++◌, ◌==◌, ◌&&◌, ◌||◌, not, ℕ, Bool, true, false, List, [], ◌∷◌, codes}
+use Rattle.std.proofs.Common.{◌≡◌, ◌∙◌, ◌++◌, ◌==◌, ◌&&◌, ◌||◌, not, ℕ, Bool, true, false, List, [], ◌∷◌}
+use Rattle.std.proofs.Common.{codes}
 use Rattle.std.proofs.Common.{None, Some, ap, arith, filter, if◌then◌else◌, inl, inr, refl, subst, sym}
 use Rattle.std.specs.Str.{chars}
 use Rattle.std.specs.Prelude.{cond, map, nat_lt, ⊤}
@@ -13,12 +14,17 @@ use Rattle.wax.specs.Ignoring.{IsReadAs, Line, written_lines}
 use Rattle.wax.specs.Language.{Span, Tree, means_test}
 use Rattle.wax.specs.Patterns.{Spells}
 use Rattle.wax.specs.Queries.{Bounds, Depth, Prefix}
-use Rattle.wax.specs.Walks.{ArePlain, AreRulesOf, Candidate, DepthRange, Facts, File, FileType, Filter, Folder, Given}
-use Rattle.wax.specs.Walks.{HasEmptyName, IsRuleOf, KeepsWanted, Mark, Origin, PrefixSplitsInto, Shown, Unbounded}
+use Rattle.wax.specs.Walks.{ArePlain, AreRulesOf, Candidate, DepthRange, Facts, File, FileType, Filter}
+use Rattle.wax.specs.Walks.{Folder, Given}
+use Rattle.wax.specs.Walks.{HasEmptyName, IsRuleOf, KeepsWanted, Mark, Origin, PrefixSplitsInto, Shown}
+use Rattle.wax.specs.Walks.{Unbounded}
 use Rattle.wax.specs.Walks.{a_folder, behavior_at, behavior_range, entry, gives, kept, lacks_memory}
-use Rattle.wax.specs.Walks.{FeedsByRequest, GlobRequest, alone, changed_by, fault, is_beyond, is_kept, is_kept_entry}
-use Rattle.wax.specs.Walks.{left_after, no_memory, not_ignored, not_meant, over_budget, preorder, request_feed}
-use Rattle.wax.specs.Walks.{any_mark, cut_by, filter_mark, glob_mark, left_of, of_candidate, request_walk, wanted_entries}
+use Rattle.wax.specs.Walks.{FeedsByRequest, GlobRequest, alone, changed_by, fault, is_beyond, is_kept}
+use Rattle.wax.specs.Walks.{is_kept_entry}
+use Rattle.wax.specs.Walks.{left_after, no_memory, not_ignored, not_meant, over_budget, preorder}
+use Rattle.wax.specs.Walks.{request_feed}
+use Rattle.wax.specs.Walks.{any_mark, cut_by, filter_mark, glob_mark, left_of, of_candidate, request_walk}
+use Rattle.wax.specs.Walks.{wanted_entries}
 use Rattle.wax.specs.Walks.{whole_along, with_tree, yielded}
 use Rattle.wax_test_uses.proofs.Expressions.{in_src, main_rs, main_rs_spelled, with_b, with_b_spelled, with_m}
 use Rattle.wax_test_uses.proofs.Expressions.{with_m_spelled}
@@ -118,7 +124,8 @@ picked [] bs = []
 picked (x ∷ xs) [] = []
 picked (x ∷ xs) (b ∷ bs) = cond b (x ∷ picked xs bs) (picked xs bs)
 
-filter_picks : (p : Given → Bool) (xs : List Given) (bs : List Bool) → Tests p xs bs → filter p xs ≡ picked xs bs
+filter_picks : (p : Given → Bool) (xs : List Given) (bs : List Bool) → Tests p xs bs
+    → filter p xs ≡ picked xs bs
 filter_picks p [] [] h = refl
 filter_picks p [] (b ∷ bs) h = absurd h
 filter_picks p (x ∷ xs) [] h = absurd h
@@ -152,7 +159,8 @@ sources_kept =
             unwanted (at (codes "src") 1 Folder) (codes "src") refl at_src,
             (
               decided (at (codes "src/a.rs") 2 File) (codes "src/a.rs") refl false false false
-                  (in_src_file (codes "a.rs") refl) (not_b (codes "src/a.rs") refl) (not_m (codes "src/a.rs") refl)
+                  (in_src_file (codes "a.rs") refl) (not_b (codes "src/a.rs") refl)
+                  (not_m (codes "src/a.rs") refl)
                   (not_main (codes "src/a.rs") refl),
               (
                 decided (at (codes "src/b.txt") 2 File) (codes "src/b.txt") refl true false false
@@ -160,7 +168,8 @@ sources_kept =
                     (not_main (codes "src/b.txt") refl),
                 (
                   decided (at (codes "src/main.o") 2 File) (codes "src/main.o") refl false true false
-                      (in_src_file (codes "main.o") refl) (not_b (codes "src/main.o") refl) (m_yes (codes "ain.o") refl)
+                      (in_src_file (codes "main.o") refl) (not_b (codes "src/main.o") refl)
+                      (m_yes (codes "ain.o") refl)
                       (not_main (codes "src/main.o") refl),
                   (
                     decided (at (codes "src/main.rs") 2 File) (codes "src/main.rs") refl false true true
@@ -170,7 +179,10 @@ sources_kept =
                       decided (at (codes "src/net") 2 Folder) (codes "src/net") refl false false false
                           (in_src_file (codes "net") refl) (not_b (codes "src/net") refl)
                           (not_m (codes "src/net") refl) (not_main (codes "src/net") refl),
-                      (unwanted (at (codes "src/net/tcp.rs") 3 File) (codes "src/net/tcp.rs") refl in_net, tt),
+                      (
+                        unwanted (at (codes "src/net/tcp.rs") 3 File) (codes "src/net/tcp.rs") refl in_net,
+                        tt,
+                      ),
                     ),
                   ),
                 ),
@@ -199,7 +211,8 @@ lines_are (x ∷ y ∷ []) h =
 lines_are (x ∷ y ∷ z ∷ lines) h = absurd h.1.1
 
 -- the rules of the two filters
-pub rules_are : (not_rule ignore_rule : Candidate → Mark) → IsNotRule (Spells (chars (codes "**/b*"))) not_rule
+pub rules_are : (not_rule ignore_rule : Candidate → Mark)
+    → IsNotRule (Spells (chars (codes "**/b*"))) not_rule
     → (lines : List (Line Span)) → AllZip IsReadAs (written_lines (codes "src/m*\n!src/main.rs\n")) lines
     → IsRuleOf (not_ignored lines) ignore_rule → AreRulesOf source_filters (not_rule ∷ ignore_rule ∷ [])
 rules_are not_rule ignore_rule says lines read h =
@@ -320,7 +333,8 @@ module _ (rules : List (Candidate → Mark)) (shows : List ℕ → Shown → Typ
       → shows (origin_from [] b.rooted b.names).path s → tells listed
       → KeepsWanted told (request_of [] asked depth b filters) s listed items)
 
-  module _ (h : KeepsOf in_src range) (are : AreRulesOf source_filters rules) (shown : shows [] (a_folder source_items))
+  module _ (h : KeepsOf in_src range) (are : AreRulesOf source_filters rules)
+      (shown : shows [] (a_folder source_items))
       (none_told : tells []) (feeds : FeedsByRequest) where
     kept_so : KeepsWanted told (request h.0) (a_folder source_items) [] items → HasPaths kept_paths items
     kept_so (gives e f l m) = inr (paths_are items (sym (only_kept h.0 feeds items e) ∙ (f ∙ sources_kept)))

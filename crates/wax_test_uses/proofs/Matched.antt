@@ -56,7 +56,8 @@ module _ (s : List ℕ) (h : Means in_src false false s) where
   in_src_flat = ap (λ v. list_any (λ c. c == 47) (drop 4 v)) stem_is ∙ flat h.4.1 h.4.4
 
 in_src_if : (stem : List ℕ) → HasNoSlash stem → Means in_src false false (codes "src/" ++ stem)
-in_src_if stem n = (codes "src", codes "/" ++ stem, refl, same_self (codes "src"), (codes "/", stem, refl, refl, n))
+in_src_if stem n =
+    (codes "src", codes "/" ++ stem, refl, same_self (codes "src"), (codes "/", stem, refl, refl, n))
 
 -- ---- `src/m*` and `src/main.rs`
 
@@ -123,9 +124,11 @@ with_b_so s h =
     ap (begins (codes "b")) e where
       named : (t stem : List ℕ) → HasNoSlash (98 ∷ stem) → (t ≡ []) ⊎ EndsWithSlash t
           → last_name (t ++ 98 ∷ stem) ≡ 98 ∷ stem
-      named t stem n (inl e) = subst (λ v. last_name (v ++ 98 ∷ stem) ≡ 98 ∷ stem) (sym e) (without (98 ∷ stem) (98 ∷ stem) n)
+      named t stem n (inl e) =
+          subst (λ v. last_name (v ++ 98 ∷ stem) ≡ 98 ∷ stem) (sym e) (without (98 ∷ stem) (98 ∷ stem) n)
       named t stem n (inr e) =
-          let f : t ++ 98 ∷ stem ≡ e.0 ++ 47 ∷ 98 ∷ stem = ap (λ v. v ++ 98 ∷ stem) e.1 ∙ append_assoc e.0 (47 ∷ []) (98 ∷ stem) in
+          let f : t ++ 98 ∷ stem ≡ e.0 ++ 47 ∷ 98 ∷ stem =
+          ap (λ v. v ++ 98 ∷ stem) e.1 ∙ append_assoc e.0 (47 ∷ []) (98 ∷ stem) in
           subst (λ v. last_name v ≡ 98 ∷ stem) (sym f) (within (e.0 ++ 47 ∷ 98 ∷ stem) e.0 (98 ∷ stem) n)
 
 b_in_src : Means with_b false false (codes "src/b.txt")
@@ -140,7 +143,8 @@ b_in_src = (
 -- ---- each path
 
 pub in_net : means_test in_src false false (codes "src/net/tcp.rs") ≡ false
-in_net = test_false in_src (codes "src/net/tcp.rs") (λ h. false≢true (sym (in_src_flat (codes "src/net/tcp.rs") h)))
+in_net = test_false in_src (codes "src/net/tcp.rs")
+    (λ h. false≢true (sym (in_src_flat (codes "src/net/tcp.rs") h)))
 
 pub at_start : means_test in_src false false [] ≡ false
 at_start = test_false in_src [] (λ h. false≢true (in_src_so [] h))
@@ -165,7 +169,8 @@ not_b s f = test_false with_b s (λ h. false≢true (sym f ∙ with_b_so s h))
 pub not_m : (s : List ℕ) → begins (codes "src/m") s ≡ false → means_test with_m false false s ≡ false
 not_m s f = test_false with_m s (λ h. false≢true (sym f ∙ with_m_so s h))
 
-pub not_main : (s : List ℕ) → begins (codes "src/main.rs") s ≡ false → means_test main_rs false false s ≡ false
+pub not_main : (s : List ℕ) → begins (codes "src/main.rs") s ≡ false
+    → means_test main_rs false false s ≡ false
 not_main s f = test_false main_rs s (λ h. false≢true (sym f ∙ main_rs_so s h))
 
 pub b_yes : means_test with_b false false (codes "src/b.txt") ≡ true

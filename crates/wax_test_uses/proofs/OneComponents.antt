@@ -71,7 +71,8 @@ IsPlainTree t q = (has_boundary t ≡ false) × LiteralsHaveNoSlash t × Still q
 abbrev ArePlainTrees : Trees Span → Place → Type 0
 ArePlainTrees ts q = (some_has_boundary ts ≡ false) × AllHaveNoSlash ts × Still q
 
-leaf_plain : (around : Around) (first : Bool) (l : Leaf) (p q : Place) → ReadsLeaf around first l p q → Still p
+leaf_plain : (around : Around) (first : Bool) (l : Leaf) (p q : Place)
+    → ReadsLeaf around first l p q → Still p
     → (is_boundary_leaf l ≡ false) × LeafHasNoSlash l × Still q
 leaf_plain around first (literal insensitive t) p q h s =
     (refl, has_no_slash t h.1.1, past_still (all_spelled escapable t) p q h.2 s)

@@ -48,7 +48,11 @@ picture_spelled = (
     (
       after_star,
       (start (codes "*.png"), no_flags, ((refl, refl), no_wildcard), (refl, refl)),
-      (at_end, (after_star, no_flags, (refl, (λ e. unlike (sym e), refl), (refl, refl), tt), (refl, refl)), refl),
+      (
+        at_end,
+        (after_star, no_flags, (refl, (λ e. unlike (sym e), refl), (refl, refl), tt), (refl, refl)),
+        refl,
+      ),
     ),
     (refl, refl),
     refl,
@@ -81,7 +85,8 @@ picture_means s = (
 )
 
 -- the only tree of the expression is this one
-pub picture_only : (t : Tree Span) → ((u : Tree Span) → Reads (chars (codes "*.png")) u → u ≡ t) → picture_tree ≡ t
+pub picture_only : (t : Tree Span)
+    → ((u : Tree Span) → Reads (chars (codes "*.png")) u → u ≡ t) → picture_tree ≡ t
 picture_only t only = only picture_tree (subst (λ e. Reads e picture_tree) (sym chars_png) picture_spelled)
 
 -- and means the names that end so

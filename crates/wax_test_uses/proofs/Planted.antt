@@ -2,7 +2,8 @@
 use Rattle.std.proofs.Common.{◌≡◌, ◌∙◌, ℕ, Bool, true, false, List, [], ◌∷◌, refl, sym, ap, subst}
 use Rattle.std.specs.Prelude.{⊤, MatchBool}
 use Rattle.std.specs.List.{list_any}
-use Rattle.wax.specs.Walks.{Folder, HoldsBy, IsPlain, Items, PathTail, Shown, ShowsIn, StandsBy, a_folder, a_leaf}
+use Rattle.wax.specs.Walks.{Folder, HoldsBy, IsPlain, Items, PathTail, Shown, ShowsIn, StandsBy, a_folder}
+use Rattle.wax.specs.Walks.{a_leaf}
 use Rattle.wax.specs.Walks.{a_sealed, end, folder, join, leaf, leaf_kind, leads_on, listing, listing_by}
 use Rattle.wax.specs.Walks.{misnamed, not_text, sealed, tails_to, unread}
 
@@ -48,7 +49,8 @@ same_link false true e = cc
 same_link false false e = refl
 
 -- what is shown at a path is one thing, and each entry of a folder is shown at its path
-module _ (shows : List ℕ → Shown → Type 0) (only_one : (path : List ℕ) (s u : Shown) → shows path s → shows path u → s ≡ u)
+module _ (shows : List ℕ → Shown → Type 0)
+    (only_one : (path : List ℕ) (s u : Shown) → shows path s → shows path u → s ≡ u)
     (shows_inner : (path : List ℕ) (l : Items) → shows path (a_folder l) → ShowsIn shows path l)
     (paths : List (List ℕ))
     (stands : (path : List ℕ) → (s : Shown) × shows path s × StandsBy (tails_to path paths) s) where
@@ -88,7 +90,8 @@ module _ (shows : List ℕ → Shown → Type 0) (only_one : (path : List ℕ) (
       let at : shows (join path x) (a_folder other) =
       subst (λ z. shows (join path z) (a_folder other)) n s.1 in
       let m = a_folder_at (join path x) h.1.0 in
-      let same : a_folder m.0 ≡ a_folder other = only_one (join path x) (a_folder m.0) (a_folder other) m.1 at in
+      let same : a_folder m.0 ≡ a_folder other =
+      only_one (join path x) (a_folder m.0) (a_folder other) m.1 at in
       let w : m.0 ≡ other = cc in
       let g : other ≡ inner = same_items inner other (join path x)
       (ap listing (sym w) ∙ m.2 ∙ sym h.1.1) h.1.2 (shows_inner (join path x) other at) in

@@ -6,15 +6,18 @@ use Rattle.wax.specs.GlobWalks.{origin_from, request_from}
 use Rattle.wax.specs.Language.{Span, Tree}
 use Rattle.wax.specs.Patterns.{IsAnyOf}
 use Rattle.wax.specs.Walks.{alone, ArePlain, BeginsSet, behavior_at, behavior_range, by_matches, CanBegin}
-use Rattle.wax.specs.Walks.{ComesWanted, DepthRange, entry, fault, Given, GlobRequest, goes, IsExcludedBy, IsWantedEntry}
-use Rattle.wax.specs.Walks.{kept, KeepsWanted, Law, no_memory, Selects, SelectsWanted, set_wants, Shown, Unbounded}
+use Rattle.wax.specs.Walks.{ComesWanted, DepthRange, entry, fault, Given, GlobRequest, goes, IsExcludedBy}
+use Rattle.wax.specs.Walks.{IsWantedEntry}
+use Rattle.wax.specs.Walks.{kept, KeepsWanted, Law, no_memory, Selects, SelectsWanted, set_wants, Shown}
+use Rattle.wax.specs.Walks.{Unbounded}
 use Rattle.wax.specs.Walks.{WalkView, with_tree}
 use Rattle.wax_test_uses.specs.Sets.{IsMatchedEntryOf, KeepsMatches}
 
 selects_alike : {A : Type 0} {P Q : A → Type 0} → ((x : A) → P x ↔ Q x) → (xs ys : List A) → Selects P xs ys
     → Selects Q xs ys
 selects_alike same [] ys h = h
-selects_alike same (x ∷ xs) ys (inl h) = inl ((same x).0 h.0, (h.1.0, h.1.1, selects_alike same xs h.1.0 h.1.2))
+selects_alike same (x ∷ xs) ys (inl h) =
+    inl ((same x).0 h.0, (h.1.0, h.1.1, selects_alike same xs h.1.0 h.1.2))
 selects_alike same (x ∷ xs) ys (inr h) = inr ((λ q. h.0 ((same x).1 q)), selects_alike same xs ys h.1)
 
 -- wanted of a set is what one of its patterns means
@@ -24,7 +27,12 @@ wanted_of_set : {P : Type 0} (SpellsTree : P → Tree Span → Type 0) (patterns
     ↔ IsMatchedEntryOf SpellsTree patterns range x
 wanted_of_set SpellsTree patterns t is rooted range (entry kept f) = (
   (λ h. (h.0, h.1, (is.means (chars f.candidate)).0 h.2)),
-  (λ h. (h.0, h.1, (is.means (chars f.candidate)).1 h.2, All-nil (λ e. ¬ (IsExcludedBy e (chars f.candidate))))),
+  (λ h. (
+    h.0,
+    h.1,
+    (is.means (chars f.candidate)).1 h.2,
+    All-nil (λ e. ¬ (IsExcludedBy e (chars f.candidate))),
+  )),
 )
 wanted_of_set SpellsTree patterns t is rooted range (entry alone f) = ((λ h. h), (λ h. h))
 wanted_of_set SpellsTree patterns t is rooted range (entry with_tree f) = ((λ h. h), (λ h. h))
@@ -36,20 +44,23 @@ origin_begins : (rooted : Bool) (names : List (List ℕ))
 origin_begins false names = inl refl
 origin_begins true names = inr refl
 
-plain_names : (rooted : Bool) (names : List (List ℕ)) → ArePlain (origin_from [] rooted names).names → ArePlain names
+plain_names : (rooted : Bool) (names : List (List ℕ))
+    → ArePlain (origin_from [] rooted names).names → ArePlain names
 plain_names false names h = h
 plain_names true names h = h
 
 pub keeps_matches : {P D C : Type 0} (SpellsTree : P → Tree Span → Type 0) (patterns : List P) (law : Law D C)
     (d new : D) (t : Tree Span) (view : WalkView D) (ys : List Given) → IsAnyOf SpellsTree patterns t
     → BeginsSet t law d [] (behavior_range (behavior_at Unbounded)) view → SelectsWanted
-    → ((over : D) (request : GlobRequest) (s : Shown) (listed : List (List ℕ)) → ComesWanted law over request view
+    → ((over : D) (request : GlobRequest) (s : Shown) (listed : List (List ℕ))
+    → ComesWanted law over request view
     → CanBegin request → law.shows over request.origin.path s → law.tells over listed
     → KeepsWanted (law.tells new) request s listed ys)
     → KeepsMatches SpellsTree patterns law d new ys
 keeps_matches SpellsTree patterns law d new t view ys is begins selects keeps =
     let b = begins.begins in
-    let request = request_from by_matches (set_wants b []) [] (behavior_range (behavior_at Unbounded)) begins.depth b.names in
+    let request = request_from by_matches (set_wants b []) [] (behavior_range (behavior_at Unbounded))
+    begins.depth b.names in
     record {
       request = request;
       begins = origin_begins b.rooted b.names;

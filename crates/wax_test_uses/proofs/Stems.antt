@@ -14,7 +14,8 @@ first_is M zero h = h
 first_is M (suc k) h = absurd h
 
 -- one capture, which is the stem
-stem_captured : (s : List ℕ) (captures : List (List ℕ)) → Captured (members picture_tree) false false s captures
+stem_captured : (s : List ℕ) (captures : List (List ℕ))
+    → Captured (members picture_tree) false false s captures
     → (stem : List ℕ) × (captures ≡ stem ∷ []) × HasStem s stem
 stem_captured s captures h =
     let fits = h.1.fits in
@@ -26,14 +27,18 @@ stem_captured s captures h =
       (first_is (HasNoSlash (take h.0 s)) h.1.way fits.1, sym whole ∙ ap (λ v. take h.0 s ++ v) png),
     )
 
-captured_by : (t : Tree Span) (s : List ℕ) (m : MatchedView) → ((u : Tree Span) → Reads (chars (codes "*.png")) u → u ≡ t)
-    → Captured (members t) false false s m.captures → (stem : List ℕ) × (m.captures ≡ stem ∷ []) × HasStem s stem
+captured_by : (t : Tree Span) (s : List ℕ) (m : MatchedView)
+    → ((u : Tree Span) → Reads (chars (codes "*.png")) u → u ≡ t)
+    → Captured (members t) false false s m.captures → (stem : List ℕ)
+    × (m.captures ≡ stem ∷ []) × HasStem s stem
 captured_by t s m only h =
-    stem_captured s m.captures (subst (λ u. Captured (members u) false false s m.captures) (sym (picture_only t only)) h)
+    stem_captured s m.captures
+    (subst (λ u. Captured (members u) false false s m.captures) (sym (picture_only t only)) h)
 
 -- the first capture is the stem
 pub stem_is : (t : Tree Span) (s : List ℕ) (m : MatchedView) (x : List ℕ)
-    → ((u : Tree Span) → Reads (chars (codes "*.png")) u → u ≡ t) → Captured (members t) false false s m.captures
+    → ((u : Tree Span) → Reads (chars (codes "*.png")) u → u ≡ t)
+    → Captured (members t) false false s m.captures
     → slice_get (texts m) 1 ≡ Some x → HasStem s x
 stem_is t s m x only h e =
     let c = captured_by t s m only h in
@@ -42,7 +47,8 @@ stem_is t s m x only h e =
 
 -- and it is there
 pub stem_there : (t : Tree Span) (s : List ℕ) (m : MatchedView)
-    → ((u : Tree Span) → Reads (chars (codes "*.png")) u → u ≡ t) → Captured (members t) false false s m.captures
+    → ((u : Tree Span) → Reads (chars (codes "*.png")) u → u ≡ t)
+    → Captured (members t) false false s m.captures
     → slice_get (texts m) 1 ≡ None → ⊥
 stem_there t s m only h e =
     let c = captured_by t s m only h in
@@ -55,5 +61,6 @@ pub unmatched : (Means : List ℕ → Type 0) (Captures : List ℕ → List (Lis
 unmatched Means Captures s r h e = subst (IsMatchOf Means Captures s) e h
 
 pub matched_so : (Means : List ℕ → Type 0) (Captures : List ℕ → List (List ℕ) → Type 0) (s : List ℕ)
-    (r : Option MatchedView) (m : MatchedView) → IsMatchOf Means Captures s r → r ≡ Some m → Captures s m.captures
+    (r : Option MatchedView) (m : MatchedView) → IsMatchOf Means Captures s r → r ≡ Some m
+    → Captures s m.captures
 matched_so Means Captures s r m h e = (subst (IsMatchOf Means Captures s) e h).2

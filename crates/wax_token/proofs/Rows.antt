@@ -12,11 +12,13 @@ u = tt
 
 -- `<a/**:2>`
 abbrev two_copies : Tree (Unit {0})
-two_copies = concatenation u (more (repetition u (concatenation u (more (leaf u (literal false (codes "a"))) (more (leaf u (tree true)) none))) 2 (Some 2)) none)
+two_copies = concatenation u (more (repetition u (concatenation u
+    (more (leaf u (literal false (codes "a"))) (more (leaf u (tree true)) none))) 2 (Some 2)) none)
 
 -- `a/**/b`
 abbrev between : Tree Span
-between = concatenation (0, 6) (more (leaf (0, 1) (literal false (codes "a"))) (more (leaf (1, 4) (tree true)) (more (leaf (5, 1) (literal false (codes "b"))) none)))
+between = concatenation (0, 6) (more (leaf (0, 1) (literal false (codes "a")))
+    (more (leaf (1, 4) (tree true)) (more (leaf (5, 1) (literal false (codes "b"))) none)))
 
 abbrev plain : List ℕ → Place
 plain s = record { insensitive = false; rest = s }
@@ -32,7 +34,22 @@ between_reads = (
       (plain (codes "a/**/b"), no_flags, (refl, ((λ e. cc), refl), (refl, refl), refl), (refl, refl)),
       (
         plain (codes "b"),
-        (plain (codes "/**/b"), no_flags, (plain (codes "**/b"), (refl, refl), (plain (codes "**/b"), plain (codes "/b"), no_flags, (refl, refl), inl (plain (codes "/b"), no_flags, (refl, refl)))), (refl, refl)),
+        (
+          plain (codes "/**/b"),
+          no_flags,
+          (
+            plain (codes "**/b"),
+            (refl, refl),
+            (
+              plain (codes "**/b"),
+              plain (codes "/b"),
+              no_flags,
+              (refl, refl),
+              inl (plain (codes "/b"), no_flags, (refl, refl)),
+            ),
+          ),
+          (refl, refl),
+        ),
         (
           plain [],
           (plain (codes "b"), no_flags, (refl, ((λ e. cc), refl), (refl, refl), tt), (refl, refl)),
@@ -47,11 +64,28 @@ between_reads = (
 
 -- `a/**/b` means `a/x/b`
 pub between_means : Means between false false (codes "a/x/b")
-between_means = (codes "a", codes "/x/b", refl, (refl, tt), (codes "/x/", codes "b", refl, ((codes "x/", refl), (codes "/x", refl)), (refl, tt)))
+between_means = (
+  codes "a",
+  codes "/x/b",
+  refl,
+  (refl, tt),
+  (codes "/x/", codes "b", refl, ((codes "x/", refl), (codes "/x", refl)), (refl, tt)),
+)
 
 -- `<a/**:2>` means `a/a`, and not `aa`
 pub two_copies_means : Means two_copies false false (codes "a/a")
-two_copies_means = (2, omega arith, omega arith, (codes "a/", codes "a", refl, (codes "a", codes "/", refl, (refl, tt), ((codes "", refl), (codes "", refl))), (codes "a", [], refl, (refl, tt), inl refl)))
+two_copies_means = (
+  2,
+  omega arith,
+  omega arith,
+  (
+    codes "a/",
+    codes "a",
+    refl,
+    (codes "a", codes "/", refl, (refl, tt), ((codes "", refl), (codes "", refl))),
+    (codes "a", [], refl, (refl, tt), inl refl),
+  ),
+)
 
 SameText-alone : (c : ℕ) (s : List ℕ) → SameText false (c ∷ []) s → s ≡ c ∷ []
 SameText-alone c [] h = absurd h
@@ -61,15 +95,19 @@ SameText-alone c (d ∷ e ∷ s) h = absurd h.1
 no_slash : (y t : List ℕ) → codes "aa" ≡ (codes "a" ++ (47 ∷ t)) ++ y → ⊥
 no_slash y t e = cc
 
-at_two : Copies 2 (Means (concatenation u (more (leaf u (literal false (codes "a"))) (more (leaf u (tree true)) none)))) false false (codes "aa") → ⊥
+at_two : Copies 2
+    (Means (concatenation u (more (leaf u (literal false (codes "a"))) (more (leaf u (tree true)) none))))
+    false false (codes "aa") → ⊥
 at_two h =
     let a : h.3.0 ≡ codes "a" = SameText-alone 97 h.3.0 h.3.3 in
-    no_slash h.1 h.3.4.0.0 (h.2 ∙ ap (λ z. z ++ h.1) (h.3.2 ∙ ap (λ z. z ++ h.3.1) a ∙ ap (λ z. codes "a" ++ z) h.3.4.0.1))
+    no_slash h.1 h.3.4.0.0
+    (h.2 ∙ ap (λ z. z ++ h.1) (h.3.2 ∙ ap (λ z. z ++ h.3.1) a ∙ ap (λ z. codes "a" ++ z) h.3.4.0.1))
 
 pub two_copies_not : Means two_copies false false (codes "aa") → ⊥
 two_copies_not h = at_count h.0 h.1 h.2 h.3
   where
-    at_count : (k : ℕ) → 2 ≤ k → k ≤ 2 → Copies k (Means (concatenation u (more (leaf u (literal false (codes "a"))) (more (leaf u (tree true)) none)))) false false (codes "aa") → ⊥
+    at_count : (k : ℕ) → 2 ≤ k → k ≤ 2 → Copies k (Means (concatenation u (more
+        (leaf u (literal false (codes "a"))) (more (leaf u (tree true)) none)))) false false (codes "aa") → ⊥
     at_count zero p q c = omega (arith, p)
     at_count (suc zero) p q c = omega (arith, p)
     at_count (suc (suc zero)) p q c = at_two c
@@ -130,9 +168,11 @@ negated_takes_others = refl
 pub negated_refuses_its_own : (in_class true others 98 ≡ false) × (in_class true others 51 ≡ false)
 negated_refuses_its_own = (refl, refl)
 
-pub class_refuses_separator : (in_class true others 47 ≡ false) × (in_class false (Character 47 ∷ []) 47 ≡ false)
+pub class_refuses_separator : (in_class true others 47 ≡ false)
+    × (in_class false (Character 47 ∷ []) 47 ≡ false)
 class_refuses_separator = (refl, refl)
 
-pub reversed_takes_nothing : (b : Bool) → (in_class b (Range 122 97 ∷ []) 97 ≡ false) × (in_class b (Range 122 97 ∷ []) 109 ≡ false) × (in_class b (Range 122 97 ∷ []) 122 ≡ false)
+pub reversed_takes_nothing : (b : Bool) → (in_class b (Range 122 97 ∷ []) 97 ≡ false)
+    × (in_class b (Range 122 97 ∷ []) 109 ≡ false) × (in_class b (Range 122 97 ∷ []) 122 ≡ false)
 reversed_takes_nothing true = (refl, refl, refl)
 reversed_takes_nothing false = (refl, refl, refl)

@@ -1,5 +1,6 @@
 -- Trees and leaves are the same where their parts are.
-use Rattle.std.proofs.Common.{◌≡◌, ◌↔◌, ◌∷◌, ◌∙◌, Bool, IsTrue, List, [], ap, chars, encode_utf8_all, nat_eq, refl, sym, ℕ}
+use Rattle.std.proofs.Common.{◌≡◌, ◌↔◌, ◌∷◌, ◌∙◌, Bool, IsTrue, List, [], ap, chars, encode_utf8_all, nat_eq}
+use Rattle.std.proofs.Common.{refl, sym, ℕ}
 use Rattle.std.specs.Cmp.Lexicographic.{bytes_decides, pointwise}
 use Rattle.std.specs.Str.{IsUtf8}
 use Rattle.std.proofs.lemmas.Str.{encodes-chars}
@@ -21,14 +22,16 @@ row_of (concatenation a ts) = ts
 row_of (repetition a t low high) = none
 
 module _ {A : Type 0} (r : Bool) (x : A) (ts us : List (Tree A)) (same : IsTrue r ↔ (ts ≡ us)) where
-  pub alternation_same : (t u : Tree A) → t ≡ alternation x (trees ts) → u ≡ alternation x (trees us) → IsTrue r ↔ (t ≡ u)
+  pub alternation_same : (t u : Tree A) → t ≡ alternation x (trees ts)
+      → u ≡ alternation x (trees us) → IsTrue r ↔ (t ≡ u)
   unfolding row_of
   alternation_same t u is its = (
     λ h. is ∙ ap (λ vs. alternation x (trees vs)) (same.0 h) ∙ sym its,
     λ e. same.1 (same_rows ts us (ap row_of (sym is ∙ e ∙ its))),
   )
 
-  pub concatenation_same : (t u : Tree A) → t ≡ concatenation x (trees ts) → u ≡ concatenation x (trees us) → IsTrue r ↔ (t ≡ u)
+  pub concatenation_same : (t u : Tree A) → t ≡ concatenation x (trees ts)
+      → u ≡ concatenation x (trees us) → IsTrue r ↔ (t ≡ u)
   unfolding row_of
   concatenation_same t u is its = (
     λ h. is ∙ ap (λ vs. concatenation x (trees vs)) (same.0 h) ∙ sym its,
@@ -43,11 +46,13 @@ text_of one = []
 text_of (zero_or_more e) = []
 text_of (tree b) = []
 
-pub literal_same : (r : Bool) (k l : Leaf) (i j : Bool) (s t : List ℕ) → k ≡ literal i (chars s) → l ≡ literal j (chars t) →
+pub literal_same : (r : Bool) (k l : Leaf) (i j : Bool) (s t : List ℕ) → k ≡ literal i (chars s)
+    → l ≡ literal j (chars t) →
     i ≡ j → IsUtf8 s → IsUtf8 t → r ≡ pointwise nat_eq s t → IsTrue r ↔ (k ≡ l)
 unfolding text_of
 literal_same r k l i j s t is its flag u v told = (
-  λ h. is ∙ ap (λ f. literal f (chars s)) flag ∙ ap (λ z. literal j (chars z)) ((bytes_decides s t).0 (sym told ∙ h)) ∙ sym its,
+  λ h. is ∙ ap (λ f. literal f (chars s)) flag
+      ∙ ap (λ z. literal j (chars z)) ((bytes_decides s t).0 (sym told ∙ h)) ∙ sym its,
   λ e. (let same : chars s ≡ chars t = ap text_of (sym is ∙ e ∙ its) in
       told ∙ (bytes_decides s t).1 (sym (encodes-chars s u) ∙ ap encode_utf8_all same ∙ encodes-chars t v)),
 )

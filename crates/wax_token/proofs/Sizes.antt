@@ -1,5 +1,6 @@
 -- A token of a row is smaller than the row.
-use Rattle.std.proofs.Common.{◌<◌, ◌*◌, ◌≤◌, ◌+◌, ◌∷◌, ◌++◌, ◌≡◌, List, ℕ, [], ap, arith, get_or, length, suc, zero, refl}
+use Rattle.std.proofs.Common.{◌<◌, ◌*◌, ◌≤◌, ◌+◌, ◌∷◌, ◌++◌, ◌≡◌, List, ℕ, [], ap, arith, get_or, length, suc}
+use Rattle.std.proofs.Common.{zero, refl}
 use Rattle.wax_token.specs.Syntax.{Tree, tree_size, trees_size}
 use Rattle.wax_token.specs.Words.{trees}
 use Rattle.wax_token.specs.Syntax.{alternation, concatenation}
@@ -33,10 +34,12 @@ most_size (t ∷ ts) = omega (arith, size_is t, most_size ts)
 pub alternation_weighs : {A : Type 0} (ts : List (Tree A)) (a : A) (t : Tree A) (n : ℕ) →
     t ≡ alternation a (trees ts) → size-Token A t ≡ n → most (size-Token A) ts < n
 alternation_weighs ts a t n e f =
-    let g : tree_size t ≡ trees_size (trees ts) + 1 = ap tree_size e in omega (arith, f, g, size_is t, most_size ts)
+    let g : tree_size t ≡ trees_size (trees ts) + 1 = ap tree_size e in
+    omega (arith, f, g, size_is t, most_size ts)
 
 -- the tokens of a concatenation weigh less than it
 pub concatenation_weighs : {A : Type 0} (ts : List (Tree A)) (a : A) (t : Tree A) (n : ℕ) →
     t ≡ concatenation a (trees ts) → size-Token A t ≡ n → most (size-Token A) ts < n
 concatenation_weighs ts a t n e f =
-    let g : tree_size t ≡ trees_size (trees ts) + 1 = ap tree_size e in omega (arith, f, g, size_is t, most_size ts)
+    let g : tree_size t ≡ trees_size (trees ts) + 1 = ap tree_size e in
+    omega (arith, f, g, size_is t, most_size ts)

@@ -1,5 +1,6 @@
 -- What was answered along names is what a tree answers.
-use Rattle.std.proofs.Common.{◌≡◌, ◌∙◌, ℕ, ◌+◌, ◌<◌, ◌^◌, true, false, cond, List, [], ◌∷◌, length, refl, sym, ap, subst, arith}
+use Rattle.std.proofs.Common.{◌≡◌, ◌∙◌, ℕ, ◌+◌, ◌<◌, ◌^◌, true, false, cond, List, [], ◌∷◌, length, refl, sym}
+use Rattle.std.proofs.Common.{ap, subst, arith}
 use Rattle.std.specs.Str.{bytes_eq}
 use Rattle.std.proofs.lemmas.Slice.Eq.{bytes_eq-Decides}
 use Rattle.wax_directory.specs.declared.directory.FileType.{FileType}
@@ -10,7 +11,8 @@ use Rattle.wax_directory.specs.Shown.{leaf, missing, sealed}
 use Rattle.wax_walk.specs.Course.{Course, asks, call, stop, yields}
 use Rattle.wax_walk.specs.declared.error.FaultKind.TheVariants as K
 use Rattle.wax_walk.specs.Given.{fault}
-use Rattle.wax_tree.specs.Courses.{AlongComes, FoundComes, IsNamed, along_course, is_failing, is_missing, is_there}
+use Rattle.wax_tree.specs.Courses.{AlongComes, FoundComes, IsNamed, along_course, is_failing, is_missing}
+use Rattle.wax_tree.specs.Courses.{is_there}
 use Rattle.wax_tree.specs.Follows.{AreDistinctAlong}
 use Rattle.wax_tree.specs.Plain.{Location, WalkScope, item_location, one_deeper}
 use Rattle.wax_tree.specs.Prefix.{ArePlain}
@@ -61,7 +63,8 @@ module _ (scope : WalkScope) where
 
   course_around : (x : List ℕ) (names : List (List ℕ)) (at : Location) (s : Shown)
       → along_course scope (x ∷ names) at (around x s)
-      ≡ asks (call at.path (found at.path F.Folder)) (along_course scope names (one_deeper (item_location at x)) s)
+      ≡ asks (call at.path (found at.path F.Folder))
+      (along_course scope names (one_deeper (item_location at x)) s)
   course_around x names at (a_leaf link) = ap (λ b. asks (call at.path (found at.path F.Folder))
       (along_course scope names (one_deeper (item_location at x)) (cond b (a_leaf link) missing))) (itself x)
   course_around x names at (a_folder l) = ap (λ b. asks (call at.path (found at.path F.Folder))

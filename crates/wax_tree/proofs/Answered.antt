@@ -1,12 +1,14 @@
 -- What was answered is what a tree answers.
-use Rattle.std.proofs.Common.{◌≡◌, ◌∙◌, ℕ, ◌+◌, ◌-◌, Bool, true, false, cond, nat_lt, List, [], ◌∷◌, ◌++◌, filter, arith}
+use Rattle.std.proofs.Common.{◌≡◌, ◌∙◌, ℕ, ◌+◌, ◌-◌, Bool, true, false, cond, nat_lt, List, [], ◌∷◌, ◌++◌}
+use Rattle.std.proofs.Common.{filter, arith}
 use Rattle.std.proofs.Common.{refl, sym, ap, subst}
 use Rattle.std.proofs.lemmas.List.{append-nil}
 use Rattle.wax_directory.specs.History.{Answer}
 use Rattle.wax_directory.specs.Shown.{Items, end, leaf, folder, sealed, misnamed, unread, not_text, Shown}
 use Rattle.wax_directory.specs.Shown.{a_leaf, a_folder, a_sealed, child_in, missing, failing, join}
 use Rattle.wax_walk.specs.Collected.{EndsThere, NoMemoryError, TookCourse, whole, cut_short}
-use Rattle.wax_walk.specs.Course.{IsStartOf, DirectoryCall, Course, CutsShort, IsKnownWhole, answers, asks, calls_of}
+use Rattle.wax_walk.specs.Course.{IsStartOf, DirectoryCall, Course, CutsShort, IsKnownWhole, answers, asks}
+use Rattle.wax_walk.specs.Course.{calls_of}
 use Rattle.wax_walk.specs.Course.{continued, items_of, stop, unknown, yields}
 use Rattle.wax_walk.specs.declared.error.FaultKind.TheVariants as K
 use Rattle.wax_walk.specs.Forest.{Forest, nothing, item, lists, followed_by}
@@ -81,15 +83,18 @@ module _ (scope : WalkScope) where
 
   items_yield : (at : Location) (l : Items) → Yields (items_course scope at l) (items_forest scope at l)
   items_yield at end = record { is_whole = tt; forest = refl }
-  items_yield at (leaf x link rest) = asked_yields _ _ _ (depth_yields at.depth _ stop (items_course scope at rest)
+  items_yield at (leaf x link rest) =
+      asked_yields _ _ _ (depth_yields at.depth _ stop (items_course scope at rest)
       nothing (items_forest scope at rest) nothing_yields (items_yield at rest))
-  items_yield at (folder x inner rest) = asked_yields _ _ _ (depth_yields at.depth _ _ (items_course scope at rest)
+  items_yield at (folder x inner rest) =
+      asked_yields _ _ _ (depth_yields at.depth _ _ (items_course scope at rest)
       _ (items_forest scope at rest)
       (max_yields at.depth _ _ (listed_yields _ _ _ _ (items_yield (one_deeper (item_location at x)) inner)))
       (items_yield at rest))
   items_yield at (sealed x rest) = asked_yields _ _ _ (depth_yields at.depth _ _ (items_course scope at rest)
       _ (items_forest scope at rest)
-      (max_yields at.depth _ _ (listed_yields _ _ _ _ (fault_yields (fault K.Listing (join at.path x) at.depth))))
+      (max_yields at.depth _ _
+      (listed_yields _ _ _ _ (fault_yields (fault K.Listing (join at.path x) at.depth))))
       (items_yield at rest))
   items_yield at (misnamed x kind rest) = asked_yields _ _ _ (item_yields _ stop (items_course scope at rest)
       nothing (items_forest scope at rest) nothing_yields (items_yield at rest))
@@ -109,12 +114,14 @@ module _ (scope : WalkScope) where
   below_yields at missing = nothing_yields
   below_yields at failing = nothing_yields
 
-  pub place_yields : (at : Location) (s : Shown) → Yields (place_course scope at s stop) (plain_at scope at s nothing)
+  pub place_yields : (at : Location) (s : Shown)
+      → Yields (place_course scope at s stop) (plain_at scope at s nothing)
   place_yields at (a_leaf link) = asked_yields _ _ _ (depth_yields at.depth _ _ stop _ nothing
       (below_yields at (a_leaf link)) nothing_yields)
   place_yields at (a_folder l) = asked_yields _ _ _ (depth_yields at.depth _ _ stop _ nothing
       (below_yields at (a_folder l)) nothing_yields)
-  place_yields at a_sealed = asked_yields _ _ _ (depth_yields at.depth _ _ stop _ nothing (below_yields at a_sealed)
+  place_yields at a_sealed =
+      asked_yields _ _ _ (depth_yields at.depth _ _ stop _ nothing (below_yields at a_sealed)
       nothing_yields)
   place_yields at missing = asked_yields _ _ _ (fault_yields (fault K.NotFound at.path at.depth))
   place_yields at failing = asked_yields _ _ _ (fault_yields (fault K.Listing at.path at.depth))
@@ -188,7 +195,8 @@ module _ (range : DepthRange) (start : List ℕ) where
   plain_yields : (s : Shown) → Yields (plain_course (scope_in range) start s) (plain (scope_in range) start s)
   plain_yields s = place_yields (scope_in range) (start_location start) s
 
-  items_plain : (s : Shown) → items_of (plain_course (scope_in range) start s) ≡ yielded range (all.whole start s)
+  items_plain : (s : Shown) → items_of (plain_course (scope_in range) start s)
+      ≡ yielded range (all.whole start s)
   items_plain s = yields_items _ _ (plain_yields s) ∙ plain_yielded range start s
 
   -- only an error came, and nothing was asked

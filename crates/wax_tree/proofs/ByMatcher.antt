@@ -7,5 +7,7 @@ pub seen_by_matcher : {D : Type 0} (v w : WalkView D) (d e o p : List ℕ → Bo
     → IsSeenAs (selected_view v (λ c. not (nat_lt c.depth least) && d c.text) (λ c. o c.text) false) w
     → IsSeenAs (selected_view v (λ c. not (nat_lt c.depth least) && e c.text) (λ c. p c.text) false) w
 seen_by_matcher v w d e o p least f g h =
-    subst (λ z. IsSeenAs (selected_view v (λ c. not (nat_lt c.depth least) && e c.text) (λ c. z c.text) false) w) g
-    (subst (λ z. IsSeenAs (selected_view v (λ c. not (nat_lt c.depth least) && z c.text) (λ c. o c.text) false) w) f h)
+    subst (λ z.
+    IsSeenAs (selected_view v (λ c. not (nat_lt c.depth least) && e c.text) (λ c. z c.text) false) w) g
+    (subst (λ z.
+    IsSeenAs (selected_view v (λ c. not (nat_lt c.depth least) && z c.text) (λ c. o c.text) false) w) f h)

@@ -10,7 +10,8 @@ use Rattle.wax_walk.proofs.Filtered.{ruled_course}
 abbrev pub one_of : (Facts → Mark) → (Facts → Mark) → Facts → Mark
 one_of first second f = combined_mark (first f) (second f)
 
-pub combined_thrice : (a b c : Mark) → combined_mark (combined_mark a b) c ≡ combined_mark a (combined_mark b c)
+pub combined_thrice : (a b c : Mark) → combined_mark (combined_mark a b) c
+    ≡ combined_mark a (combined_mark b c)
 combined_thrice with_tree b c = refl
 combined_thrice kept b c = refl
 combined_thrice alone with_tree c = refl
@@ -31,7 +32,8 @@ said_twice first second (fault kind path depth) = refl
 said_twice first second no_memory = refl
 
 -- what both rules leave below an item
-cut_twice : {F : Type 0} (none : F) (second : F → F) → second none ≡ none → (x : Given) (m n : Mark) (below : F)
+cut_twice : {F : Type 0} (none : F) (second : F → F) → second none ≡ none
+    → (x : Given) (m n : Mark) (below : F)
     → cond (is_cut (with_mark x m) n) none (second (cond (is_cut x m) none below))
     ≡ cond (is_cut x (combined_mark m n)) none (second below)
 cut_twice none second stays (fault kind path depth) m n below = refl
@@ -74,7 +76,8 @@ pub filtered_twice : (first second : Facts → Mark) (f : Forest Given)
 filtered_twice first second nothing = refl
 filtered_twice first second (lists path after) = ap (lists path) (filtered_twice first second after)
 filtered_twice first second (item x below after) =
-    rules_twice item nothing (ruled first) (ruled second) (ruled (one_of first second)) first second x below after refl
+    rules_twice item nothing (ruled first) (ruled second) (ruled (one_of first second)) first
+    second x below after refl
     (filtered_twice first second below) (filtered_twice first second after)
 
 pub course_twice : (first second : Facts → Mark) (c : Course)
@@ -83,5 +86,6 @@ course_twice first second stop = refl
 course_twice first second unknown = refl
 course_twice first second (asks q c) = ap (asks q) (course_twice first second c)
 course_twice first second (yields x below after) =
-    rules_twice yields stop (ruled_course first) (ruled_course second) (ruled_course (one_of first second)) first second
+    rules_twice yields stop (ruled_course first) (ruled_course second)
+    (ruled_course (one_of first second)) first second
     x below after refl (course_twice first second below) (course_twice first second after)

@@ -3,7 +3,8 @@ use Rattle.std.proofs.Common.{◌≡◌, List, [], ◌++◌, refl, sym, subst, i
 use Rattle.std.specs.Prelude.{Some, None}
 use Rattle.std.proofs.lemmas.List.{append-nil}
 use Rattle.wax_directory.specs.Law.{Law}
-use Rattle.wax_walk.specs.Course.{IsStartOf, DirectoryCall, Course, CutsShort, ahead, all_ahead, answers, asking, stop}
+use Rattle.wax_walk.specs.Course.{IsStartOf, DirectoryCall, Course, CutsShort, ahead, all_ahead, answers}
+use Rattle.wax_walk.specs.Course.{asking, stop}
 use Rattle.wax_walk.specs.Course.{unknown, yields}
 use Rattle.wax_walk.specs.View.{Follows, MayTake, ended_so, was_cut, went_on}
 use Rattle.wax_walk.proofs.Courses.{asking_then, begins_asking, begins_itself, begins_parts, begins_trans}
@@ -42,7 +43,8 @@ module _ {D C : Type 0} (law : Law D C) where
 
     pub run_answered : law.answered new.directory ≡ law.answered w.directory ++ answers run_calls
     run_answered =
-        answered_more law.answered w.directory now.directory new.directory f.calls st.calls f.answered st.answered
+        answered_more law.answered w.directory now.directory new.directory f.calls st.calls
+        f.answered st.answered
 
     goes_so : (c : Course) → ComesWhole now (asking st.calls c) → ComesWhole w (asking run_calls c)
     goes_so c h = subst (ComesWhole w) (asking_then f.calls st.calls c) (f.goes (asking st.calls c) h)
@@ -73,13 +75,15 @@ module _ {D C : Type 0} (law : Law D C) where
         let calls = f.calls ++ st.calls in
         let e = m.0 in
         let all = yields (tree_given x) e.below e.after in
-        let same : IsStartOf (yields (tree_given x) a.below a.after) all = (e.below, e.after, refl, m.2, m.3) in
+        let same : IsStartOf (yields (tree_given x) a.below a.after) all =
+        (e.below, e.after, refl, m.2, m.3) in
         may_take w (asking calls all) (asking calls c) (goes_so w now new (Gives x) f st all (g e m.1))
         (begins_asking calls c all (begins_trans c (yields (tree_given x) a.below a.after) all b same)))
     | inr k ↦
         let same : tree_given x ≡ k.0 = let e : Some (tree_given x) ≡ Some k.0 = k.1 in (cc) in
         was_cut (tree_given x) refl
-        (cuts_later f.calls st.calls (tree_given x) (subst (CutsShort st.calls) (sym same) k.2)) (inl k.3) (inl k.3)
+        (cuts_later f.calls st.calls (tree_given x) (subst (CutsShort st.calls) (sym same) k.2)) (inl k.3)
+        (inl k.3)
   ]
 
   pub run_stops : (w now new : Steps D C) (f : CourseSoFar w now)

@@ -1,5 +1,6 @@
 -- The course of a walk, step by step.
-use Rattle.std.proofs.Common.{◌≡◌, ◌∙◌, ℕ, ◌+◌, ◌-◌, ◌<◌, ◌≤◌, Bool, true, false, cond, nat_lt, List, [], ◌∷◌, ◌++◌}
+use Rattle.std.proofs.Common.{◌≡◌, ◌∙◌, ℕ, ◌+◌, ◌-◌, ◌<◌, ◌≤◌, Bool, true, false, cond, nat_lt, List, [], ◌∷◌}
+use Rattle.std.proofs.Common.{◌++◌}
 use Rattle.std.proofs.Common.{refl, sym, ap, subst, inl, inr, arith, string_bytes}
 use Rattle.std.specs.Prelude.{Option, Some, None, Err, String}
 use Rattle.std.specs.declared.alloc.Global.{Global}
@@ -16,8 +17,10 @@ use Rattle.wax_directory.specs.Law.{Law}
 use Rattle.wax_directory.specs.Names.{is_plain}
 use Rattle.wax_directory.specs.PlainNames.{not_plain, plain_of}
 use Rattle.wax_directory.specs.Shown.{IsPlain, Shown, a_folder, a_leaf, a_sealed, end, failing, folder, leaf}
-use Rattle.wax_directory.specs.Shown.{join, leaf_kind, misnamed, missing, named, no_item, no_name, not_text, sealed, unread}
-use Rattle.wax_walk.specs.Course.{Ahead, DirectoryCall, Course, CutsShort, ahead, all_ahead, asking, asks, call, continued}
+use Rattle.wax_directory.specs.Shown.{join, leaf_kind, misnamed, missing, named, no_item, no_name, not_text}
+use Rattle.wax_directory.specs.Shown.{sealed, unread}
+use Rattle.wax_walk.specs.Course.{Ahead, DirectoryCall, Course, CutsShort, ahead, all_ahead, asking, asks}
+use Rattle.wax_walk.specs.Course.{call, continued}
 use Rattle.wax_walk.specs.Course.{stop, yields}
 use Rattle.wax_walk.specs.declared.entry.TreeEntry.{TreeEntry}
 use Rattle.wax_walk.specs.declared.error.FaultKind.{FaultKind}
@@ -35,8 +38,10 @@ use Rattle.wax_tree.specs.declared.steps.Steps.{Steps}
 use Rattle.wax_tree.specs.Courses.{AlongComes, FoundComes, IsNamed, below_course, course_above_max}
 use Rattle.wax_tree.specs.Courses.{course_at_depth, entered_course, entry_course, is_missing, items_course}
 use Rattle.wax_tree.specs.Courses.{onward_location, refused_course}
-use Rattle.wax_tree.specs.Plain.{HasKind, IsFolder, Location, WalkScope, item_location, one_deeper, plain_entry}
-use Rattle.wax_tree.specs.Stepping.{ComesLast, ComesWhole, Enters, EntryComes, CutsOff, ItemComes, RestComes, TakenComes}
+use Rattle.wax_tree.specs.Plain.{HasKind, IsFolder, Location, WalkScope, item_location, one_deeper}
+use Rattle.wax_tree.specs.Plain.{plain_entry}
+use Rattle.wax_tree.specs.Stepping.{ComesLast, ComesWhole, Enters, EntryComes, CutsOff, ItemComes, RestComes}
+use Rattle.wax_tree.specs.Stepping.{TakenComes}
 use Rattle.wax_tree.specs.Stepping.{FolderComes, PlaceComes, StepCourse, UsesCourse, next_course, passed_over}
 use Rattle.wax_tree.specs.Stepping.{remembered}
 use Rattle.wax_tree.specs.inner.Finding.{IsFound}
@@ -122,7 +127,8 @@ module _ (scope : WalkScope) where
   entered_below : (at : Location) (s : Shown) → IsFolder s → at.depth < scope.max
       → below_course scope at s ≡ entered_course scope (one_deeper at) s
   entered_below at (a_folder l) h less =
-      ap (λ b. cond b (entered_course scope (one_deeper at) (a_folder l)) stop) (lt-ltb at.depth scope.max less)
+      ap (λ b. cond b (entered_course scope (one_deeper at) (a_folder l)) stop)
+      (lt-ltb at.depth scope.max less)
   entered_below at a_sealed h less =
       ap (λ b. cond b (entered_course scope (one_deeper at) a_sealed) stop) (lt-ltb at.depth scope.max less)
   entered_below at (a_leaf link) h less = absurd h
@@ -154,7 +160,8 @@ module _ (scope : WalkScope) where
         s,
         at_e.1,
         subst (HasKind s) (sym kind) (folder_kind s at_e.2),
-        at_e.3 ∙ (ap (λ v. entered_course scope v s) at ∙ sym (entered_below (entry_location f) s at_e.2 less)),
+        at_e.3
+            ∙ (ap (λ v. entered_course scope v s) at ∙ sym (entered_below (entry_location f) s at_e.2 less)),
       )
   below_of f old new below none (passed_over is n) h =
       not_below (entry_location f) f.kind below
@@ -162,10 +169,12 @@ module _ (scope : WalkScope) where
 
 -- ---- what is ahead
 
-pub goes_ahead : {D C : Type 0} (w : Steps D C) (a : Ahead) → w.has_ended ≡ false → ComesAhead w a → GoesAhead w a
+pub goes_ahead : {D C : Type 0} (w : Steps D C) (a : Ahead) → w.has_ended ≡ false
+    → ComesAhead w a → GoesAhead w a
 goes_ahead w a e h = subst (λ b. AheadUnless b (GoesAhead w a) a) e h
 
-pub comes_ahead : {D C : Type 0} (w : Steps D C) (a : Ahead) → w.has_ended ≡ false → GoesAhead w a → ComesAhead w a
+pub comes_ahead : {D C : Type 0} (w : Steps D C) (a : Ahead) → w.has_ended ≡ false
+    → GoesAhead w a → ComesAhead w a
 comes_ahead w a e h = subst (λ b. AheadUnless b (GoesAhead w a) a) (sym e) h
 
 pub ended_ahead : {D C : Type 0} (w : Steps D C) (a : Ahead) → w.has_ended ≡ true → ComesAhead w a
@@ -216,8 +225,10 @@ module _ {D C : Type 0} where
   }
 
   -- an error that ends the walk
-  pub stopped_uses : (calls : List DirectoryCall) (comes : Course → Type 0) (r : Step) (new : Steps D C) (x : Given)
-      → step_given r ≡ Some x → new.has_ended ≡ true → comes (yields x stop stop) → UsesCourse calls comes r new
+  pub stopped_uses : (calls : List DirectoryCall) (comes : Course → Type 0) (r : Step)
+      (new : Steps D C) (x : Given)
+      → step_given r ≡ Some x → new.has_ended ≡ true → comes (yields x stop stop)
+      → UsesCourse calls comes r new
   stopped_uses calls comes r new x e ended h = record {
     some = (yields x stop stop, h);
     follows = inl (λ a i.
@@ -226,7 +237,8 @@ module _ {D C : Type 0} where
   }
 
   -- an error after which the walk goes on
-  pub fault_uses : (calls : List DirectoryCall) (comes : Course → Course → Type 0) (w new : Steps D C) (r : Step) (x : Given)
+  pub fault_uses : (calls : List DirectoryCall) (comes : Course → Course → Type 0) (w new : Steps D C)
+      (r : Step) (x : Given)
       → step_given r ≡ Some x → w.has_ended ≡ false → w.first ≡ None → w.entered ≡ None
       → (new ≡ w)
       → ((rest : Course) → comes rest (yields x stop rest)) → UsesCourse calls (ComesLast w comes) r new
@@ -239,7 +251,8 @@ module _ {D C : Type 0} where
         (a.after, at.1, subst (comes a.after) (sym is) (h a.after)));
   }
 
-  cut_later : (calls : List DirectoryCall) (r : Step) (new : Steps D C) → CutsOff [] r new → CutsOff calls r new
+  cut_later : (calls : List DirectoryCall) (r : Step) (new : Steps D C) → CutsOff [] r new
+      → CutsOff calls r new
   cut_later calls r new h = (h.0, h.1, later_cut calls h.0 h.2, h.3)
 
   pub uses_more : (calls : List DirectoryCall) (this that : Course → Type 0) (r : Step) (new : Steps D C)
@@ -285,7 +298,8 @@ module _ {D C : Type 0} where
     pub passes_uses : f.depth < w.min → UsesCourse [] Comes GoesOn new
     passes_uses less = record {
       some = some_entry w f;
-      follows = inl (λ a h. subst Comes (ap (λ b. cond b (all_ahead a) (yields (plain_entry (entry_location f) f.kind) a.below a.after))
+      follows = inl (λ a h. subst Comes (ap
+          (λ b. cond b (all_ahead a) (yields (plain_entry (entry_location f) f.kind) a.below a.after))
           (lt-ltb f.depth w.min less))
           (entry_ahead a h));
     }
@@ -294,7 +308,8 @@ module _ {D C : Type 0} where
         → w.min ≤ f.depth → UsesCourse [] Comes (Gives x) new
     gives_uses x e more = record {
       some = some_entry w f;
-      follows = inl (λ a h. subst Comes (ap (λ b. cond b (all_ahead a) (yields (plain_entry (entry_location f) f.kind) a.below a.after))
+      follows = inl (λ a h. subst Comes (ap
+          (λ b. cond b (all_ahead a) (yields (plain_entry (entry_location f) f.kind) a.below a.after))
           (le-ltb f.depth w.min more)
           ∙ ap (λ y. yields y a.below a.after) (sym e)) (entry_ahead a h));
     }
@@ -309,11 +324,13 @@ module _ {D C : Type 0} where
       (s.0, (l.0, l.1, s.1))
 
   pub some_along : (w : Steps D C) (place : StartPoint)
-      → (c : Course) × ComesLast w (AlongComes (scope_of w) (from_last place.names.items) (located place.at)) c
+      → (c : Course)
+      × ComesLast w (AlongComes (scope_of w) (from_last place.names.items) (located place.at)) c
   some_along w place = let l = some_levels (scope_of w) w.levels.items in (_, (l.0, l.1, is_missing refl))
 
   -- a file or a link is where a folder should be
-  pub misplaced_place : (w : Steps D C) (place : StartPoint) (kind : FileType) (x : List ℕ) (names : List (List ℕ))
+  pub misplaced_place : (w : Steps D C) (place : StartPoint) (kind : FileType) (x : List ℕ)
+      (names : List (List ℕ))
       → from_last place.names.items ≡ x ∷ names → ¬ (kind ≡ F.Folder)
       → ComesLast w (PlaceComes (scope_of w) place kind)
       (yields (fault K.NotAFolder place.at.path.path place.at.depth) stop stop)
@@ -325,7 +342,8 @@ module _ {D C : Type 0} where
             (yields (fault K.NotAFolder place.at.path.path place.at.depth) stop stop)) (sym e) (stops kind n),
       ) where
         stops : (k : FileType) → ¬ (k ≡ F.Folder)
-            → FoundComes (scope_of w) (x ∷ names) (located place.at) (some_levels (scope_of w) w.levels.items).0 k
+            → FoundComes (scope_of w) (x ∷ names) (located place.at)
+            (some_levels (scope_of w) w.levels.items).0 k
             (yields (fault K.NotAFolder place.at.path.path place.at.depth) stop stop)
         stops F.File n = refl
         stops F.Link n = refl
@@ -335,7 +353,8 @@ module _ {D C : Type 0} where
   pub follows_uses : (w : Steps D C) (place next : StartPoint) (x : List ℕ)
       → from_last place.names.items ≡ x ∷ from_last next.names.items
       → located next.at ≡ onward_location (located place.at) x → w.has_ended ≡ false
-      → UsesCourse [] (ComesLast w (PlaceComes (scope_of w) place F.Folder)) GoesOn (record w { first = Some next })
+      → UsesCourse [] (ComesLast w (PlaceComes (scope_of w) place F.Folder)) GoesOn
+      (record w { first = Some next })
   follows_uses w place next x e at going = record {
     some = some_place w place F.Folder;
     follows = inl (λ a h.
@@ -344,7 +363,8 @@ module _ {D C : Type 0} where
         let names = from_last next.names.items in
         let here : AlongComes scope names (onward_location (located place.at) x) g.back a.after =
         subst (λ l. AlongComes scope names l g.back a.after) at g.first in
-        let found : FoundComes scope (from_last place.names.items) (located place.at) g.back F.Folder a.after =
+        let found : FoundComes scope (from_last place.names.items)
+        (located place.at) g.back F.Folder a.after =
         subst (λ ns. FoundComes scope ns (located place.at) g.back F.Folder a.after) (sym e) here in (
           g.back,
           g.levels,
@@ -406,7 +426,8 @@ module _ {D C : Type 0} where
       }
 
   -- a folder was opened
-  pub opened_uses : (w new : Steps D C) (level : OpenFolder C) → new.levels.items ≡ w.levels.items ++ level ∷ []
+  pub opened_uses : (w new : Steps D C) (level : OpenFolder C)
+      → new.levels.items ≡ w.levels.items ++ level ∷ []
       → scope_of new ≡ scope_of w → new.has_ended ≡ false → new.first ≡ None → new.entered ≡ None
       → let at = located level.folder in let calls = call at.path (opened at.path) ∷ [] in
       UsesCourse calls (λ c. ComesLast w (FolderComes (scope_of w) at) (asking calls c)) GoesOn new
@@ -433,7 +454,8 @@ module _ {D C : Type 0} where
 
   pub some_folder : (w : Steps D C) (place : code.Location)
       → (c : Course) × ComesLast w (FolderComes (scope_of w) (located place)) c
-  some_folder w place = let l = some_levels (scope_of w) w.levels.items in (_, (l.0, l.1, (a_sealed, tt, tt, refl)))
+  some_folder w place = let l = some_levels (scope_of w) w.levels.items in
+      (_, (l.0, l.1, (a_sealed, tt, tt, refl)))
 
   -- a folder came to its end
   pub closed_uses : (w new : Steps D C) (place : code.Location) → new.levels ≡ w.levels
@@ -455,9 +477,11 @@ module _ {D C : Type 0} where
       → (c : Course) × ComesLast w (RestComes (scope_of w) (located place)) c
   some_rest w place = let l = some_levels (scope_of w) w.levels.items in (_, (l.0, l.1, (end, tt, refl)))
 
-fault_is : (at : Location) (kind k : FaultKind) (path : String Global) (depth : ℕ) (rest : Course) → depth ≡ at.depth - 1
+fault_is : (at : Location) (kind k : FaultKind) (path : String Global) (depth : ℕ) (rest : Course)
+    → depth ≡ at.depth - 1
     → (kind ≡ k) × (string_bytes path ≡ at.path)
-    → yields (fault kind (string_bytes path) depth) stop rest ≡ yields (fault k at.path (at.depth - 1)) stop rest
+    → yields (fault kind (string_bytes path) depth) stop rest
+    ≡ yields (fault k at.path (at.depth - 1)) stop rest
 fault_is at kind k path depth rest d h =
     ap (λ z. yields (fault z (string_bytes path) depth) stop rest) h.0
     ∙ (ap (λ z. yields (fault k z depth) stop rest) h.1 ∙ ap (λ n. yields (fault k at.path n) stop rest) d)
@@ -517,7 +541,8 @@ module _ (scope : WalkScope) where
     | inr i ↦ (
       misnamed (string_bytes x) kind h.1.0,
       (i.0, h.1.1),
-      ap (asks (call at.path (listed (named (string_bytes x) kind)))) (i.1 ∙ ap (yields (fault K.BadName at.path (at.depth - 1)) stop) h.1.2),
+      ap (asks (call at.path (listed (named (string_bytes x) kind))))
+          (i.1 ∙ ap (yields (fault K.BadName at.path (at.depth - 1)) stop) h.1.2),
     )
   ] where
     entry_taken : (s : Shown) → IsPlain (string_bytes x) → IsNamed s → HasKind s kind
@@ -551,7 +576,8 @@ module _ (scope : WalkScope) where
     entry_taken a_sealed p n k e =
         let y = plain_entry (item_location at (string_bytes x)) F.Folder in
         let l = sealed (string_bytes x) h.1.0 in
-        let b = course_above_max scope at.depth (refused_course scope (join at.path (string_bytes x)) at.depth) in (
+        let b = course_above_max scope at.depth
+        (refused_course scope (join at.path (string_bytes x)) at.depth) in (
           l,
           (p, h.1.1),
           subst (λ z. asks (call at.path (listed (named (string_bytes x) z))) c

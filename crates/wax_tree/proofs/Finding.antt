@@ -157,7 +157,8 @@ misnamed_counted name kind path depth e = record {
   within = omega arith;
 }
 
-failed_counted : IsCounted (record no_counts { failures = 1 }) 0 (record no_counts { items = 1; failures = 1 })
+failed_counted : IsCounted (record no_counts { failures = 1 }) 0
+    (record no_counts { items = 1; failures = 1 })
 failed_counted = record {
   misses = refl;
   leaves = omega arith;
@@ -203,7 +204,8 @@ module _ {D C : Type 0} where
     misplaced = s.misplaced;
   }
 
-  fault_uses_answer : (at : Location) (asked : Asked) (w : Steps D C) (kind k : FaultKind) (path : String Global)
+  fault_uses_answer : (at : Location) (asked : Asked) (w : Steps D C) (kind k : FaultKind)
+      (path : String Global)
       (depth : ℕ) → IsFault at kind (Fault k path)
       → UsesAnswer asked w (Gives (Err (W.Fault kind path depth))) w
       → UsesAnswer asked w (Gives (Err (W.Fault k path depth))) w

@@ -31,5 +31,6 @@ split_names path None h = ap (filter is_some_name) (unsplit path (split_parts 47
 split_names path (Some x) h =
     let first = split_once_first 47 path (Some x) h (omega arith) in
     ap (filter is_some_name) (slice_split_first (λ c. c == 47) path 0 first.0)
-    ∙ (ap (λ s. filter is_some_name (s ∷ slice_split (λ c. c == 47) (after_first (λ c. c == 47) path))) (sym first.1)
+    ∙ (ap (λ s. filter is_some_name (s ∷ slice_split (λ c. c == 47) (after_first (λ c. c == 47) path)))
+    (sym first.1)
     ∙ ap (λ s. filter is_some_name (x.0.now ∷ slice_split (λ c. c == 47) s)) (sym first.2))

@@ -1,5 +1,6 @@
 -- What a walk of some depths yields is what its depths leave of the whole walk.
-use Rattle.std.proofs.Common.{◌≡◌, ℕ, ◌+◌, ◌-◌, ◌<◌, ◌≤◌, Bool, true, false, cond, length, List, [], ◌∷◌, ◌++◌}
+use Rattle.std.proofs.Common.{◌≡◌, ℕ, ◌+◌, ◌-◌, ◌<◌, ◌≤◌, Bool, true, false, cond, length, List, [], ◌∷◌}
+use Rattle.std.proofs.Common.{◌++◌}
 use Rattle.std.proofs.Common.{filter, nat_lt, not, ◌&&◌, refl, sym, ◌∙◌, ap, subst, arith}
 use Rattle.std.proofs.lemmas.Bool.{lt-ltb}
 use Rattle.std.proofs.lemmas.Bool.Decides.{nat_tests}
@@ -179,7 +180,8 @@ module _ (range : DepthRange) where
   walk_yielded at failing few = refl
 
   -- and so does a walk along names
-  pub along_yielded : (at : Location) (s : Shown) (names : List (List ℕ)) → at.depth + length names ≤ range.max
+  pub along_yielded : (at : Location) (s : Shown) (names : List (List ℕ))
+      → at.depth + length names ≤ range.max
       → preorder (walk_from (scope_in range) at s names nothing)
       ≡ yielded range (whole_along at s names)
   along_yielded at s [] few = walk_yielded at s (omega (arith, few))

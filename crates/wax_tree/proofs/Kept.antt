@@ -9,7 +9,8 @@ use Rattle.wax_walk.specs.Collected.{IsCutShort, Yielded, whole, lacks_memory, o
 use Rattle.wax_walk.specs.Forest.{Forest, nothing, item, lists, followed_by, preorder, Pending, pending}
 use Rattle.wax_walk.specs.Forest.{all_pending}
 use Rattle.wax_walk.specs.Given.{Given, is_kept}
-use Rattle.wax_tree.specs.Plain.{WalkScope, Location, start_location, item_location, one_deeper, at_depth, unlisted}
+use Rattle.wax_tree.specs.Plain.{WalkScope, Location, start_location, item_location, one_deeper, at_depth}
+use Rattle.wax_tree.specs.Plain.{unlisted}
 use Rattle.wax_tree.specs.Plain.{items_forest, below_forest, entry_forest, plain}
 
 -- each item is kept
@@ -97,16 +98,19 @@ module _ (scope : WalkScope) where
   kept_plain start failing = (refl, tt, tt)
 
   -- what is yielded first of a plain walk is kept
-  pub first_kept : (start : List ℕ) (s : Shown) (xs rest : List Given) → xs ++ rest ≡ preorder (plain scope start s)
+  pub first_kept : (start : List ℕ) (s : Shown) (xs rest : List Given)
+      → xs ++ rest ≡ preorder (plain scope start s)
       → filter is_kept xs ≡ xs
   first_kept start s xs rest e =
-      filter_kept xs (kept_before xs rest (subst AllKept (sym e) (kept_preorder (plain scope start s) (kept_plain start s))))
+      filter_kept xs (kept_before xs rest
+      (subst AllKept (sym e) (kept_preorder (plain scope start s) (kept_plain start s))))
 
   -- and so is an error after it
   pub error_kept : (start : List ℕ) (s : Shown) (xs rest : List Given) (x : Given) → is_kept x ≡ true
       → xs ++ rest ≡ preorder (plain scope start s) → filter is_kept (xs ++ x ∷ []) ≡ xs ++ x ∷ []
   error_kept start s xs rest x k e = filter_kept (xs ++ x ∷ []) (kept_append xs (x ∷ [])
-      (kept_before xs rest (subst AllKept (sym e) (kept_preorder (plain scope start s) (kept_plain start s)))) (k, tt))
+      (kept_before xs rest (subst AllKept (sym e) (kept_preorder (plain scope start s) (kept_plain start s))))
+      (k, tt))
 
   kept_cut : (all : List Given) (x : Given) (xs : List Given) → is_kept x ≡ true → AllKept all
       → IsCutShort all x xs → AllKept xs

@@ -106,7 +106,8 @@ module _ (scope : WalkScope) where
   levelled_items n at (folder x inner rest) d =
       let deep = one_deeper (item_location at x) in
       levelled_entry n (item_location at x) Folder _ (items_forest scope at rest) (omega (arith, d))
-      (levelled_above at.depth (top (at.depth + 1)) at.depth (lists (join at.path x) (items_forest scope deep inner))
+      (levelled_above at.depth (top (at.depth + 1)) at.depth
+      (lists (join at.path x) (items_forest scope deep inner))
       (levelled_items at.depth deep inner refl))
       (levelled_items n at rest d)
   levelled_items n at (sealed x rest) d =
@@ -130,7 +131,8 @@ module _ (scope : WalkScope) where
     0,
     top at.depth,
     levelled_entry 0 at Folder _ nothing (omega arith)
-        (levelled_above at.depth (top (at.depth + 1)) at.depth (lists at.path (items_forest scope (one_deeper at) l))
+        (levelled_above at.depth (top (at.depth + 1)) at.depth
+        (lists at.path (items_forest scope (one_deeper at) l))
         (levelled_items at.depth (one_deeper at) l refl)) tt,
   )
   levelled_at at a_sealed = (

@@ -1,5 +1,6 @@
 -- Which folders steps open, and which listings they read to the end.
-use Rattle.std.proofs.Common.{◌≡◌, ℕ, ◌+◌, ◌<◌, ◌≤◌, Bool, true, false, cond, length, refl, ap, subst, sym, ◌∙◌, arith, inl, inr}
+use Rattle.std.proofs.Common.{◌≡◌, ℕ, ◌+◌, ◌<◌, ◌≤◌, Bool, true, false, cond, length, refl, ap, subst, sym}
+use Rattle.std.proofs.Common.{◌∙◌, arith, inl, inr}
 use Rattle.std.specs.Prelude.{Option, None, Some, ◌&&◌, nat_lt, List}
 use Rattle.std.proofs.lemmas.Bool.{cases_lt, lt-ltb}
 use Rattle.wax_directory.specs.declared.directory.FileType.{FileType}
@@ -18,7 +19,8 @@ use Rattle.wax_tree.specs.declared.steps.Step.{Step}
 use Rattle.wax_tree.specs.declared.steps.Step.TheVariants.{GoesOn}
 use Rattle.wax_tree.specs.Stepping.{StepAnswers, IsStep, Remembers}
 use Rattle.wax_tree.proofs.UsingAnswers.{none_either}
-use Rattle.wax_tree.specs.Walking.{HasStopped, allowance, begins, entering, entering_after, if_some, names_left, open_lists, step_given, steps_view}
+use Rattle.wax_tree.specs.Walking.{HasStopped, allowance, begins, entering, entering_after, if_some}
+use Rattle.wax_tree.specs.Walking.{names_left, open_lists, step_given, steps_view}
 
 not_above : (k : FileType) → ◌≡◌ {A = ℕ} (cond (is_folder_kind k && false) 1 0) 0
 not_above F.File = refl
@@ -153,12 +155,14 @@ module _ {D C : Type 0} (law : Law D C) where
   pub step_is : (w mid new : Steps D C) (u : WalkView D) (r : Step) → ¬ (HasStopped w) → mid.max ≡ w.max
       → mid.min ≡ w.min → w.directory ≡ u.directory
       → allowance w ≡ u.listings_left → w.min ≡ u.yields_from → begins w ≡ u.to_begin
-      → entering w ≡ u.to_open → is_above w.max ≡ u.may_open → open_lists w ≡ u.listings_open → u.names_left ≤ names_left w
+      → entering w ≡ u.to_open → is_above w.max ≡ u.may_open → open_lists w ≡ u.listings_open
+      → u.names_left ≤ names_left w
       → StepAnswers law u r new → Remembers mid r new → IsStep law w r new
   step_is w mid new u r running max min d left from begun opens above lists few a m =
       let T : (Facts → Bool) → Type 0 = λ o. ¬ (r ≡ GoesOn) → entering new ≡ opens_one o (step_given r) in
       record {
-        accounts = accounts_seen (steps_view law w) u (step_given r) (steps_view law new) d left from begun opens
+        accounts =
+            accounts_seen (steps_view law w) u (step_given r) (steps_view law new) d left from begun opens
             above lists a.accounts;
         at_end = λ e. absurd (a.goes_on e);
         stays = λ h. absurd (running h);

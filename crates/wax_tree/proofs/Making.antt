@@ -1,5 +1,6 @@
 -- A walk when it is made, and if allocation failed for its start.
-use Rattle.std.proofs.Common.{◌≡◌, ℕ, ◌+◌, ◌-◌, ◌^◌, ◌<◌, ◌≤◌, length, true, false, List, [], ◌∷◌, ◌++◌, refl, sym}
+use Rattle.std.proofs.Common.{◌≡◌, ℕ, ◌+◌, ◌-◌, ◌^◌, ◌<◌, ◌≤◌, length, true, false, List, [], ◌∷◌, ◌++◌, refl}
+use Rattle.std.proofs.Common.{sym}
 use Rattle.std.proofs.Common.{ap, subst, ◌∙◌, arith, inl, inr, string_bytes, length-append}
 use Rattle.std.specs.Prelude.{Option, Some, None, String}
 use Rattle.std.specs.declared.alloc.Global.{Global}
@@ -8,7 +9,8 @@ use Rattle.wax_directory.specs.History.{found}
 use Rattle.wax_directory.specs.Shown.{Shown, a_folder, a_leaf, a_sealed, failing, missing}
 use Rattle.wax_walk.specs.Forest.{Forest, nothing, item, lists, Pending, pending, all_pending, FirstIs}
 use Rattle.wax_walk.specs.Given.{Given, no_memory}
-use Rattle.wax_walk.specs.Course.{Ahead, DirectoryCall, Course, ahead, all_ahead, asking, asks, call, continued, stop, unknown}
+use Rattle.wax_walk.specs.Course.{Ahead, DirectoryCall, Course, ahead, all_ahead, asking, asks, call}
+use Rattle.wax_walk.specs.Course.{continued, stop, unknown}
 use Rattle.wax_walk.specs.Course.{yields}
 use Rattle.wax_walk.specs.Course as course
 use Rattle.wax_walk.specs.View.{Follows, MayTake, ended_so, was_cut, went_on}
@@ -20,7 +22,8 @@ use Rattle.wax_tree.specs.declared.steps.DepthRange.{DepthRange}
 use Rattle.wax_tree.specs.declared.steps.Steps.{Steps}
 use Rattle.wax_tree.specs.declared.walk_tree.WalkTree.{WalkTree}
 use Rattle.wax_tree.specs.Begins.{Begins, BeginsAt, FailsFrom, FailsNowhere, HasEnded, LacksMemory, Origin}
-use Rattle.wax_tree.specs.Begins.{OriginTakes, StartTakes, along, beyond, lacking, lacking_start, scope_in, walks}
+use Rattle.wax_tree.specs.Begins.{OriginTakes, StartTakes, along, beyond, lacking, lacking_start, scope_in}
+use Rattle.wax_tree.specs.Begins.{walks}
 use Rattle.wax_tree.specs.Courses.{AlongComes, IsNamed, entry_course, is_failing, is_missing, is_there}
 use Rattle.wax_tree.specs.Courses.{place_course}
 use Rattle.wax_tree.proofs.Coursing.{goes_ahead, rests_ahead}
@@ -31,7 +34,8 @@ use Rattle.wax_tree.specs.Walking.{EnteredComes, FirstComes, LevelsCome}
 use Rattle.wax_tree.specs.Walking.{MayBeAhead, PlainToCome, scope_of, steps_view, located}
 
 module _ {D C : Type 0} (law : Law D C) where
-  made_comes : (w : Steps D C) (place : StartPoint) (s : Shown) (listed : List (List ℕ)) → w.first ≡ Some place
+  made_comes : (w : Steps D C) (place : StartPoint) (s : Shown) (listed : List (List ℕ))
+      → w.first ≡ Some place
       → w.entered ≡ None → w.levels.items ≡ [] → w.has_ended ≡ false
       → law.shows w.directory place.at.path.path s → ArePlain (from_last place.names.items)
       → place.at.depth + length place.names.items ≤ 2 ^ 64 - 1 → law.tells w.directory listed
@@ -197,7 +201,8 @@ lacking_fed law w e = record {
       let none : m.0 ≡ ahead stop stop = m.1 in
       let below = subst (course.IsStartOf a.below) (ap (λ (v : Ahead). v.below) none) m.2 in
       let after = subst (course.IsStartOf a.after) (ap (λ (v : Ahead). v.after) none) m.3 in
-      lacking_takes law w e c (begins_trans c (yields no_memory a.below a.after) (yields no_memory stop stop) b
+      lacking_takes law w e
+      c (begins_trans c (yields no_memory a.below a.after) (yields no_memory stop stop) b
       (stop, stop, refl, below, after)));
   accounts = record {
     counts = record {
@@ -247,7 +252,8 @@ lacking_fed law w e = record {
 
 -- ---- what it may take
 
-begins_after : (b a d : Course) → course.IsStartOf b stop → course.IsStartOf a d → course.IsStartOf (continued b a) d
+begins_after : (b a d : Course) → course.IsStartOf b stop → course.IsStartOf a d
+    → course.IsStartOf (continued b a) d
 begins_after stop a d h i = i
 begins_after unknown a d h i = tt
 begins_after (asks q b) a d h i = absurd (let e : stop ≡ asks q h.0 = h.1 in (cc))
@@ -345,7 +351,8 @@ fails_as_from least start way view h = record {
 }
 
 -- where there are more names than the greatest depth, nothing comes
-pub ended_at : {D C : Type 0} (law : Law D C) (d : D) (origin : Origin) (range : DepthRange) (view : WalkView D)
+pub ended_at : {D C : Type 0} (law : Law D C) (d : D) (origin : Origin)
+    (range : DepthRange) (view : WalkView D)
     → HasEnded law d range view → range.max < length origin.names → BeginsAt law d origin range view
 ended_at law d origin range view h l = record {
   shown = λ s listed k told p m. absurd (omega (arith, l, m));
@@ -365,7 +372,8 @@ ended_at law d origin range view h l = record {
 }
 
 -- a walk for whose start allocation failed begins as any walk does
-pub lacking_at : {D C : Type 0} (law : Law D C) (d : D) (origin : Origin) (range : DepthRange) (view : WalkView D)
+pub lacking_at : {D C : Type 0} (law : Law D C) (d : D) (origin : Origin)
+    (range : DepthRange) (view : WalkView D)
     → LacksMemory law d range view → length origin.names ≤ range.max → BeginsAt law d origin range view
 lacking_at law d origin range view h l = record {
   shown = λ s listed k told p m. h.comes _ told;

@@ -19,7 +19,8 @@ use Rattle.wax_tree.specs.declared.steps.Steps.{Steps}
 use Rattle.wax_tree.specs.declared.steps.Step.{Step}
 use Rattle.wax_tree.specs.declared.steps.Step.TheVariants.{Gives, GoesOn}
 use Rattle.wax_tree.specs.Prefix.{ArePlain, from_last, path_from}
-use Rattle.wax_tree.specs.Reaching.{FolderSet, LeadsUnseen, OfAny, OfEntered, OfFirst, OfLevels, OnWay, OneFolder}
+use Rattle.wax_tree.specs.Reaching.{FolderSet, LeadsUnseen, OfAny, OfEntered, OfFirst, OfLevels, OnWay}
+use Rattle.wax_tree.specs.Reaching.{OneFolder}
 use Rattle.wax_tree.specs.Reaching.{IsOf, MayFailAt, MayFailBelow, MayReach, ReachesFrom, no_folders}
 use Rattle.wax_tree.specs.Begins.{FailsFrom, IsPassed}
 use Rattle.wax_tree.specs.Stepping.{StepPlaces}
@@ -35,7 +36,8 @@ use Rattle.wax_directory.specs.PlainNames.{plain_of}
 
 -- ---- names
 
-path_from_append : (path : List ℕ) (xs ys : List (List ℕ)) → path_from path (xs ++ ys) ≡ path_from (path_from path xs) ys
+path_from_append : (path : List ℕ) (xs ys : List (List ℕ))
+    → path_from path (xs ++ ys) ≡ path_from (path_from path xs) ys
 path_from_append path [] ys = refl
 path_from_append path (x ∷ xs) ys = path_from_append (join path x) xs ys
 
@@ -74,7 +76,8 @@ leads_here least a path n h = record {
   unseen = inl refl;
 }
 
-pub leads_on : (least : ℕ) (a : FolderSet) (path : List ℕ) (n : ℕ) → LeadsUnseen least (LeadsUnseen least a) path n
+pub leads_on : (least : ℕ) (a : FolderSet) (path : List ℕ) (n : ℕ)
+    → LeadsUnseen least (LeadsUnseen least a) path n
     → LeadsUnseen least a path n
 leads_on least a path n h =
     let i = h.begins in
@@ -86,7 +89,8 @@ leads_on least a path n h =
       names = i.names ++ h.names;
       begins = i.begins;
       plain = plain_append i.names h.names i.plain h.plain;
-      path_is = h.path_is ∙ (ap (λ v. path_from v h.names) i.path_is ∙ sym (path_from_append i.top i.names h.names));
+      path_is = h.path_is
+          ∙ (ap (λ v. path_from v h.names) i.path_is ∙ sym (path_from_append i.top i.names h.names));
       depth_is = omega (arith, h.depth_is, i.depth_is, long);
       unseen = elim h.unseen [
         | inl empty ↦ elim i.unseen [
@@ -113,7 +117,8 @@ leads_name least a path name n p few h = leads_on least a (join path name) (n + 
 })
 
 pub leads_either : (least : ℕ) (a b : FolderSet) (path : List ℕ) (n : ℕ)
-    → LeadsUnseen least (λ p k. a p k ⊎ b p k) path n → LeadsUnseen least a path n ⊎ LeadsUnseen least b path n
+    → LeadsUnseen least (λ p k. a p k ⊎ b p k) path n → LeadsUnseen least a path n
+    ⊎ LeadsUnseen least b path n
 leads_either least a b path n h = elim h.begins [
   | inl i ↦ inl (record {
     top = h.top;
@@ -155,7 +160,8 @@ levels_popped (outer ∷ levels) level path n h = elim h [
 
 -- ---- the way
 
-pub way_here : (place : StartPoint) (path : List ℕ) (n : ℕ) → OneFolder place.at.path.path (place.at.depth + 1) path n
+pub way_here : (place : StartPoint) (path : List ℕ) (n : ℕ)
+    → OneFolder place.at.path.path (place.at.depth + 1) path n
     → OnWay place path n
 way_here place path n h = ([], from_last place.names.items, refl, h.0, λ fits. omega (arith, h.1))
 
@@ -296,7 +302,8 @@ module _ {D C : Type 0} where
       subst (λ m. LeadsUnseen m (OfAny w no_folders) path n) least
       (leads_more mid.min (OfAny mid (IsOf level.folder)) (OfAny w no_folders) (λ p k i.
       let both : (IsOf level.folder p k ⊎ OfLevels mid.levels.items p k) → OfAny w no_folders p k =
-      λ j. inr (inr (subst (λ v. OfLevels v p k) (sym levels) (levels_popped mid.levels.items level p k j))) in
+      λ j.
+      inr (inr (subst (λ v. OfLevels v p k) (sym levels) (levels_popped mid.levels.items level p k j))) in
       elim i [
         | inl j ↦ both (inl j)
         | inr o ↦ elim o [
@@ -398,7 +405,8 @@ module _ {D C : Type 0} where
 
 -- an entry of a folder has a plain name
 found_name : (at : Location) (x : ListItem) (e : TreeEntry) → IsFound at x (Entry e)
-    → (name : List ℕ) × IsPlain name × ((facts_of e).path ≡ join at.path name) × ((facts_of e).depth ≡ at.depth)
+    → (name : List ℕ) × IsPlain name × ((facts_of e).path ≡ join at.path name)
+    × ((facts_of e).depth ≡ at.depth)
 found_name at (I.Name name k) e f = elim f [
   | inl a ↦ (
     string_bytes name,
@@ -447,7 +455,8 @@ module _ {D C : Type 0} (w : Steps D C) (at : Location) (x : ListItem) where
   found_places kind path depth inside f d none =
       let one = OneFolder at.path inside in
       fault_places (ReachesFrom w one) (ReachesFrom w one) w.max w kind path depth inside d
-      (leads_here w.min (OfAny w one) (string_bytes path) inside (inl (found_path at x kind path f, refl))) none
+      (leads_here w.min (OfAny w one) (string_bytes path) inside (inl (found_path at x kind path f, refl)))
+      none
       (λ p k h. reaches_more w no_folders one (λ q m i. absurd i) p k h)
 
 -- ---- a walk when it is made
@@ -487,9 +496,11 @@ module _ {D C : Type 0} where
       ])
 
 -- errors come of what the walk passes, or of yielded folders
-pub errors_passed : {D : Type 0} (least : ℕ) (start : List ℕ) (way : List (List ℕ)) (most : ℕ) (view : WalkView D)
+pub errors_passed : {D : Type 0} (least : ℕ) (start : List ℕ) (way : List (List ℕ))
+    (most : ℕ) (view : WalkView D)
     (xs : List Given) → FailsFrom least start way view → view.may_open ≡ is_above most
-    → AreOfFolders (MayFail view) view.may_open xs → AreOfFolders (IsPassed least start way) (is_above most) xs
+    → AreOfFolders (MayFail view) view.may_open xs
+    → AreOfFolders (IsPassed least start way) (is_above most) xs
 errors_passed least start way most view xs fails same are before after x path depth e i =
     elim (are before after x path depth e i) [
       | inl may ↦ inl (elim may [

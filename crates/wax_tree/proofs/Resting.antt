@@ -14,7 +14,8 @@ use Rattle.wax_walk.specs.Given.{Given}
 use Rattle.wax_tree.specs.declared.location.Location as code
 use Rattle.wax_tree.specs.declared.steps.OpenFolder.{OpenFolder}
 use Rattle.wax_tree.specs.declared.steps.Steps.{Steps}
-use Rattle.wax_tree.specs.Plain.{WalkScope, Location, count, count_shown, below_forest, items_forest, unlisted}
+use Rattle.wax_tree.specs.Plain.{WalkScope, Location, count, count_shown, below_forest, items_forest}
+use Rattle.wax_tree.specs.Plain.{unlisted}
 use Rattle.wax_tree.specs.Walking.{IsAlone, located, scope_of}
 use Rattle.wax_tree.specs.Plain.{HasKind, one_deeper}
 use Rattle.wax_tree.specs.Walking.{cursors_of, Rest, FirstShows, EnteredShows, LevelsShow, AtRest}
@@ -39,7 +40,8 @@ levels_moved old new scope same (lv ∷ inner) (l ∷ has) f n h = (
 
 module _ {C : Type 0} (shows : List ℕ → Shown → Type 0) (scope : WalkScope) where
   -- one more level
-  pub levels_pushed : (ls : List (OpenFolder C)) (has : List Items) (lv : OpenFolder C) (l : Items) (f : Forest Given)
+  pub levels_pushed : (ls : List (OpenFolder C)) (has : List Items) (lv : OpenFolder C)
+      (l : Items) (f : Forest Given)
       (n : ℕ) → LevelsShow shows scope ls has f n → ShowsIn shows lv.folder.path.path l
       → LevelsShow shows scope (ls ++ lv ∷ []) (has ++ l ∷ [])
       (followed_by (items_forest scope (located lv.folder) l) f) (n + count l)
@@ -72,7 +74,8 @@ module _ {C : Type 0} (shows : List ℕ → Shown → Type 0) (scope : WalkScope
       outer g m
       × (f ≡ followed_by (items_forest scope (located lv.folder) l) g) × (n ≡ m + count l)
 
-  pub levels_popped : (ls : List (OpenFolder C)) (lv : OpenFolder C) (has : List Items) (f : Forest Given) (n : ℕ)
+  pub levels_popped : (ls : List (OpenFolder C)) (lv : OpenFolder C) (has : List Items)
+      (f : Forest Given) (n : ℕ)
       → LevelsShow shows scope (ls ++ lv ∷ []) has f n → Popped ls lv has f n
   levels_popped [] lv [] f n h = absurd h
   levels_popped [] lv (l ∷ []) f n h = (
@@ -172,7 +175,8 @@ module _ {C : Type 0} where
       (Contains-append_left listed more _ h.0, listed_more levels listed more h.1)
 
 module _ {D C : Type 0} (law : Law D C) where
-  pub comes_after : (w : Steps D C) (e : Option code.Location) (below : Forest Given) (k items : ℕ) (rest : Rest)
+  pub comes_after : (w : Steps D C) (e : Option code.Location) (below : Forest Given)
+      (k items : ℕ) (rest : Rest)
       → AtRest law w rest → EnteredShows (law.shows w.directory) (scope_of w) e below k
       → k + rest.count ≤ items
       → PlainToCome law (record w { entered = e }) (pending below rest.forest rest.listed items)

@@ -35,7 +35,8 @@ in_range scope depth x below after h = ap (λ b. cond b (followed_by below after
 
 -- ---- the answer at the start
 
-pub begins_missing : (scope : WalkScope) (at : Location) (s : Shown) (names : List (List ℕ)) (g : Forest Given)
+pub begins_missing : (scope : WalkScope) (at : Location) (s : Shown)
+    (names : List (List ℕ)) (g : Forest Given)
     → KindIs s (Ok None) → walk_from scope at s names g ≡ item (fault NotFound at.path at.depth) nothing g
 begins_missing scope at missing [] g h = refl
 begins_missing scope at missing (x ∷ names) g h = refl
@@ -44,7 +45,8 @@ begins_missing scope at (a_folder l) names g h = cc
 begins_missing scope at a_sealed names g h = cc
 begins_missing scope at failing names g h = cc
 
-pub begins_failing : (scope : WalkScope) (at : Location) (s : Shown) (names : List (List ℕ)) (g : Forest Given)
+pub begins_failing : (scope : WalkScope) (at : Location) (s : Shown)
+    (names : List (List ℕ)) (g : Forest Given)
     → KindIs s (Err Fault_of.Failed) → walk_from scope at s names g ≡ item (fault Listing at.path at.depth)
     nothing g
 begins_failing scope at failing [] g h = refl
@@ -61,7 +63,8 @@ has_kind a_sealed kind h = cc
 has_kind missing kind h = cc
 has_kind failing kind h = cc
 
-pub plain_is : (scope : WalkScope) (at : Location) (s : Shown) (kind : FileType) (g : Forest Given) → HasKind s kind
+pub plain_is : (scope : WalkScope) (at : Location) (s : Shown) (kind : FileType) (g : Forest Given)
+    → HasKind s kind
     → plain_at scope at s g ≡ entry_forest scope at kind s g
 plain_is scope at (a_leaf link) kind g h = ap (λ k. entry_forest scope at k (a_leaf link) g) (sym h)
 plain_is scope at (a_folder l) kind g h = ap (λ k. entry_forest scope at k (a_folder l) g) (sym h)
@@ -193,7 +196,8 @@ at_depth_followed scope depth x below f g = go (nat_lt depth scope.min) where
   go false = refl
 
 -- the first item of a folder and what comes after it
-pub headed_is : (scope : WalkScope) (at : Location) (x : Listed) (l : Items) (g : Forest Given) → Some x ≡ first_item l
+pub headed_is : (scope : WalkScope) (at : Location) (x : Listed) (l : Items) (g : Forest Given)
+    → Some x ≡ first_item l
     → followed_by (items_forest scope at l) g ≡ first_item_forest scope at l
     (followed_by (items_forest scope at (rest_of l)) g)
 headed_is scope at x end g h = cc

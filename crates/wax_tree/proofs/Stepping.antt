@@ -37,14 +37,16 @@ use Rattle.wax_tree.specs.Walking.{located, scope_of, cursors_of, allowance}
 use Rattle.wax_tree.specs.Walking.{Rest, FirstShows, EnteredShows, LevelsShow, AtRest}
 use Rattle.wax_tree.specs.Walking.{PlainToCome, WereListed, steps_view, MovesOn}
 use Rattle.wax_tree.specs.Stepping.{StepIs, IsPopped}
-use Rattle.wax_tree.specs.Stepping.{listing_pending, IncreasesBy, IncreasesByNames, WeaklyDecreases, items_left, steps_left}
+use Rattle.wax_tree.specs.Stepping.{listing_pending, IncreasesBy, IncreasesByNames, WeaklyDecreases}
+use Rattle.wax_tree.specs.Stepping.{items_left, steps_left}
 use Rattle.wax_tree.proofs.Showing.{silent, in_range, from_last_end, follows_folder, child_counts}
 use Rattle.wax_tree.proofs.Resting.{comes_after, comes_rest, rest_pushed}
 use Rattle.wax_tree.proofs.Resting.{levels_popped, levels_none, cursors_pushed, listed_popped}
 
 module _ {D C : Type 0} (law : Law D C) where
   -- an entry below the least depth isn't given
-  pub goes_silently : (w new : Steps D C) (e : Option code.Location) (at : Location) (kind : FileType) (s : Shown)
+  pub goes_silently : (w new : Steps D C) (e : Option code.Location) (at : Location)
+      (kind : FileType) (s : Shown)
       (k items : ℕ) (rest : Rest) → new ≡ record w { entered = e } → at.depth < new.min
       → AtRest law w rest → EnteredShows (law.shows w.directory) (scope_of w) e
       (below_forest (scope_of w) at s) k → k ≤ count_shown s → count_shown s + rest.count ≤ items
@@ -64,7 +66,8 @@ module _ {D C : Type 0} (law : Law D C) where
         omega (arith, a),
       )
 
-  pub gives_entry : (w new : Steps D C) (e : Option code.Location) (at : Location) (kind : FileType) (s : Shown)
+  pub gives_entry : (w new : Steps D C) (e : Option code.Location) (at : Location)
+      (kind : FileType) (s : Shown)
       (k items : ℕ) (rest : Rest) (x : Result TreeEntry WalkError) → new ≡ record w { entered = e }
       → new.min ≤ at.depth → tree_given x ≡ plain_entry at kind
       → AtRest law w rest → EnteredShows (law.shows w.directory) (scope_of w) e
@@ -160,7 +163,8 @@ module _ {D C : Type 0} (law : Law D C) where
   goes_up w new at (not_text l) rest after items h f t r a few = cc
 
   -- a name follows a folder
-  pub follows : (w : Steps D C) (place next : StartPoint) (x : String Global) (s : Shown) (rest : Rest) (items : ℕ)
+  pub follows : (w : Steps D C) (place next : StartPoint) (x : String Global) (s : Shown)
+      (rest : Rest) (items : ℕ)
       → AtRest law w rest → law.shows w.directory place.at.path.path s → HasKind s F.Folder
       → ArePlain (from_last place.names.items) → place.at.depth + length place.names.items ≤ 2 ^ 64 - 1
       → w.levels.items ≡ [] → count_shown s + rest.count ≤ items
@@ -215,7 +219,8 @@ module _ {D C : Type 0} (law : Law D C) where
 
   -- ---- what the parts of a state have to give
 
-  pub steps_begin : (w : Steps D C) (place : StartPoint) (a : Option StartPoint) (b : Option code.Location) (p : Pending Given)
+  pub steps_begin : (w : Steps D C) (place : StartPoint) (a : Option StartPoint)
+      (b : Option code.Location) (p : Pending Given)
       → PlainToCome law w p → w.first ≡ Some place → a ≡ None → b ≡ None → w.has_ended ≡ false
       → (s : Shown) × (rest : Rest) × AtRest law (record w { first = a; entered = b }) rest × law.shows
       w.directory place.at.path.path s × ArePlain (from_last place.names.items) ×
@@ -249,7 +254,8 @@ module _ {D C : Type 0} (law : Law D C) where
         ap (λ v. followed_by v p.after) below.0 ∙ f.5,
       )
 
-  pub steps_enter : (w : Steps D C) (e : code.Location) (a : Option StartPoint) (b : Option code.Location) (p : Pending Given)
+  pub steps_enter : (w : Steps D C) (e : code.Location) (a : Option StartPoint)
+      (b : Option code.Location) (p : Pending Given)
       → PlainToCome law w p → w.first ≡ None → w.entered ≡ Some e → a ≡ None → b ≡ None → w.has_ended ≡ false
       → (s : Shown) × (rest : Rest) × AtRest law (record w { first = a; entered = b }) rest × law.shows
       w.directory e.path.path s × IsFolder s
@@ -279,12 +285,14 @@ module _ {D C : Type 0} (law : Law D C) where
             (followed_by (entered_forest (scope_of w) (located e) below.0)) f.0,
       )
 
-  pub steps_list : (w v : Steps D C) (lv : OpenFolder C) (a : Option StartPoint) (b : Option code.Location) (p : Pending Given)
+  pub steps_list : (w v : Steps D C) (lv : OpenFolder C) (a : Option StartPoint)
+      (b : Option code.Location) (p : Pending Given)
       → PlainToCome law w p → w.first ≡ None → w.entered ≡ None → a ≡ None → b ≡ None → w.has_ended ≡ false
       → w.levels.items ≡ v.levels.items ++ lv ∷ []
       → ((cs : List C) (ls : List Items) (c : C) (l : Items) → HoldsLast law w.directory cs ls c l
       → law.holds w.directory cs ls)
-      → (l : Items) × (rest : Rest) × IsPopped law (record w { first = a; entered = b; levels = v.levels }) lv l
+      → (l : Items) × (rest : Rest)
+      × IsPopped law (record w { first = a; entered = b; levels = v.levels }) lv l
       rest × (rest.count + count l ≤ p.items) × (p ≡ pending p.below p.after rest.listed p.items)
       × (all_pending p ≡ followed_by (items_forest (scope_of w) (located lv.folder) l) rest.forest)
   steps_list w v lv a b p h first is i j running e drop =
@@ -299,7 +307,8 @@ module _ {D C : Type 0} (law : Law D C) where
       subst (λ cs. law.holds w.directory cs (q.0 ++ q.1 ∷ [])) (cursors_pushed v.levels.items lv)
       (subst (λ ls. law.holds w.directory (cursors_of ls) (q.0 ++ q.1 ∷ [])) e
       (subst (λ has. law.holds w.directory (cursors_of w.levels.items) has) q.4 h.held)) in
-      let listed = listed_popped v.levels.items lv p.listed (subst (λ ls. WereListed ls p.listed) e h.opened) in (
+      let listed =
+      listed_popped v.levels.items lv p.listed (subst (λ ls. WereListed ls p.listed) e h.opened) in (
         q.1,
         record { has = q.0; forest = q.2; count = q.3; listed = p.listed },
         record {
@@ -379,7 +388,8 @@ module _ {D C : Type 0} where
   saves_after old mid new GoesOn h k a = (omega arith, omega arith)
   saves_after old mid new Ends h k a = tt
 
-pub increases_by_names : {D C : Type 0} (names : ℕ) (old new : Steps D C) (r : Step) → IncreasesBy 1 2 old r new
+pub increases_by_names : {D C : Type 0} (names : ℕ) (old new : Steps D C) (r : Step)
+    → IncreasesBy 1 2 old r new
     → IncreasesByNames names old r new
 increases_by_names names old new (Gives x) a = a
 increases_by_names names old new GoesOn a = (omega (arith, a.0), omega (arith, a.1))

@@ -1,5 +1,6 @@
 -- What steps count, take and end.
-use Rattle.std.proofs.Common.{◌≡◌, ℕ, ◌+◌, ◌<◌, ◌≤◌, Bool, true, false, cond, refl, sym, ap, subst, ◌∙◌, arith, inl, inr}
+use Rattle.std.proofs.Common.{◌≡◌, ℕ, ◌+◌, ◌<◌, ◌≤◌, Bool, true, false, cond, refl, sym, ap, subst, ◌∙◌}
+use Rattle.std.proofs.Common.{arith, inl, inr}
 use Rattle.std.proofs.Common.{List, [], ◌∷◌, ◌++◌}
 use Rattle.std.specs.Prelude.{Option, Some, None, Result, Ok, Err}
 use Rattle.std.specs.List.{Contains}
@@ -16,7 +17,8 @@ use Rattle.wax_walk.specs.declared.error.WalkError.{WalkError}
 use Rattle.wax_walk.specs.declared.entry.TreeEntry.{TreeEntry}
 use Rattle.wax_walk.specs.Given.{Facts, Given, entry, fault, no_memory}
 use Rattle.wax_walk.specs.declared.error.FaultKind.TheVariants.{Budget}
-use Rattle.wax_walk.specs.View.{IsLast, IsMisplaced, Takes, fault_counts, CountsFaults, GivesOrStops, is_above}
+use Rattle.wax_walk.specs.View.{IsLast, IsMisplaced, Takes, fault_counts, CountsFaults, GivesOrStops}
+use Rattle.wax_walk.specs.View.{is_above}
 use Rattle.wax_walk.specs.View.{lacks_memory, over_budget, gives, items_lost, how_many, IsMemoryError}
 use Rattle.wax_walk.specs.View.{opens_one}
 use Rattle.wax_tree.specs.declared.steps.Steps.{Steps}
@@ -149,7 +151,8 @@ module _ {D C : Type 0} where
 
   -- allocation failed
   pub failed_uses_answer : (asked : Asked) (w : Steps D C) → IsCounted no_counts 1 asked.counts
-      → names_left w ≤ asked.names → asked.taken ≤ allowance w → UsesAnswer asked w (Gives (Err Memory)) (record w { has_ended = true })
+      → names_left w ≤ asked.names → asked.taken ≤ allowance w
+      → UsesAnswer asked w (Gives (Err Memory)) (record w { has_ended = true })
   failed_uses_answer asked w c few taken = record {
     goes_on = λ e. (cc);
     directory = refl;
@@ -255,7 +258,8 @@ module _ {D C : Type 0} where
   -- the entry of a place, which `kind` found
   pub kind_uses_answer : (kind : FileType) (names more : ℕ) (w new : Steps D C) (r : Step) → begins w ≡ 0
       → UsesAnswer (nothing_asked names (begins w + 1)) w r new
-      → UsesAnswer (record { counts = kind_counts (Ok (Some kind)); taken = 0; names = names + more; made = 1 })
+      → UsesAnswer
+      (record { counts = kind_counts (Ok (Some kind)); taken = 0; names = names + more; made = 1 })
       w r new
   kind_uses_answer kind names more w new r none s = record {
     goes_on = s.goes_on;
@@ -277,7 +281,8 @@ module _ {D C : Type 0} where
 
   -- the walk ends with a fault
   pub stopped_uses_answer : (asked : Asked) (w new : Steps D C) (r : Step) (x : Given) → step_given r ≡ Some x
-      → new ≡ record w { has_ended = true } → IsCounted (fault_counts (Some x)) (items_lost (Some x)) asked.counts
+      → new ≡ record w { has_ended = true }
+      → IsCounted (fault_counts (Some x)) (items_lost (Some x)) asked.counts
       → IsLast (Some x) → asked.made ≡ 1 → Takes (Some x) (allowance w) asked.taken 0
       → (IsMisplaced (Some x) → 0 < asked.names) → names_left w ≤ asked.names → UsesAnswer asked w r new
   stopped_uses_answer asked w new (Gives y) x e is c last o t m few =
@@ -286,7 +291,8 @@ module _ {D C : Type 0} where
       let M : Option Given → Type 0 = λ z. IsMisplaced z → 0 < asked.names in
       let L : Option Given → Type 0 = λ z. IsLast z in
       let O : Option Given → Type 0 = λ z. opens_one (is_above w.max) z ≡ 0 in
-      let zero : opens_one (is_above w.max) (step_given (Gives y)) ≡ 0 = subst O (sym e) (none_opened (is_above w.max) x last) in
+      let zero : opens_one (is_above w.max) (step_given (Gives y)) ≡ 0 =
+      subst O (sym e) (none_opened (is_above w.max) x last) in
       subst (λ v. UsesAnswer asked w (Gives y) v) (sym is) (record {
         goes_on = λ i. (cc);
         directory = refl;
@@ -310,7 +316,8 @@ module _ {D C : Type 0} where
   -- an item is yielded without a call of the directory
   pub gives_uses_answer : (asked : Asked) (w : Steps D C) (y : Result TreeEntry WalkError)
       → IsCounted (fault_counts (Some (tree_given y))) (items_lost (Some (tree_given y))) asked.counts
-      → opens_one (is_above w.max) (Some (tree_given y)) ≡ 0 → asked.made ≡ begins w + 1 → Takes (Some (tree_given y)) (allowance w) asked.taken (allowance w)
+      → opens_one (is_above w.max) (Some (tree_given y)) ≡ 0 → asked.made ≡ begins w + 1
+      → Takes (Some (tree_given y)) (allowance w) asked.taken (allowance w)
       → (IsLast (Some (tree_given y)) → ⊥) → (IsMisplaced (Some (tree_given y)) → ⊥)
       → names_left w ≤ asked.names → UsesAnswer asked w (Gives y) w
   gives_uses_answer asked w y c z o t l m few = record {
@@ -351,8 +358,10 @@ module _ {D C : Type 0} (law : Law D C) where
       let A : D → Type 0 = λ v. CountsFaults (fault_counts (step_given r)) (items_lost (step_given r))
       (law.tally w.directory) (law.tally v) in
       let B : D → Type 0 = λ v. (law.tally v).items ≡ grown asked.taken (law.tally w.directory).items in
-      let O : D → Type 0 = λ v. (law.tally v).opened ≡ grown asked.counts.opened (law.tally w.directory).opened in
-      let E : D → Type 0 = λ v. (law.tally v).ended ≡ grown asked.counts.ended (law.tally w.directory).ended in
+      let O : D → Type 0 =
+      λ v. (law.tally v).opened ≡ grown asked.counts.opened (law.tally w.directory).opened in
+      let E : D → Type 0 =
+      λ v. (law.tally v).ended ≡ grown asked.counts.ended (law.tally w.directory).ended in
       record {
         goes_on = s.goes_on;
         accounts = record {
@@ -388,14 +397,16 @@ module _ {D C : Type 0} (law : Law D C) where
         misplaced = s.misplaced;
         to_open = opened_by r refl;
       } where
-        opened_by : (q : Step) → r ≡ q → ¬ (q ≡ GoesOn) → entering new ≡ opens_one (is_above w.max) (step_given r)
+        opened_by : (q : Step) → r ≡ q → ¬ (q ≡ GoesOn)
+            → entering new ≡ opens_one (is_above w.max) (step_given r)
         opened_by GoesOn e n = absurd (n refl)
         opened_by Ends e n = absurd (s.goes_on e)
         opened_by (Gives y) e n = by (tree_given y) (ap step_given e) where
           by : (x : Given) → step_given r ≡ Some x → entering new ≡ opens_one (is_above w.max) (step_given r)
           by no_memory k =
               let last : IsLast (step_given r) = subst (λ v. IsLast v) (sym k) tt in
-              let none : entering new ≡ 0 = ap (λ b. cond b 0 (entering_after new.first new.entered)) (s.ends last) in
+              let none : entering new ≡ 0 =
+              ap (λ b. cond b 0 (entering_after new.first new.entered)) (s.ends last) in
               let zero : opens_one (is_above w.max) (step_given r) ≡ 0 = ap (opens_one (is_above w.max)) k in
               omega (arith, none, zero)
           by (entry m f) k =

@@ -1,5 +1,6 @@
 -- What a call counts, takes and ends, call by call.
-use Rattle.std.proofs.Common.{◌≡◌, Bool, ℕ, ◌+◌, ◌<◌, ◌≤◌, true, false, refl, sym, subst, ◌∙◌, arith, inl, inr, List, ap, ◌++◌}
+use Rattle.std.proofs.Common.{◌≡◌, Bool, ℕ, ◌+◌, ◌<◌, ◌≤◌, true, false, refl, sym, subst, ◌∙◌, arith, inl}
+use Rattle.std.proofs.Common.{inr, List, ap, ◌++◌}
 use Rattle.std.specs.Prelude.{Option, Some, None, ◌⊎◌}
 use Rattle.wax_directory.specs.Counting.{no_counts, plus, grown}
 use Rattle.wax_directory.specs.Law.{Law}
@@ -11,7 +12,8 @@ use Rattle.wax_walk.specs.Given.{Facts, Given, Mark, entry, fault, no_memory, wi
 use Rattle.wax_walk.specs.Given.{kept, alone, with_tree}
 use Rattle.wax_walk.specs.View.{WalkView, CountsFaults, fault_counts, IsLast, IsMisplaced, Takes}
 use Rattle.wax_walk.specs.View.{items_lost, how_many, opens_one, IsMemoryError}
-use Rattle.wax_walk.specs.View.{Follows, MayTake, GivesOrStops, Accounts, FeedStep, IsErrorAt, IsFolderAt, MayFail, Places}
+use Rattle.wax_walk.specs.View.{Follows, MayTake, GivesOrStops, Accounts, FeedStep, IsErrorAt, IsFolderAt}
+use Rattle.wax_walk.specs.View.{MayFail, Places}
 use Rattle.wax_walk.specs.Forest.{Pending}
 
 -- so many items were taken before
@@ -218,14 +220,16 @@ marked_as (entry k f) m = record {
 marked_as (fault kind path depth) m = same_as _
 marked_as no_memory m = same_as _
 
-error_marked : (path : List ℕ) (depth : ℕ) (x : Given) (m : Mark) → IsErrorAt path depth (Some (with_mark x m))
+error_marked : (path : List ℕ) (depth : ℕ) (x : Given) (m : Mark)
+    → IsErrorAt path depth (Some (with_mark x m))
     → IsErrorAt path depth (Some x)
 error_marked path depth (entry k f) m i = absurd i
 error_marked path depth (fault kind p d) m i = i
 error_marked path depth no_memory m i = absurd i
 
 -- a folder stays one if a filter doesn't cancel below it
-pub folder_uncut : (opens : Facts → Bool) (path : List ℕ) (depth : ℕ) (x : Given) (m : Mark) → false ≡ is_cut x m
+pub folder_uncut : (opens : Facts → Bool) (path : List ℕ) (depth : ℕ) (x : Given) (m : Mark)
+    → false ≡ is_cut x m
     → IsFolderAt opens path depth (Some x) → IsFolderAt opens path depth (Some (with_mark x m))
 folder_uncut opens path depth (entry kept f) kept c i = i
 folder_uncut opens path depth (entry kept f) alone c i = i

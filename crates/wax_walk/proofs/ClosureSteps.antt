@@ -64,14 +64,17 @@ module _ {D C F : Type 0} (law : Law D C) (step : F → Bor TreeEntry → Option
       subst (λ z. GivesOrStops (closure_view step v f) z None (closure_view step w f)) (sym p.2)
       (layer_ends s.0 v w (closure_view step v f) (closure_view step w f) p.0 refl refl
       (λ z i. (s.0, s.1, (z, i, refl))) (h.gives p.0 p.1)))
-      (begins_filtered v w (closure_view step v f) (closure_view step w f) _ (IsMarkSaid step f) (λ a i. i) h.calls
+      (begins_filtered v w (closure_view step v f) (closure_view step w f) _
+      (IsMarkSaid step f) (λ a i. i) h.calls
       h.begins)
-      (ends_filtered v w (closure_view step v f) (closure_view step w f) _ (IsMarkSaid step f) (λ a i. i) h.calls
+      (ends_filtered v w (closure_view step v f) (closure_view step w f) _
+      (IsMarkSaid step f) (λ a i. i) h.calls
       h.follows)
 
   -- what the closure says of an item, whatever rule it follows
   abbrev pub SaysOf : F → Given → Mark → F → Type 0
-  SaysOf f x m t = (rule : Facts → Mark) → SaysByRule step rule f → (m ≡ mark_by rule x) × SaysByRule step rule t
+  SaysOf f x m t = (rule : Facts → Mark) → SaysByRule step rule f
+      → (m ≡ mark_by rule x) × SaysByRule step rule t
 
   pub closure_passes : (v w : WalkView D) (f t : F) (x y : Given) (m : Mark) → FeedStep law v (Some x) w
       → SaysOf f x m t → y ≡ with_mark x m → false ≡ is_cut x m → FeedStep law (closure_view step v f)
@@ -87,10 +90,13 @@ module _ {D C F : Type 0} (law : Law D C) (step : F → Bor TreeEntry → Option
       subst (λ z. GivesOrStops (closure_view step v f) z (Some y) (closure_view step w t)) (sym p.2)
       (layer_passes s.0 v w (closure_view step v f) (closure_view step w t) p.0 x y m o.0 k refl refl n
       (λ z i. (s.0, o.1, (z, i, refl))) (h.gives p.0 p.1)))
-      (begins_filtered v w (closure_view step v f) (closure_view step w t) _ (IsMarkSaid step t) (λ a i. i) h.calls
+      (begins_filtered v w (closure_view step v f) (closure_view step w t) _
+      (IsMarkSaid step t) (λ a i. i) h.calls
       h.begins)
-      (passes_filtered v w (closure_view step v f) (closure_view step w t) (IsMarkSaid step f) (IsMarkSaid step t)
-      (λ a i. i) h.calls x y m (is_cut x m) k (λ r i. (says r i).0, refl) (λ z o c i. (λ r j. i.0 r (says r j).1, i.1)) n (λ a i. i)
+      (passes_filtered v w (closure_view step v f) (closure_view step w t)
+      (IsMarkSaid step f) (IsMarkSaid step t)
+      (λ a i. i) h.calls x y m (is_cut x m) k (λ r i. (says r i).0, refl)
+      (λ z o c i. (λ r j. i.0 r (says r j).1, i.1)) n (λ a i. i)
       (λ i. i) (λ i. i) h.follows)
 
   pub closure_cuts : (v w u : WalkView D) (f t : F) (x y : Given) (m : Mark) → FeedStep law v (Some x) w
@@ -105,8 +111,11 @@ module _ {D C F : Type 0} (law : Law D C) (step : F → Bor TreeEntry → Option
       subst (λ z. GivesOrStops (closure_view step v f) z (Some y) (closure_view step u t)) (sym p.2)
       (layer_cuts s.0 v w (closure_view step v f) (closure_view step u t) p.0 x y m o.0 k refl c.listings_left
       n (λ z i. (s.0, o.1, (cancelled z, c.leaves_out z i, refl))) (h.gives p.0 p.1)))
-      (begins_filtered v w (closure_view step v f) (closure_view step u t) _ (IsMarkSaid step t) (λ a i. i) h.calls
+      (begins_filtered v w (closure_view step v f) (closure_view step u t) _
+      (IsMarkSaid step t) (λ a i. i) h.calls
       h.begins)
-      (cuts_filtered v w (closure_view step v f) (closure_view step u t) (IsMarkSaid step f) (IsMarkSaid step t)
-      (λ a i. i) h.calls x y m (is_cut x m) k (λ r i. (says r i).0, refl) (λ z o c i. (λ r j. i.0 r (says r j).1, i.1)) n u c (λ a i. i) c.ends
+      (cuts_filtered v w (closure_view step v f) (closure_view step u t)
+      (IsMarkSaid step f) (IsMarkSaid step t)
+      (λ a i. i) h.calls x y m (is_cut x m) k (λ r i. (says r i).0, refl)
+      (λ z o c i. (λ r j. i.0 r (says r j).1, i.1)) n u c (λ a i. i) c.ends
       c.idles h.follows)

@@ -17,7 +17,8 @@ use Rattle.wax_filter.specs.declared.filter.tree_residue.TreeResidue.TheVariants
 use Rattle.wax_walk.specs.declared.error.WalkError.{WalkError}
 use Rattle.wax_walk.specs.declared.error.WalkError.TheVariants.{Fault, Memory}
 use Rattle.wax_walk.specs.declared.error.FaultKind.TheVariants.{NotAFolder, Budget}
-use Rattle.wax_walk.specs.Collected.{IsCutShort, Yielded, whole, Took, all_fault_counts, NoneLast, count_to_open}
+use Rattle.wax_walk.specs.Collected.{IsCutShort, Yielded, whole, Took, all_fault_counts, NoneLast}
+use Rattle.wax_walk.specs.Collected.{count_to_open}
 use Rattle.wax_walk.specs.Collected.{AreOfFolders, HasFolder, all_items_lost, NoMemoryError}
 use Rattle.wax_walk.specs.Collected as all
 use Rattle.wax_walk.specs.Entries.{given_of, given_outcome, given_residue}
@@ -170,7 +171,8 @@ faults_more [] x = plus_none (fault_counts (Some x))
 faults_more (y ∷ xs) x = ap (plus (fault_counts (Some y))) (faults_more xs x) ∙ plus_assoc
     (fault_counts (Some y)) (all_fault_counts xs) (fault_counts (Some x))
 
-lost_more : (xs : List Given) (x : Given) → all_items_lost (xs ++ x ∷ []) ≡ all_items_lost xs + items_lost (Some x)
+lost_more : (xs : List Given) (x : Given) → all_items_lost (xs ++ x ∷ [])
+    ≡ all_items_lost xs + items_lost (Some x)
 lost_more [] x = omega arith
 lost_more (y ∷ xs) x = omega (arith, lost_more xs x)
 
@@ -190,7 +192,8 @@ snoc_split : {A : Type 0} (xs : List A) (x : A) (before after : List A) (y : A)
     → xs ++ x ∷ [] ≡ before ++ y ∷ after
     → ((after ≡ []) × (x ≡ y) × (xs ≡ before)) ⊎ ((rest : List A) × (xs ≡ before ++ y ∷ rest))
 snoc_split [] x [] after y e = let t : after ≡ [] = cc in let h : x ≡ y = cc in inl (t, h, refl)
-snoc_split [] x (b ∷ before) after y e = let t : [] ≡ before ++ y ∷ after = cc in absurd (none_split before after y t)
+snoc_split [] x (b ∷ before) after y e = let t : [] ≡ before ++ y ∷ after = cc in
+    absurd (none_split before after y t)
 snoc_split (a ∷ xs) x [] after y e = let h : a ≡ y = cc in inr (xs, ap (λ v. v ∷ xs) h)
 snoc_split (a ∷ xs) x (b ∷ before) after y e =
     let t : xs ++ x ∷ [] ≡ before ++ y ∷ after = cc in
@@ -227,7 +230,8 @@ opened_more opens (y ∷ xs) x = omega (arith, opened_more opens xs x)
 -- ---- where errors come
 
 -- errors may come only of folders that were yielded, or of one of the paths `first`
-abbrev pub MayFailAt : {D : Type 0} → (List ℕ → ℕ → Type 0) → (Facts → Bool) → List Given → WalkView D → Type 0
+abbrev pub MayFailAt : {D : Type 0} → (List ℕ → ℕ → Type 0) → (Facts → Bool) → List Given
+    → WalkView D → Type 0
 MayFailAt first opens xs now = (path : List ℕ) (depth : ℕ) → MayFail now path depth
     → first path depth ⊎ HasFolder opens path depth xs
 
@@ -345,7 +349,8 @@ module _ {D C : Type 0} (law : Law D C) where
         let n : mid.has_ended → ⊥ = λ i. let s : Some x ≡ None = (f.stays i).0 in cc in
         let e = h.exactly n in
         let lost = all_items_lost xs + items_lost (Some x) in
-        let P : Tally → Type 0 = λ c. CountsFaults c lost (law.tally walk.directory) (law.tally new.directory) in
+        let P : Tally → Type 0 =
+        λ c. CountsFaults c lost (law.tally walk.directory) (law.tally new.directory) in
         let Q : ℕ → Type 0 = λ m. CountsFaults (all_fault_counts (xs ++ x ∷ [])) m (law.tally walk.directory)
         (law.tally new.directory) in
         let F : Tally → Type 0 = λ c. h.refused + a.refused ≤ c.failures in
@@ -499,7 +504,8 @@ module _ {T R : Type 0} (of_entry : T → Facts) (of_residue : R → Facts) wher
   pub kept_more : {S : Type 0} (zs ys : List (Result T WalkError))
       (x : Separation S (Result T WalkError) (TreeResidue R)) (xs : List Given) → zs ≡ ys ++ kept_of x
       → map (given_outcome of_entry of_residue) ys ≡ filter is_kept xs
-      → map (given_outcome of_entry of_residue) zs ≡ filter is_kept (xs ++ given_of of_entry of_residue x ∷ [])
+      → map (given_outcome of_entry of_residue) zs
+      ≡ filter is_kept (xs ++ given_of of_entry of_residue x ∷ [])
   kept_more zs ys x xs e f =
       let given = given_outcome of_entry of_residue in
       let y = given_of of_entry of_residue x in

@@ -1,8 +1,10 @@
 -- Courses: their parts, and what a filter leaves of them.
-use Rattle.std.proofs.Common.{◌≡◌, ◌∙◌, Bool, true, false, List, [], ◌∷◌, ◌++◌, append_assoc, refl, sym, ap, subst, inl, inr}
+use Rattle.std.proofs.Common.{◌≡◌, ◌∙◌, Bool, true, false, List, [], ◌∷◌, ◌++◌, append_assoc, refl, sym, ap}
+use Rattle.std.proofs.Common.{subst, inl, inr}
 use Rattle.std.specs.Prelude.{◌⊎◌}
 use Rattle.std.proofs.lemmas.List.{append-nil}
-use Rattle.wax_walk.specs.Course.{DirectoryCall, Course, stop, unknown, asks, yields, continued, asking, items_of, calls_of}
+use Rattle.wax_walk.specs.Course.{DirectoryCall, Course, stop, unknown, asks, yields, continued, asking}
+use Rattle.wax_walk.specs.Course.{items_of, calls_of}
 use Rattle.wax_walk.specs.Course.{IsKnownFirst, IsKnownWhole, IsStartOf, ComesBelow, IsFiltered, IsNothing}
 use Rattle.wax_walk.specs.Given.{Given, Mark, with_mark}
 
@@ -36,7 +38,8 @@ continued_then unknown d e = refl
 continued_then (asks q c) d e = ap (asks q) (continued_then c d e)
 continued_then (yields x b a) d e = ap (yields x b) (continued_then a d e)
 
-pub begins_asking : (calls : List DirectoryCall) (c d : Course) → IsStartOf c d → IsStartOf (asking calls c) (asking calls d)
+pub begins_asking : (calls : List DirectoryCall) (c d : Course) → IsStartOf c d
+    → IsStartOf (asking calls c) (asking calls d)
 begins_asking [] c d h = h
 begins_asking (q ∷ calls) c d h = (asking calls d, refl, begins_asking calls c d h)
 
@@ -48,9 +51,11 @@ pub record BeginsBoth (b a c : Course) : Type 0 where
   pub after_begins : IsStartOf after a
   pub whole : continued below after ≡ c
 
-abbrev pub both : (b a c below after : Course) → IsStartOf below b → IsStartOf after a → continued below after ≡ c
+abbrev pub both : (b a c below after : Course) → IsStartOf below b → IsStartOf after a
+    → continued below after ≡ c
     → BeginsBoth b a c
-both b a c below after h i e = record { below = below; after = after; below_begins = h; after_begins = i; whole = e }
+both b a c below after h i e =
+    record { below = below; after = after; below_begins = h; after_begins = i; whole = e }
 
 pub begins_parts : (b a c : Course) → IsStartOf c (continued b a) → BeginsBoth b a c
 begins_parts stop a c h = both stop a c stop c refl h refl
@@ -67,10 +72,12 @@ begins_parts (asks q b) a (asks r c) h =
     let p = begins_parts b a c (subst (λ d. IsStartOf c d) (sym rest) h.2) in
     both (asks q b) a (asks r c) (asks r p.below) p.after
     (b, ap (λ z. asks z b) same, p.below_begins) p.after_begins (ap (asks r) p.whole)
-begins_parts (asks q b) a (yields x d e) h = absurd (let e : asks q (continued b a) ≡ yields x h.0 h.1 = h.2 in (cc))
+begins_parts (asks q b) a (yields x d e) h =
+    absurd (let e : asks q (continued b a) ≡ yields x h.0 h.1 = h.2 in (cc))
 begins_parts (yields x d b) a unknown h = both (yields x d b) a unknown unknown unknown tt tt refl
 begins_parts (yields x d b) a stop h = absurd (let e : yields x d (continued b a) ≡ stop = h in (cc))
-begins_parts (yields x d b) a (asks r c) h = absurd (let e : yields x d (continued b a) ≡ asks r h.0 = h.1 in (cc))
+begins_parts (yields x d b) a (asks r c) h =
+    absurd (let e : yields x d (continued b a) ≡ asks r h.0 = h.1 in (cc))
 begins_parts (yields x d b) a (yields y e c) h =
     let i : yields x d (continued b a) ≡ yields y h.0 h.1 = h.2 in
     let same : x ≡ y = cc in
@@ -195,7 +202,8 @@ comes_first_below x b a e f i k = record {
 }
 
 pub comes_first : (c d : Course) → IsKnownFirst c → IsStartOf c d → ComesFirst c d
-comes_first unknown d f h = record { items = items_of d; items_are = refl; calls = calls_of d; calls_are = refl }
+comes_first unknown d f h =
+    record { items = items_of d; items_are = refl; calls = calls_of d; calls_are = refl }
 comes_first stop d f h = record {
   items = [];
   items_are = sym (ap items_of h);

@@ -3,9 +3,11 @@ use Rattle.std.proofs.Common.{◌≡◌, ◌∙◌, Bool, true, false, cond, ◌
 use Rattle.wax_walk.specs.Course.{ComesBelow, Course, IsFiltered, IsKnownWhole, IsStartOf, asks}
 use Rattle.wax_walk.specs.Course.{continued, filtered_course, items_of, stop, unknown, yields}
 use Rattle.wax_walk.specs.Forest.{Forest, filtered, followed_by, item, lists, nothing, preorder}
-use Rattle.wax_walk.specs.Given.{Facts, Given, Mark, alone, changed_by, cut_by, entry, fault, is_cut, kept, no_memory}
+use Rattle.wax_walk.specs.Given.{Facts, Given, Mark, alone, changed_by, cut_by, entry, fault, is_cut, kept}
+use Rattle.wax_walk.specs.Given.{no_memory}
 use Rattle.wax_walk.specs.Given.{with_mark, with_tree}
-use Rattle.wax_walk.specs.Pruned.{IsPrunedBy, Opening, all_folders, is_closed, itself, opened_forest, opened_course, pruned}
+use Rattle.wax_walk.specs.Pruned.{IsPrunedBy, Opening, all_folders, is_closed, itself, opened_forest}
+use Rattle.wax_walk.specs.Pruned.{opened_course, pruned}
 use Rattle.wax_walk.specs.Pruned.{pruned_course, these_folders}
 use Rattle.wax_walk.specs.Ruled.{IsMarkBy}
 
@@ -50,7 +52,8 @@ module _ (change : Given → Given) (cut : Given → Bool) where
         subst (λ z. IsStartOf z (cut_course d)) (sym i.5) (
           cond i.1 stop (cut_course b.0),
           cut_course b.1,
-          ap cut_course b.2 ∙ (λ j. yields (sym so.0 j) (cond (sym so.1 j) stop (cut_course b.0)) (cut_course b.1)),
+          ap cut_course b.2
+              ∙ (λ j. yields (sym so.0 j) (cond (sym so.1 j) stop (cut_course b.0)) (cut_course b.1)),
           below,
           cut_begins allows same a b.1 i.4 i.7 b.4,
         )
@@ -75,7 +78,8 @@ pub filtered_begins : (rule : Facts → Mark) (c d e : Course) → IsFiltered (I
 filtered_begins rule = cut_begins (changed_by rule) (cut_by rule) (IsMarkBy rule)
     (λ x m b h. (ap (with_mark x) h.0, h.1 ∙ ap (is_cut x) h.0))
 
-pub pruned_begins : (opens : Facts → Bool) (c d e : Course) → IsFiltered (IsPrunedBy opens) c e → IsStartOf c d
+pub pruned_begins : (opens : Facts → Bool) (c d e : Course)
+    → IsFiltered (IsPrunedBy opens) c e → IsStartOf c d
     → IsStartOf e (pruned_course opens d)
 pruned_begins opens = cut_begins itself (is_closed opens) (IsPrunedBy opens)
     (λ x m b h. (ap (with_mark x) h.0 ∙ sym (kept_itself x), h.1))
@@ -106,7 +110,8 @@ preorder_unlisted nothing = refl
 preorder_unlisted (item x below after) = λ i. x ∷ (preorder_unlisted below i ++ preorder_unlisted after i)
 preorder_unlisted (lists path after) = preorder_unlisted after
 
-pub unlisted_followed : (f g : Forest Given) → unlisted (followed_by f g) ≡ followed_by (unlisted f) (unlisted g)
+pub unlisted_followed : (f g : Forest Given)
+    → unlisted (followed_by f g) ≡ followed_by (unlisted f) (unlisted g)
 unlisted_followed nothing g = refl
 unlisted_followed (item x below after) g = ap (item x (unlisted below)) (unlisted_followed after g)
 unlisted_followed (lists path after) g = unlisted_followed after g
@@ -156,7 +161,8 @@ module _ (change : Given → Given) (cut : Given → Bool) where
   unlisted_cut (lists path after) = unlisted_cut after
 
   -- a filter leaves of a course what it leaves of the forest
-  pub cut_yields : (c : Course) (f : Forest Given) → Yields c f → Yields (cut_course change cut c) (cut_forest f)
+  pub cut_yields : (c : Course) (f : Forest Given) → Yields c f
+      → Yields (cut_course change cut c) (cut_forest f)
   cut_yields c f y = record {
     is_whole = whole_cut change cut c y.is_whole;
     forest = forest_cut c ∙ (ap cut_forest y.forest ∙ sym (unlisted_cut f));
@@ -179,7 +185,8 @@ closed_still opens rule (entry m f) = refl
 closed_still opens rule (fault kind path depth) = refl
 closed_still opens rule no_memory = refl
 
-cuts_swap : {F : Type 0} (none : F) (b c : Bool) (one two : F → F) (below : F) → one none ≡ none → two none ≡ none
+cuts_swap : {F : Type 0} (none : F) (b c : Bool) (one two : F → F) (below : F)
+    → one none ≡ none → two none ≡ none
     → one (two below) ≡ two (one below)
     → cond b none (one (cond c none (two below))) ≡ cond c none (two (cond b none (one below)))
 cuts_swap none true true one two below e f g = refl
@@ -197,7 +204,8 @@ pruned_ruled opens rule (yields x b a) =
     ap (λ e. yields (changed_by rule x) (cond e stop (pruned_course opens
     (cond (cut_by rule x) stop (ruled_course rule b)))) (pruned_course opens (ruled_course rule a)))
     (closed_still opens rule x)
-    ∙ (λ i. yields (changed_by rule x) (cuts_swap stop (is_closed opens x) (cut_by rule x) (pruned_course opens)
+    ∙ (λ i.
+    yields (changed_by rule x) (cuts_swap stop (is_closed opens x) (cut_by rule x) (pruned_course opens)
     (ruled_course rule) b refl refl (pruned_ruled opens rule b) i) (pruned_ruled opens rule a i))
 
 pub forest_swap : (opens : Facts → Bool) (rule : Facts → Mark) (f : Forest Given)

@@ -1,7 +1,8 @@
 -- How a filter follows the course of the walk inside it.
 use Rattle.std.proofs.Common.{◌≡◌, ◌∙◌, Bool, true, false, List, refl, sym, ap, subst, inl, inr}
 use Rattle.std.specs.Prelude.{Some, None}
-use Rattle.wax_walk.specs.Course.{Ahead, AheadFiltered, DirectoryCall, Course, CutsShort, ComesBelow, IsFiltered, IsNothing}
+use Rattle.wax_walk.specs.Course.{Ahead, AheadFiltered, DirectoryCall, Course, CutsShort, ComesBelow}
+use Rattle.wax_walk.specs.Course.{IsFiltered, IsNothing}
 use Rattle.wax_walk.specs.Course.{IsStartOf, ahead, all_ahead, asking, asks, continued, yields, stop, unknown}
 use Rattle.wax_walk.specs.Given.{Given, Mark, entry, fault, no_memory, with_mark}
 use Rattle.wax_walk.specs.Laws.{filtered_nothing}
@@ -12,7 +13,8 @@ use Rattle.wax_walk.proofs.Courses.{begins_itself, filtered_asking, filtered_beg
 use Rattle.wax_walk.proofs.Courses.{filtered_unknown, filtered_widened}
 
 -- an error that cuts a course short isn't marked
-cuts_marked : (calls : List DirectoryCall) (x : Given) (m : Mark) → CutsShort calls x → CutsShort calls (with_mark x m)
+cuts_marked : (calls : List DirectoryCall) (x : Given) (m : Mark) → CutsShort calls x
+    → CutsShort calls (with_mark x m)
 cuts_marked calls (entry k f) m s = absurd s
 cuts_marked calls (fault kind path depth) m s = s
 cuts_marked calls no_memory m s = s
@@ -31,7 +33,8 @@ module _ {D : Type 0} (v w outer new : WalkView D) (allows later : Given → Mar
   -- a course that the walk inside may take, as the filter leaves it
   take_filtered : (c d : Course) → MayTake v c → IsFiltered allows c d → MayTake outer d
   take_filtered c d t h =
-      let p = filtered_parts allows t.0.below t.0.after d (subst (λ z. IsFiltered allows z d) (sym t.2) h) in (
+      let p =
+      filtered_parts allows t.0.below t.0.after d (subst (λ z. IsFiltered allows z d) (sym t.2) h) in (
         ahead p.below p.after,
         outside (ahead p.below p.after) (t.0, t.1, p.below_filtered, p.after_filtered),
         p.whole,
@@ -56,8 +59,16 @@ module _ {D : Type 0} (v w outer new : WalkView D) (allows later : Given → Mar
     next_filtered p a c t below after b =
         let marks : yields y a.below a.after ≡ yields (with_mark x m) a.below a.after =
         ap (λ z. yields z a.below a.after) marked in
-        let f : IsFiltered allows (yields x p.below p.after) (yields y a.below a.after) = inr
-        (m, cut, ok, a.below, a.after, marks, below, filtered_widened later allows narrow p.after a.after after) in
+        let f : IsFiltered allows (yields x p.below p.after) (yields y a.below a.after) = inr (
+          m,
+          cut,
+          ok,
+          a.below,
+          a.after,
+          marks,
+          below,
+          filtered_widened later allows narrow p.after a.after after,
+        ) in
         take_filtered (asking calls (yields x p.below p.after)) (asking calls c) t
         (filtered_asking allows calls (yields x p.below p.after) c
         (filtered_begun allows (yields x p.below p.after) (yields y a.below a.after) c f b))
@@ -101,7 +112,8 @@ module _ {D : Type 0} (v w outer new : WalkView D) (allows later : Given → Mar
 
 -- ---- a walk after a rule
 
-filtered_both : (allows : Given → Mark → Bool → Type 0) (b a d e : Course) → IsFiltered allows b d → IsFiltered allows a e
+filtered_both : (allows : Given → Mark → Bool → Type 0) (b a d e : Course) → IsFiltered allows b d
+    → IsFiltered allows a e
     → IsFiltered allows (continued b a) (continued d e)
 filtered_both allows unknown a d e h k = ap (λ z. continued z e) h
 filtered_both allows stop a d e h k = elim h [
@@ -127,11 +139,13 @@ filtered_both allows (yields x c b) a d e h k = elim h [
 ]
 
 -- of a walk that may take only the error that allocation failed, a rule leaves only that
-pub lacks_filtered : (allows : Given → Mark → Bool → Type 0) (c d : Course) → IsStartOf c (yields no_memory stop stop)
+pub lacks_filtered : (allows : Given → Mark → Bool → Type 0) (c d : Course)
+    → IsStartOf c (yields no_memory stop stop)
     → IsFiltered allows c d → IsStartOf d (yields no_memory stop stop)
 lacks_filtered allows unknown d b h = subst (λ z. IsStartOf z (yields no_memory stop stop)) (sym h) tt
 lacks_filtered allows stop d b h = absurd (let i : yields no_memory stop stop ≡ stop = b in (cc))
-lacks_filtered allows (asks q c) d b h = absurd (let i : yields no_memory stop stop ≡ asks q b.0 = b.1 in (cc))
+lacks_filtered allows (asks q c) d b h =
+    absurd (let i : yields no_memory stop stop ≡ asks q b.0 = b.1 in (cc))
 lacks_filtered allows (yields x c a) d b h =
     let i : yields no_memory stop stop ≡ yields x b.0 b.1 = b.2 in
     let same : x ≡ no_memory = cc in
@@ -145,7 +159,8 @@ lacks_filtered allows (yields x c a) d b h =
           let is : d ≡ yields no_memory k.3 k.4 = k.5 ∙ ap (λ z. yields (with_mark z k.0) k.3 k.4) same in
           subst (λ z. IsStartOf z (yields no_memory stop stop)) (sym is) (stop, stop, refl, below, after)
     ] where
-      nothing_below : (cut : Bool) (e : Course) → ComesBelow cut (IsFiltered allows c e) e → IsNothing c → IsNothing e
+      nothing_below : (cut : Bool) (e : Course) → ComesBelow cut (IsFiltered allows c e) e
+          → IsNothing c → IsNothing e
       nothing_below true e h n = h
       nothing_below false e h n = filtered_nothing allows c e n h
 

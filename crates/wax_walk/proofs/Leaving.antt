@@ -1,5 +1,6 @@
 -- What a filter leaves of a forest is what it leaves of the list.
-use Rattle.std.proofs.Common.{◌≡◌, ℕ, ◌+◌, ◌<◌, ◌≤◌, Bool, true, false, ◌&&◌, ◌||◌, not, cond, nat_lt, List, []}
+use Rattle.std.proofs.Common.{◌≡◌, ℕ, ◌+◌, ◌<◌, ◌≤◌, Bool, true, false, ◌&&◌, ◌||◌, not, cond, nat_lt, List}
+use Rattle.std.proofs.Common.{[]}
 use Rattle.std.proofs.Common.{◌∷◌, ◌++◌, refl, sym, ap, ◌∙◌, append_assoc, arith}
 use Rattle.std.specs.Prelude.{⊤}
 use Rattle.std.specs.List.{list_all}
@@ -9,7 +10,8 @@ use Rattle.std.proofs.lemmas.List.Folds.{list_all-append}
 use Rattle.wax_walk.specs.Forest.{Forest, nothing, item, lists, filtered, preorder}
 use Rattle.wax_walk.specs.Given.{Facts, Given, entry, fault, no_memory}
 use Rattle.wax_walk.specs.Left.{are_below, is_deeper, is_cancelled, left_after, opened_items}
-use Rattle.wax_walk.specs.Pruned.{Opening, all_folders, is_closed, itself, opened_forest, pruned, these_folders}
+use Rattle.wax_walk.specs.Pruned.{Opening, all_folders, is_closed, itself, opened_forest, pruned}
+use Rattle.wax_walk.specs.Pruned.{these_folders}
 
 append-nil : {A : Type 0} (xs : List A) → xs ++ [] ≡ xs
 append-nil [] = refl
@@ -100,7 +102,8 @@ abbrev FirstHas : (Given → Type 0) → List Given → Type 0
 FirstHas P [] = ⊤
 FirstHas P (x ∷ xs) = P x
 
-first_to : (P Q : Given → Type 0) (xs : List Given) → ((x : Given) → P x → Q x) → FirstHas P xs → FirstHas Q xs
+first_to : (P Q : Given → Type 0) (xs : List Given) → ((x : Given) → P x → Q x)
+    → FirstHas P xs → FirstHas Q xs
 first_to P Q [] f h = tt
 first_to P Q (x ∷ xs) f h = f x h
 
@@ -182,7 +185,8 @@ module _ (change : Given → Given) (cut : Given → Bool) where
   out_below (b ∷ before) zs x y c e = or_right _ _ (out_below before zs x y c e)
 
   skips : (before zs ws rest : List Given) (x : Given) → cut x ≡ true → are_below x (zs ++ ws) ≡ true
-      → left_after change cut (before ++ x ∷ zs) (ws ++ rest) ≡ left_after change cut (before ++ x ∷ (zs ++ ws)) rest
+      → left_after change cut (before ++ x ∷ zs) (ws ++ rest)
+      ≡ left_after change cut (before ++ x ∷ (zs ++ ws)) rest
   skips before zs [] rest x c e = ap (λ v. left_after change cut (before ++ x ∷ v) rest) (sym (append-nil zs))
   skips before zs (w ∷ ws) rest x c e =
       let out : is_cancelled cut (before ++ x ∷ zs) w ≡ true =
@@ -210,7 +214,8 @@ module _ (change : Given → Given) (cut : Given → Bool) where
       → IsLevelled depth (depth + 1) below → are_below x (preorder below) ≡ true → IsSeen before x
       → (b : Bool) → cut x ≡ b
       → left_after change cut (before ++ x ∷ []) (preorder below ++ rest)
-      ≡ preorder (cond b nothing (left_forest below)) ++ left_after change cut (before ++ x ∷ preorder below) rest
+      ≡ preorder (cond b nothing (left_forest below)) ++ left_after change cut
+      (before ++ x ∷ preorder below) rest
   leaves_below x below depth before rest goes h deep seen true c =
       skips before [] (preorder below) rest x c deep
   leaves_below x below depth before rest goes h deep seen false c =
@@ -267,14 +272,17 @@ module _ (change : Given → Given) (cut : Given → Bool) where
       ap (λ v. preorder (cond (cut x) nothing (left_forest v))) h.2 ∙ none_cut (cut x) in
       let next : FirstHas (IsSeen (before ++ x ∷ [])) pa =
       first_to (λ y. is_deeper depth y ≡ false) (IsSeen (before ++ x ∷ [])) pa
-      (λ y e. seen_after before [] x y seen (and_none (cut x) _ refl) refl) (first_beside low depth after h.3) in
+      (λ y e. seen_after before [] x y seen (and_none (cut x) _ refl) refl)
+      (first_beside low depth after h.3) in
       left_first before ((preorder below ++ pa) ++ rest) x seen
       ∙ ap (λ v. change x ∷ v)
       (ap (λ v. left_after change cut (before ++ x ∷ []) ((v ++ pa) ++ rest)) none
       ∙ (leaves after low depth (before ++ x ∷ []) rest h.3 next
-      ∙ (ap (λ v. (v ++ preorder (left_forest after)) ++ left_after change cut ((before ++ x ∷ []) ++ pa) rest)
+      ∙ (ap
+      (λ v. (v ++ preorder (left_forest after)) ++ left_after change cut ((before ++ x ∷ []) ++ pa) rest)
       (sym none_left)
-      ∙ ap (λ v. (preorder (cond (cut x) nothing (left_forest below)) ++ preorder (left_forest after)) ++ left_after change cut v rest)
+      ∙ ap (λ v. (preorder (cond (cut x) nothing (left_forest below)) ++ preorder (left_forest after))
+      ++ left_after change cut v rest)
       (append_assoc before (x ∷ []) pa ∙ ap (λ v. before ++ x ∷ (v ++ pa)) (sym none)))))
   leaves (item no_memory below after) low depth before rest h seen = absurd h
 
@@ -290,7 +298,8 @@ module _ (change : Given → Given) (cut : Given → Bool) where
 
 -- ---- a walk that opens only some folders
 
-levelled_closed : (opens : Facts → Bool) (low depth : ℕ) (b : Bool) (f : Forest Given) → IsLevelled low depth f
+levelled_closed : (opens : Facts → Bool) (low depth : ℕ) (b : Bool) (f : Forest Given)
+    → IsLevelled low depth f
     → IsLevelled low depth (cond b nothing f)
 levelled_closed opens low depth true f h = tt
 levelled_closed opens low depth false f h = h

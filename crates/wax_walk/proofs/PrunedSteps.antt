@@ -4,13 +4,15 @@ use Rattle.std.specs.Prelude.{Some, None, not, if◌then◌else◌}
 use Rattle.wax_directory.specs.Law.{Law}
 use Rattle.wax_walk.specs.Candidates.{Candidate, candidate_of, of_candidate}
 use Rattle.wax_walk.specs.Forest.{cancelled}
-use Rattle.wax_walk.specs.Given.{Facts, Given, Mark, alone, entry, fault, is_cut, is_entry, kept, mark_by, no_memory}
+use Rattle.wax_walk.specs.Given.{Facts, Given, Mark, alone, entry, fault, is_cut, is_entry, kept, mark_by}
+use Rattle.wax_walk.specs.Given.{no_memory}
 use Rattle.wax_walk.specs.Given.{with_mark, with_tree}
 use Rattle.wax_walk.specs.Laws.{ruled_cancelling}
 use Rattle.wax_walk.specs.Pruned.{IsPrunedBy, is_closed, keep_mark, opens_by, pruned_pending, pruned_view}
 use Rattle.wax_walk.specs.Pruned.{selected_view}
 use Rattle.wax_walk.specs.Ruled.{ruled_view}
-use Rattle.wax_walk.specs.View.{CancelStep, FeedStep, GivesOrStops, IsFolderAt, WalkView, is_folder_kind, is_to_open}
+use Rattle.wax_walk.specs.View.{CancelStep, FeedStep, GivesOrStops, IsFolderAt, WalkView, is_folder_kind}
+use Rattle.wax_walk.specs.View.{is_to_open}
 use Rattle.wax_walk.proofs.Accounting.{IsAsked, HasAnswered, step_ends, step_marked}
 use Rattle.wax_walk.proofs.Filtered.{kept_itself}
 use Rattle.wax_walk.proofs.Filtering.{itself_gives}
@@ -125,19 +127,22 @@ module _ {D C : Type 0} (law : Law D C) (opens : Facts → Bool) where
   pruned_passes v w x f n =
       let outer = pruned_view v opens in
       let new = pruned_view w opens in
-      step_marked law v w outer new (asked v) (answered w) x x kept (kept_itself x) f (still_above v w f.above)
+      step_marked law v w outer new (asked v) (answered w) x x kept (kept_itself x) f
+      (still_above v w f.above)
       (f.to_open ∙ ap (λ b. cond b 1 0) (to_open_still v.may_open opens x n))
       (λ path depth i. as_kept x (λ z. IsFolderAt outer.may_open path depth (Some z))
       (folder_still v.may_open opens path depth x n (f.places.below path depth i)))
       (λ q h. subst (λ z. GivesOrStops outer z (Some x) new) (sym h.2)
       (itself_gives (is_closed opens) v w outer new h.0 (Some x) refl refl (
         refl,
-        λ z i. subst (λ b. new.to_come (cond b (cancelled (pruned_pending opens z)) (pruned_pending opens z))) n
+        λ z i.
+            subst (λ b. new.to_come (cond b (cancelled (pruned_pending opens z)) (pruned_pending opens z))) n
             (z, i, refl),
       ) (f.gives h.0 h.1)))
       (begins_filtered v w outer new (IsPrunedBy opens) (IsPrunedBy opens) (λ a i. i) f.calls f.begins)
       (passes_filtered v w outer new (IsPrunedBy opens) (IsPrunedBy opens) (λ a i. i) f.calls x x kept
-      (is_closed opens x) (kept_itself x) (refl, refl) (λ z m c i. i) n (λ a i. i) (λ i. i) (λ i. i) f.follows)
+      (is_closed opens x) (kept_itself x) (refl, refl) (λ z m c i. i) n (λ a i. i)
+      (λ i. i) (λ i. i) f.follows)
 
   -- it is one, and what is below it was cancelled
   pub pruned_cuts : (v w u : WalkView D) (x : Given) → FeedStep law v (Some x) w → true ≡ is_closed opens x
@@ -152,12 +157,14 @@ module _ {D C : Type 0} (law : Law D C) (opens : Facts → Bool) where
       (λ q h. subst (λ z. GivesOrStops outer z (Some x) new) (sym h.2)
       (itself_gives (is_closed opens) v w outer new h.0 (Some x) refl k.listings_left (
         refl,
-        λ z i. subst (λ b. new.to_come (cond b (cancelled (pruned_pending opens z)) (pruned_pending opens z))) n
+        λ z i.
+            subst (λ b. new.to_come (cond b (cancelled (pruned_pending opens z)) (pruned_pending opens z))) n
             (cancelled z, k.leaves_out z i, refl),
       ) (f.gives h.0 h.1)))
       (begins_filtered v w outer new (IsPrunedBy opens) (IsPrunedBy opens) (λ a i. i) f.calls f.begins)
       (cuts_filtered v w outer new (IsPrunedBy opens) (IsPrunedBy opens) (λ a i. i) f.calls x x kept
-      (is_closed opens x) (kept_itself x) (refl, refl) (λ z m c i. i) n u k (λ a i. i) k.ends k.idles f.follows)
+      (is_closed opens x) (kept_itself x) (refl, refl) (λ z m c i. i) n u k
+      (λ a i. i) k.ends k.idles f.follows)
 
 -- ---- steps of a selection
 
@@ -174,7 +181,8 @@ uncut keeps (entry m f) = uncut_if (keeps (candidate_of f)) m f
 uncut keeps (fault kind path depth) = refl
 uncut keeps no_memory = refl
 
-closed_marked : (opens : Facts → Bool) (x : Given) (m : Mark) → is_closed opens (with_mark x m) ≡ is_closed opens x
+closed_marked : (opens : Facts → Bool) (x : Given) (m : Mark)
+    → is_closed opens (with_mark x m) ≡ is_closed opens x
 closed_marked opens (entry k f) m = refl
 closed_marked opens (fault kind path depth) m = refl
 closed_marked opens no_memory m = refl
@@ -206,7 +214,8 @@ module _ {D C : Type 0} (law : Law D C) (keeps goes_on : Candidate → Bool) whe
       → false ≡ is_closed (opens_by goes_on) x → FeedStep law (selected v b) (Some y) (selected w b)
   selected_passes v w b e x y m f s k n =
       pruned_passes law (opens_by goes_on) (ruled v b) (ruled w b) y
-      (ruled_passes law rule v w b e x y m f s k (uncut keeps x ∙ ap (is_cut x) (sym s))) (n ∙ closed_as x y m k)
+      (ruled_passes law rule v w b e x y m f s k (uncut keeps x ∙ ap (is_cut x) (sym s)))
+      (n ∙ closed_as x y m k)
 
   pub selected_cuts : (v w u : WalkView D) (b : Bool) → b ≡ false → (x y : Given) (m : Mark)
       → FeedStep law v (Some x) w → m ≡ mark_of_item x → y ≡ with_mark x m
@@ -214,7 +223,8 @@ module _ {D C : Type 0} (law : Law D C) (keeps goes_on : Candidate → Bool) whe
       → FeedStep law (selected v b) (Some y) (selected u b)
   selected_cuts v w u b e x y m f s k n c =
       pruned_cuts law (opens_by goes_on) (ruled v b) (ruled w b) (ruled u b) y
-      (ruled_passes law rule v w b e x y m f s k (uncut keeps x ∙ ap (is_cut x) (sym s))) (n ∙ closed_as x y m k)
+      (ruled_passes law rule v w b e x y m f s k (uncut keeps x ∙ ap (is_cut x) (sym s)))
+      (n ∙ closed_as x y m k)
       (ruled_cancelling w u (λ (p : Candidate → Mark). p) rule rule b b c refl refl)
 
   -- allocation failed for the selection, which is asked about entries alone

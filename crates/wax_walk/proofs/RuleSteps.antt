@@ -63,7 +63,8 @@ module _ {D C : Type 0} (law : Law D C) (rule : Candidate → Mark) where
     idle = inr;
   }
 
-  answered_cut : (w u : WalkView D) (b : Bool) → b ≡ false → CancelStep w u → HasAnswered (ruled_view u rule b) w
+  answered_cut : (w u : WalkView D) (b : Bool) → b ≡ false → CancelStep w u
+      → HasAnswered (ruled_view u rule b) w
   answered_cut w u b e k =
       record {
         directory = k.directory;
@@ -108,28 +109,34 @@ module _ {D C : Type 0} (law : Law D C) (rule : Candidate → Mark) where
       (λ path depth i. folder_uncut v.may_open path depth x m n (f.places.below path depth i.1)) (λ q h.
       let p = h.1 in
       subst (λ z. GivesOrStops (ruled_view v rule b) z (Some y) (ruled_view w rule b)) (sym p.2)
-      (layer_passes (of_candidate rule) v w (ruled_view v rule b) (ruled_view w rule b) p.0 x y m s k refl refl n
+      (layer_passes (of_candidate rule) v w (ruled_view v rule b)
+      (ruled_view w rule b) p.0 x y m s k refl refl n
       (λ z i. (e, (z, i, refl))) (f.gives p.0 p.1)))
       (begins_filtered v w (ruled_view v rule b) (ruled_view w rule b) _ (IsMarkBy (of_candidate rule))
       (outside v b e) f.calls f.begins)
       (passes_filtered v w (ruled_view v rule b) (ruled_view w rule b) _ (IsMarkBy (of_candidate rule))
-      (outside v b e) f.calls x y m (is_cut x m) k (s, refl) (λ z n c i. i) n (inside w b e) inr inr f.follows)
+      (outside v b e) f.calls x y m (is_cut x m) k (s, refl) (λ z n c i. i) n
+      (inside w b e) inr inr f.follows)
 
   pub ruled_cuts : (v w u : WalkView D) (b : Bool) → b ≡ false → (x y : Given) (m : Mark)
       → FeedStep law v (Some x) w → m ≡ mark_by (of_candidate rule) x → y ≡ with_mark x m → true ≡ is_cut x m
       → CancelStep w u → FeedStep law (ruled_view v rule b) (Some y) (ruled_view u rule b)
-  ruled_cuts v w u b e x y m f s k n c = step_marked law v w _ _ (asked v b e) (answered_cut w u b e c) x y m k
-      f (c.may_open ∙ f.above) (ap (λ c. cond c 0 u.to_open) e ∙ (c.to_open ∙ (sym (opened_cut v.may_open x m n) ∙ sym
+  ruled_cuts v w u b e x y m f s k n c =
+      step_marked law v w _ _ (asked v b e) (answered_cut w u b e c) x y m k
+      f (c.may_open ∙ f.above) (ap (λ c. cond c 0 u.to_open) e
+      ∙ (c.to_open ∙ (sym (opened_cut v.may_open x m n) ∙ sym
       (ap (λ z. opens_one v.may_open (Some z)) k))))
       (λ path depth i. absurd (c.none_below path depth i.1)) (λ q h.
       let p = h.1 in
       subst (λ z. GivesOrStops (ruled_view v rule b) z (Some y) (ruled_view u rule b)) (sym p.2)
-      (layer_cuts (of_candidate rule) v w (ruled_view v rule b) (ruled_view u rule b) p.0 x y m s k refl c.listings_left n
+      (layer_cuts (of_candidate rule) v w (ruled_view v rule b) (ruled_view u rule b) p.0 x y m s k
+      refl c.listings_left n
       (λ z i. (e, (cancelled z, c.leaves_out z i, refl))) (f.gives p.0 p.1)))
       (begins_filtered v w (ruled_view v rule b) (ruled_view u rule b) _ (IsMarkBy (of_candidate rule))
       (outside v b e) f.calls f.begins)
       (cuts_filtered v w (ruled_view v rule b) (ruled_view u rule b) _ (IsMarkBy (of_candidate rule))
-      (outside v b e) f.calls x y m (is_cut x m) k (s, refl) (λ z n c i. i) n u c (inside u b e) (λ i. inr (c.ends i))
+      (outside v b e) f.calls x y m (is_cut x m) k (s, refl) (λ z n c i. i) n u c (inside u b e)
+      (λ i. inr (c.ends i))
       (λ i. inr (c.idles i)) f.follows)
 
   -- allocation failed for the rule, which is asked about entries alone
@@ -140,7 +147,8 @@ module _ {D C : Type 0} (law : Law D C) (rule : Candidate → Mark) where
     gives = λ p h. lacks_memory refl;
     calls = f.calls;
     answered = f.answered;
-    begins = begins_filtered v w (ruled_view v rule b) (ruled_view w later true) _ (IsMarkBy (of_candidate rule))
+    begins =
+        begins_filtered v w (ruled_view v rule b) (ruled_view w later true) _ (IsMarkBy (of_candidate rule))
         (outside v b e) f.calls f.begins;
     follows = was_cut no_memory refl tt (inl refl) (inl refl);
     accounts = record {
@@ -187,26 +195,27 @@ module _ {D C : Type 0} (law : Law D C) (rule : Candidate → Mark) where
   -- after that nothing is asked any more
   pub ruled_stays : (v : WalkView D) (b : Bool) → b ≡ true
       → FeedStep law (ruled_view v rule b) None (ruled_view v rule b)
-  ruled_stays v b e = subst (λ c. FeedStep law (ruled_view v rule c) None (ruled_view v rule c)) (sym e) (record {
-    gives = λ p h. absurd (let t : true ≡ false = h.0 in (cc));
-    calls = [];
-    answered = sym (append-nil (law.answered v.directory));
-    begins = (ahead stop unknown, (refl, tt), refl);
-    follows = ended_so refl (ahead stop stop, (refl, refl), refl);
-    accounts = accounts_nothing law (ruled_view v rule true);
-    at_end = λ i. inl refl;
-    closed = λ i. refl;
-    begun = λ i. refl;
-    from = refl;
-    to_open = refl;
-    above = refl;
-    stays = λ i. (refl, inl refl);
-    idles = λ i. (i, refl);
-    names = omega arith;
-    misplaced = λ i. absurd i;
-    places = record {
-      item = λ path depth i. absurd i;
-      later = λ path depth i. inl i;
-      below = λ path depth i. absurd (let t : true ≡ false = i.0 in (cc));
-    };
-  })
+  ruled_stays v b e =
+      subst (λ c. FeedStep law (ruled_view v rule c) None (ruled_view v rule c)) (sym e) (record {
+        gives = λ p h. absurd (let t : true ≡ false = h.0 in (cc));
+        calls = [];
+        answered = sym (append-nil (law.answered v.directory));
+        begins = (ahead stop unknown, (refl, tt), refl);
+        follows = ended_so refl (ahead stop stop, (refl, refl), refl);
+        accounts = accounts_nothing law (ruled_view v rule true);
+        at_end = λ i. inl refl;
+        closed = λ i. refl;
+        begun = λ i. refl;
+        from = refl;
+        to_open = refl;
+        above = refl;
+        stays = λ i. (refl, inl refl);
+        idles = λ i. (i, refl);
+        names = omega arith;
+        misplaced = λ i. absurd i;
+        places = record {
+          item = λ path depth i. absurd i;
+          later = λ path depth i. inl i;
+          below = λ path depth i. absurd (let t : true ≡ false = i.0 in (cc));
+        };
+      })

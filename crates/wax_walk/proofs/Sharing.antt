@@ -5,9 +5,11 @@ use Rattle.std.specs.Prelude.{take, drop, slice_index}
 use Rattle.std.proofs.lemmas.Bool.{cases_lt}
 use Rattle.std.proofs.Math.Dec.{eqb-suc-zero}
 use Rattle.std.proofs.Math.Seq.{drop-append_seam}
-use Rattle.std.proofs.lemmas.List.{append_assoc, drop-append-le, length-append, length-take-le, take-append-drop, take-append-le}
+use Rattle.std.proofs.lemmas.List.{append_assoc, drop-append-le, length-append, length-take-le}
+use Rattle.std.proofs.lemmas.List.{take-append-drop, take-append-le}
 use Rattle.std.proofs.lemmas.List.{get_or_append_left}
-use Rattle.std.proofs.lemmas.Str.{IsCharBoundary-at_seam, IsCharBoundary-from_drop, IsUtf8-append, IsUtf8-encode}
+use Rattle.std.proofs.lemmas.Str.{IsCharBoundary-at_seam, IsCharBoundary-from_drop, IsUtf8-append}
+use Rattle.std.proofs.lemmas.Str.{IsUtf8-encode}
 use lib.Utf8.{encode}
 use Rattle.std.specs.Str.{IsCharBoundary, IsUtf8}
 use Rattle.wax_directory.specs.Shown.{join}
@@ -45,7 +47,8 @@ extends p t i u b = elim (cases_lt i (length p)) [
       subst (IsCharBoundary (p ++ t)) is (IsCharBoundary-at_seam (p ++ t) p t refl u)
 ]
 
-ends_with_name : (p x : List ℕ) (b : Bool) → drop (length (p ++ tail_of b x) - length x) (p ++ tail_of b x) ≡ x
+ends_with_name : (p x : List ℕ) (b : Bool)
+    → drop (length (p ++ tail_of b x) - length x) (p ++ tail_of b x) ≡ x
 ends_with_name p x true =
     let n : length (p ++ x) - length x ≡ length p = omega (arith, length-append p x) in
     rw n (drop-append_seam p x)
@@ -57,7 +60,8 @@ ends_with_name p x false =
 
 -- the name is the end of its path
 pub item_name : (path name : List ℕ) → drop (length (join path name) - length name) (join path name) ≡ name
-item_name path name = rw (join_tail path name (ends_open path) refl) (ends_with_name path name (ends_open path))
+item_name path name =
+    rw (join_tail path name (ends_open path) refl) (ends_with_name path name (ends_open path))
 
 pub item_name_begins : (path name : List ℕ) → IsUtf8 name
     → IsCharBoundary (join path name) (length (join path name) - length name)
@@ -76,7 +80,8 @@ parts_shared path end start e s =
     }
 
 -- the path of an item still begins with the start
-item_begins : (path root candidate name : List ℕ) (start : ℕ) → IsShared path root candidate start → IsUtf8 name
+item_begins : (path root candidate name : List ℕ) (start : ℕ)
+    → IsShared path root candidate start → IsUtf8 name
     → (take (length root) (join path name) ≡ root) × IsCharBoundary (join path name) (length root)
 item_begins path root candidate name start shared text =
     let joined = join_tail path name (ends_open path) refl in (

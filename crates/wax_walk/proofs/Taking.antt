@@ -5,7 +5,8 @@ use Rattle.std.proofs.lemmas.List.{append-nil, map-append}
 use Rattle.wax_directory.specs.History.{Answer}
 use Rattle.wax_walk.specs.declared.error.FaultKind.TheVariants as F
 use Rattle.wax_walk.specs.Collected.{TookCourse, whole, cut_short}
-use Rattle.wax_walk.specs.Course.{Ahead, IsStartOf, DirectoryCall, Course, CutsShort, IsKnownFirst, IsKnownWhole, all_ahead}
+use Rattle.wax_walk.specs.Course.{Ahead, IsStartOf, DirectoryCall, Course, CutsShort, IsKnownFirst}
+use Rattle.wax_walk.specs.Course.{IsKnownWhole, all_ahead}
 use Rattle.wax_walk.specs.Course.{answers, asking, calls_of, items_of, stop, unknown, yields}
 use Rattle.wax_walk.specs.Given.{Given, entry, fault, no_memory}
 use Rattle.wax_walk.specs.View.{WalkView, Follows, IsSeenAs, MayTake, went_on, ended_so, was_cut}
@@ -28,11 +29,13 @@ pub record GoesOnAs {D : Type 0} (walk : WalkView D) (calls : List DirectoryCall
   pub calls_are : calls_of course ≡ calls ++ calls_of c
   pub items_are : items_of course ≡ xs ++ items_of c
 
--- after these calls and items, whatever course the walk may take now goes on one that it could take before; or
--- an error cut that short
-pub data TakingCourse {D : Type 0} (walk now : WalkView D) (calls : List DirectoryCall) (xs : List Given) : Type 0 where
+-- after these calls and items, whatever course the walk may take now goes on one that it could take
+-- before; or an error cut that short
+pub data TakingCourse {D : Type 0} (walk now : WalkView D) (calls : List DirectoryCall)
+    (xs : List Given) : Type 0 where
   going : ((c : Course) → MayTake now c → GoesOnAs walk calls xs c) → TakingCourse walk now calls xs
-  cut_off : (c : Course) (x : Given) → MayTake walk c → IsKnownFirst c → calls ≡ calls_of c → xs ≡ items_of c ++ x ∷ []
+  cut_off : (c : Course) (x : Given) → MayTake walk c → IsKnownFirst c → calls ≡ calls_of c
+      → xs ≡ items_of c ++ x ∷ []
       → CutsShort calls x → now.has_ended → now.is_idle → TakingCourse walk now calls xs
 
 pub course_none : {D : Type 0} (walk : WalkView D) → TakingCourse walk walk [] []
@@ -45,7 +48,8 @@ course_none walk = going (λ c t. record {
   items_are = refl;
 })
 
-pub answered_more : {D : Type 0} (answered : D → List Answer) (walk mid new : D) (before calls : List DirectoryCall)
+pub answered_more : {D : Type 0} (answered : D → List Answer) (walk mid new : D)
+    (before calls : List DirectoryCall)
     → answered mid ≡ answered walk ++ answers before → answered new ≡ answered mid ++ answers calls
     → answered new ≡ answered walk ++ answers (before ++ calls)
 answered_more answered walk mid new before calls h i =
@@ -53,7 +57,8 @@ answered_more answered walk mid new before calls h i =
     ∙ ap (λ z. answered walk ++ z) (sym (map-append (λ q. q.answer) before calls))))
 
 -- calls that went before
-pub cuts_later : (before calls : List DirectoryCall) (x : Given) → CutsShort calls x → CutsShort (before ++ calls) x
+pub cuts_later : (before calls : List DirectoryCall) (x : Given) → CutsShort calls x
+    → CutsShort (before ++ calls) x
 cuts_later before calls no_memory s = tt
 cuts_later before calls (entry m f) s = absurd s
 cuts_later before calls (fault F.NotFound path depth) s = absurd s

@@ -10,7 +10,8 @@ returns c =
       record {
         ignores = refl;
         glob = record {
-          only = subst (IsOnly (Spells (chars c.args.written.now.expression.now))) (sym c.release.ensures.same) c.in_ok-checked.ensures;
+          only = subst (IsOnly (Spells (chars c.args.written.now.expression.now)))
+              (sym c.release.ensures.same) c.in_ok-checked.ensures;
           fits = c.in_ok-new.ensures.fits;
         };
       },

@@ -1,5 +1,5 @@
--- What lies at the handle is lent to `facts_held` for a lifetime of its own, and comes back once that is over. The
--- facts are handed on for good.
+-- What lies at the handle is lent to `facts_held` for a lifetime of its own, and comes back once that is
+-- over. The facts are handed on for good.
 use Rattle.std.proofs.Common.{◌≡◌, List, [], ◌∷◌, ◌++◌, refl, w32, Bor, ℤ, pos}
 use Rattle.std.proofs.raw_atomic.Walks.{proved}
 use Rattle.std.specs.Box.Ownership.{box_owns}
@@ -23,7 +23,8 @@ use contract.BorrowLft.{⊑_static}
 use contract.Monad.{fact}
 use contract.Running.{tables}
 use types.Logic.{sem}
-use types.Kit.{Item, ‵, raw, prop, ◌⊛◌, some, later, ◌$◌, ◌∵◌, !, qed, move, drop, use1, use2, split, join, pick, fsplit, fjoin, regoal, suffices, frame, group, await, done}
+use types.Kit.{Item, ‵, raw, prop, ◌⊛◌, some, later, ◌$◌, ◌∵◌, !, qed, move, drop, use1, use2, split, join}
+use types.Kit.{pick, fsplit, fjoin, regoal, suffices, frame, group, await, done}
 use types.Tokens.{lft_new, lft_end, lent_back}
 use types.Run.{and_then, no_more, addr, stop, of_opd, returns, enter}
 use types.ByLocal.{alloc_all, pass_all, free_all, look_at, get, through, sets, lands_as}
@@ -58,47 +59,79 @@ told x = heap_laws.the_told.val x ∷ []
 
 pub wax_glob_facts_spec : {M : Type 1} → statement M
 wax_glob_facts_spec 𝓤 𝓛 𝓜 𝓡 wired =
-    let c = f.clauses 𝓛 𝓜.mem 𝓡.returns in let W = walk_of 𝓛 f.ended stayed c in let 𝓣 = tables 𝓤 𝓛.H 𝓜 𝓡 𝓡.env in
-    proved 𝓛 f.ended stayed c 𝓜 𝓡 (Goes-dropped 𝓛 1 (plain (λ _. Z)) yes (λ κs x w. refl), (Goes-dropped 𝓛 1 (plain (λ _. RawPtr)) yes (λ κs x w. refl), (Goes-gave_ref 𝓛 1 0 tt (plain (λ _. Facts)), tt)))
+    let c = f.clauses 𝓛 𝓜.mem 𝓡.returns in let W = walk_of 𝓛 f.ended stayed c in
+    let 𝓣 = tables 𝓤 𝓛.H 𝓜 𝓡 𝓡.env in
+    proved 𝓛 f.ended stayed c 𝓜 𝓡 (
+      Goes-dropped 𝓛 1 (plain (λ _. Z)) yes (λ κs x w. refl),
+      (
+        Goes-dropped 𝓛 1 (plain (λ _. RawPtr)) yes (λ κs x w. refl),
+        (Goes-gave_ref 𝓛 1 0 tt (plain (λ _. Facts)), tt),
+      ),
+    )
     f.Key.name code.function (code.unfolded 𝓤 𝓛.H 𝓜 𝓡 wired)
     (λ κs. (told, (rawptr_vals, (mut_vals, tt))))
-    (λ κs. (heap_laws.the_told.tells, (rawptr_Tells, (mut_Tells (named 0) κs.0 Facts, tt)))) (λ κs qs bounds a g are.
+    (λ κs. (
+      heap_laws.the_told.tells,
+      (rawptr_Tells, (mut_Tells (named 0) κs.0 Facts, tt)),
+    )) (λ κs qs bounds a g are.
     let held : R.Denot = record { matcher = g } in let tok = ghosts.dealloc_token a.0 in
     let w = a.1.1.0 in let κ₀ : Lft = κs.0 in
-    let y : Ptr → W.Ghost = λ p. ((κs, qs, bounds, (a.0, (p, (w, tt))), (told a.0, (rawptr_vals p, (mut_vals w, tt)))), g) in
+    let y : Ptr → W.Ghost =
+    λ p. ((κs, qs, bounds, (a.0, (p, (w, tt))), (told a.0, (rawptr_vals p, (mut_vals w, tt)))), g) in
     let toks : Item 𝓤 = ‵ (flft κ₀ qs.0) ⊛ ‵ ftrue in
-    qed 𝓛 ((toks ⊛ ‵ (owns (Z ∷ RawPtr ∷ MutRef (named 0) κ₀ Facts ∷ []) (a.0, (a.1.0, (w, tt))) (told a.0, (rawptr_vals a.1.0, (mut_vals w, tt))))) ∷ ‵ (box_owns tok R a.1.0 held) ∷ []) ∵
+    qed 𝓛 ((toks ⊛ ‵ (owns (Z ∷ RawPtr ∷ MutRef (named 0) κ₀ Facts ∷ []) (a.0, (a.1.0, (w, tt)))
+    (told a.0, (rawptr_vals a.1.0, (mut_vals w, tt))))) ∷ ‵ (box_owns tok R a.1.0 held) ∷ []) ∵
     split ! $ move ! (1 ∷ []) $ fsplit ! $ move ! (1 ∷ []) $ fsplit ! $ drop ! $ move ! (3 ∷ []) $
     -- [what lies there and the right to free it; the facts; the allocator; the tokens]
-    in_a_block ! a.1.0 (λ p. box_owns tok R p held) (fst∗ 𝓤 (never 𝓤) (sem 𝓛 (tok (bare (lone R.mir)) null_ptr))) (λ b o e.
-    regoal ! (λ p. prop (WpFn 𝓤 𝓛.H 𝓣.C 𝓣.Λ code.function (told a.0 ++ (rawptr_vals p ++ (mut_vals w ++ []))) (W.post (y p)))) e refl $
+    in_a_block ! a.1.0 (λ p. box_owns tok R p held)
+    (fst∗ 𝓤 (never 𝓤) (sem 𝓛 (tok (bare (lone R.mir)) null_ptr))) (λ b o e.
+    regoal ! (λ p. prop (WpFn 𝓤 𝓛.H 𝓣.C 𝓣.Λ code.function (told a.0 ++ (rawptr_vals p ++ (mut_vals w ++ [])))
+    (W.post (y p)))) e refl $
     fsplit ! $ enter ! _ _ _ _ _ $
-    alloc_all ! (λ l. pass_all ! refl (((heap_laws.the_row_laws.lawful 𝓛).typed a.0 _ are.0).0, ((tt, tt), ((tt, tt), tt))) $
+    alloc_all ! (λ l. pass_all ! refl
+    (((heap_laws.the_row_laws.lawful 𝓛).typed a.0 _ are.0).0, ((tt, tt), ((tt, tt), tt))) $
     sets ! (of_opd ! (get ! refl)) refl (tt, tt) $
     sets ! (addr ! (through ! refl (stop !))) refl (tt, tt) $
     sets ! (addr ! (through ! refl (stop !))) refl (tt, tt) $
     lft_new ! tt (λ α. let κ : Lft = α ∷ [] in move ! (1 ∷ 0 ∷ []) $
-    use2 𝓛 (later ((‵ ((ShrRef (named 0) κ R).own_val (record { ref_ptr = (b, o); now = held }) (vptr b o ∷ [])) ⊛ ‵ (flent κ (part_at R full_share held b o))) ⊛ ‵ (flft κ full_share)))
-    (lends_shr 𝓛 R (named 0) κ full_share held b o R.lives (R_laws.shares 𝓛 held) ((κ, full_share) ∷ []) (⊑_static κ) (Incl-refl κ)) $ await ! tt $ split ! $ split ! $
-    -- [the reference; the right to what lies there; its token; the right to free; the facts; the allocator; the tokens]
+    use2 𝓛 (later ((‵ ((ShrRef (named 0) κ R).own_val (record { ref_ptr = (b, o); now = held })
+    (vptr b o ∷ [])) ⊛ ‵ (flent κ (part_at R full_share held b o))) ⊛ ‵ (flft κ full_share)))
+    (lends_shr 𝓛 R (named 0) κ full_share held b o R.lives (R_laws.shares 𝓛 held) ((κ, full_share) ∷ [])
+    (⊑_static κ) (Incl-refl κ)) $ await ! tt $ split ! $ split ! $
+    -- [the reference; the right to what lies there; its token; the right to free; the
+    -- facts; the allocator; the tokens]
     let s : Bor R.Denot = record { ref_ptr = (b, o); now = held } in
     let G = triple_of 𝓛 of.signature (of.spec 𝓛 𝓜.mem 𝓡.returns) in
-    let z : G.Ghost = (((κ, (κ₀, tt)), (full_share, (qs.0, tt)), tt, (a.0, (s, (w, tt))), (told a.0, (vptr b o ∷ [], (mut_vals w, tt)))), tt) in
+    let z : G.Ghost = (
+      (
+        (κ, (κ₀, tt)),
+        (full_share, (qs.0, tt)),
+        tt,
+        (a.0, (s, (w, tt))),
+        (told a.0, (vptr b o ∷ [], (mut_vals w, tt))),
+      ),
+      tt,
+    ) in
     move ! (0 ∷ 4 ∷ []) $ fjoin ! $ move ! (4 ∷ 0 ∷ []) $ fjoin ! $
-    move ! (2 ∷ 4 ∷ []) $ join ! $ move ! (0 ∷ 1 ∷ []) $ join ! $ nothing ! $ move ! (1 ∷ 0 ∷ []) $ use2 𝓛 (raw (G.pre z)) (id⊢ 𝓤 _) $
+    move ! (2 ∷ 4 ∷ []) $ join ! $ move ! (0 ∷ 1 ∷ []) $ join ! $ nothing ! $ move ! (1 ∷ 0 ∷ []) $
+    use2 𝓛 (raw (G.pre z)) (id⊢ 𝓤 _) $
     calls_at ! (framed 𝓤 𝓛.H 𝓜 𝓣) G (of_met.met 𝓤 𝓛 𝓜 𝓡 (code.calls-wax_c::facts::facts_held 𝓡.env wired)) z
     (and_then ! (get ! refl) (and_then ! (get ! refl) (and_then ! (get ! refl) (no_more !)))) (λ v.
-    use1 𝓛 (later (some (λ (r : ℤ). ((‵ (flft κ full_share) ⊛ toks) ⊛ ‵ (i32.own_val r (v ∷ []))) ⊛ some (λ (ws : Lasts of.ended z.0.0 z.0.3). ‵ (lasts of.ended z.0.0 z.0.3 ws) ⊛
+    use1 𝓛 (later (some (λ (r : ℤ). ((‵ (flft κ full_share) ⊛ toks) ⊛ ‵ (i32.own_val r (v ∷ [])))
+    ⊛ some (λ (ws : Lasts of.ended z.0.0 z.0.3). ‵ (lasts of.ended z.0.0 z.0.3 ws) ⊛
     raw (fact 𝓤 (AreFacts g ws.1.1.0 × (r ≡ pos 0))))))) (id⊢ 𝓤 _) $
-    await ! tt $ pick ! (λ r. split ! $ move ! (1 ∷ []) $ pick ! (λ ws. split ! $ move ! (1 ∷ []) $ heard ! _ (λ told_so.
+    await ! tt $ pick ! (λ r. split ! $ move ! (1 ∷ []) $
+    pick ! (λ ws. split ! $ move ! (1 ∷ []) $ heard ! _ (λ told_so.
     -- the facts at the end
     fsplit ! $ drop ! $ fsplit ! $ drop ! $ fsplit ! $ move ! (1 ∷ []) $ drop ! $
     nothing ! $ move ! (1 ∷ 0 ∷ []) $ join ! $ nothing ! $ join ! $ nothing ! $ join ! $
     -- [the parameters; the tokens and the answer; the right to what lies there; the right to free]
     move ! (1 ∷ []) $ split ! $ split ! $ lft_end ! tt $ move ! (0 ∷ 4 ∷ []) $ lent_back ! tt $
     -- [what lies there; the tokens; the answer; the parameters; the right to free]
-    move ! (2 ∷ []) $ peeks ! i32 (Is i32) (shows 𝓛 i32) r (v ∷ []) (λ is. lands_as ! refl refl ((sint_Lawful 𝓛 w32).typed r _ is).0 $
+    move ! (2 ∷ []) $ peeks ! i32 (Is i32) (shows 𝓛 i32) r
+    (v ∷ []) (λ is. lands_as ! refl refl ((sint_Lawful 𝓛 w32).typed r _ is).0 $
     returns ! (look_at ! 0 refl) $ free_all ! refl $
-    suffices ! _ (ends_at 𝓛 f.ended stayed c (y (block_ptr b o)) v r (tt, (tt, (ws.1.1.0, tt))) (tt, (tt, (tt, tt)))) $
+    suffices ! _
+    (ends_at 𝓛 f.ended stayed c (y (block_ptr b o)) v r (tt, (tt, (ws.1.1.0, tt))) (tt, (tt, (tt, tt)))) $
     -- [the answer; what lies there; the tokens; the parameters; the right to free]
     move ! (2 ∷ 3 ∷ 0 ∷ []) $ group ! 3 $ frame ! $ says ! told_so $ fjoin ! $ done !)))))))))

@@ -5,7 +5,8 @@ use Rattle.wax_c.proofs.sets.boxed_set.Goals as goal
 
 pub returns-in-Err-any : goal.returns-in-Err-any
 returns-in-Err-any c =
-    no_set c.in-Err-any.error refl (record { globs = c.in-Ok.globs.items; each = c.in-Ok.ensures; no_set = c.in-Err-any.ensures })
+    no_set c.in-Err-any.error refl
+    (record { globs = c.in-Ok.globs.items; each = c.in-Ok.ensures; no_set = c.in-Err-any.ensures })
     (sym (length-cut_each c.args.patterns.now c.args.lengths.now))
 
 pub returns : goal.returns

@@ -11,4 +11,5 @@ returns-in-Ok-escape-clause-fills c =
     let escaped : IsEscaped (chars text) (cow_str_bytes c.in-Ok-escape.escaped) =
     record { exactly = escape.exact; only = escape.means; spells = escape.spells } in
     let bytes = c.as_bytes.ensures.value ∙ c.as_str.ensures.value in
-    filled_of_text IsEscaped _ text c.as_bytes.result.now _ _ _ c.in-Ok.ensures.cases (subst (IsEscaped (chars text)) (sym bytes) escaped) c.put.ensures.fills
+    filled_of_text IsEscaped _ text c.as_bytes.result.now _ _ _ c.in-Ok.ensures.cases
+    (subst (IsEscaped (chars text)) (sym bytes) escaped) c.put.ensures.fills

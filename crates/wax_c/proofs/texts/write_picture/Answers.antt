@@ -7,4 +7,5 @@ pub returns-in-Ok-drawn-clause-fills : goal.returns-in-Ok-drawn-clause-fills
 returns-in-Ok-drawn-clause-fills c =
     let text = c.in-Ok.expression.now in
     let bytes = c.as_bytes.ensures.value ∙ c.as_str.ensures.value in
-    filled_of_text IsPicture _ text c.as_bytes.result.now _ _ _ c.in-Ok.ensures.cases (subst (IsPicture (chars text)) (sym bytes) c.in-Ok-drawn.ensures.ok) c.put.ensures.fills
+    filled_of_text IsPicture _ text c.as_bytes.result.now _ _ _ c.in-Ok.ensures.cases
+    (subst (IsPicture (chars text)) (sym bytes) c.in-Ok-drawn.ensures.ok) c.put.ensures.fills

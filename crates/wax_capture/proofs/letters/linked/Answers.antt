@@ -1,5 +1,6 @@
 use Rattle.std.proofs.Math.Bool.{beq, not}
-use Rattle.std.proofs.Common.{◌≡◌, ◌+◌, ◌-◌, ◌<◌, ℕ, Bool, true, false, refl, List, Some, get_or, length, slice_get, arith, rules, sym, subst, ◌∙◌}
+use Rattle.std.proofs.Common.{◌≡◌, ◌+◌, ◌-◌, ◌<◌, ℕ, Bool, true, false, refl, List, Some, get_or, length}
+use Rattle.std.proofs.Common.{slice_get, arith, rules, sym, subst, ◌∙◌}
 use Rattle.wax_lengths.specs.declared.form.Form.{Form}
 use Rattle.wax_lengths.proofs.Lists.{read_within, slice_read}
 use Rattle.wax_lengths.specs.FirstLetters.{first_letter, group_of, is_folded}
@@ -29,16 +30,22 @@ loop-index-preserved c =
     let lt : i < length forms = omega (arith, one, c.loop-index.invariant.within) in
     let is : slice_get forms i ≡ Some f = slice_read forms i f lt (search rules) in
     let begins : first_letter f ≡ Some letter = search rules in
-    let case : is_folded f ≡ folded = sym c.is_folded.ensures ∙ not_other c.is_folded.result folded c.if-is_folded-is_any_case.false in
+    let case : is_folded f ≡ folded =
+    sym c.is_folded.ensures ∙ not_other c.is_folded.result folded c.if-is_folded-is_any_case.false in
     let small : group_of letter < 128 = subst (λ z. z < 128) is_group c.group_of-group.ensures.within in
-    let far : group < length firsts = omega (arith, c.group_of-group.ensures.within, c.loop-index.invariant.linked.all) in
-    let was : old ≡ get_or firsts group 0 = c.index-in-loop-index.ensures ∙ read_within firsts group old 0 far in
+    let far : group < length firsts =
+    omega (arith, c.group_of-group.ensures.within, c.loop-index.invariant.linked.all) in
+    let was : old ≡ get_or firsts group 0 =
+    c.index-in-loop-index.ensures ∙ read_within firsts group old 0 far in
     record {
       within = omega (arith, lt);
-      linked = rw is_group (links_more forms folded firsts nexts i letter old f (subst (AreLinked forms folded firsts nexts) one c.loop-index.invariant.linked) lt is begins case small (subst (λ z. old ≡ get_or firsts z 0) is_group was));
+      linked = rw is_group (links_more forms folded firsts nexts i letter old f
+          (subst (AreLinked forms folded firsts nexts) one c.loop-index.invariant.linked) lt is begins case
+          small (subst (λ z. old ≡ get_or firsts z 0) is_group was));
     }
 
 pub invariant_of-by_letter : goal.invariant_of-by_letter
 invariant_of-by_letter c =
     let none : c.loop-index.index ≡ 0 = omega (arith, c.loop-index-test.false) in
-    subst (AreLinked c.args.forms.items c.is_folded-is_any_case.result c.loop-index.firsts.items c.loop-index.nexts.items) none c.loop-index.invariant.linked
+    subst (AreLinked c.args.forms.items c.is_folded-is_any_case.result c.loop-index.firsts.items
+    c.loop-index.nexts.items) none c.loop-index.invariant.linked

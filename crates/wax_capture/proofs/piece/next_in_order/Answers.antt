@@ -11,5 +11,6 @@ loop-index-preserved c =
     let is : slice_get forms k ≡ Some form = slice_read forms k form (search rules) (search rules) in
     record {
       further = omega (arith, c.loop-index.invariant.further);
-      passed = passed_more forms c.args.from k form (drop c.args.at c.args.text.now) is (c.may_take.ensures (search rules)) c.loop-index.invariant.passed;
+      passed = passed_more forms c.args.from k form (drop c.args.at c.args.text.now) is
+          (c.may_take.ensures (search rules)) c.loop-index.invariant.passed;
     }

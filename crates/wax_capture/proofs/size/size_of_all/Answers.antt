@@ -7,4 +7,11 @@ pub loop-index-preserved : goal.loop-index-preserved
 loop-index-preserved c =
     let ps = c.args.pieces.now in
     let few : c.size_of.result ≤ size_of (forms_of c.index-pieces-index.result.ways) = search rules in
-    omega (arith, c.saturating_add-size.ensures, few, c.loop-index.invariant, all_taken ps c.loop-index.index c.index-pieces-index.result c.loop-index-test.true c.index-pieces-index.is)
+    omega (
+      arith,
+      c.saturating_add-size.ensures,
+      few,
+      c.loop-index.invariant,
+      all_taken ps c.loop-index.index c.index-pieces-index.result c.loop-index-test.true
+          c.index-pieces-index.is,
+    )

@@ -7,5 +7,7 @@ pub returns-in_ok-push-in-AfterFirst-clause-added : goal.returns-in_ok-push-in-A
 returns-in_ok-push-in-AfterFirst-clause-added c =
     let text : List ℕ = c.args.text.now in
     let a : ℕ = c.args.at + min c.args.n 1 in
-    let e : c.push-in-AfterFirst.new.self.items ≡ c.args.captures.now.items ++ (a, c.args.at + c.args.n) ∷ [] = search rules in
-    rw (e, c.in-AfterFirst.is) (parts_push text c.args.captures.now.items a (c.args.at + c.args.n) ∙ ap (λ z. parts text c.args.captures.now.items ++ z ∷ []) (between_first text c.args.at c.args.n))
+    let e : c.push-in-AfterFirst.new.self.items ≡ c.args.captures.now.items ++ (a, c.args.at + c.args.n)
+    ∷ [] = search rules in
+    rw (e, c.in-AfterFirst.is) (parts_push text c.args.captures.now.items a (c.args.at + c.args.n)
+    ∙ ap (λ z. parts text c.args.captures.now.items ++ z ∷ []) (between_first text c.args.at c.args.n))

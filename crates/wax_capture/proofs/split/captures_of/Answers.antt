@@ -10,13 +10,16 @@ use Rattle.wax_capture.proofs.Trying.{length-lengths, lengths_at}
 use Rattle.wax_capture.proofs.split.captures_of.Goals as goal
 
 -- what the frame at an index takes, and what is left to those after it
-taken_at : (ps : List Piece) (text : List ℕ) (fs : List Frame) (i at : ℕ) (p : Piece) (f : Frame) → i < length ps → p ≡ get_or ps i p → AreChosen ps text (lengths_of fs) →
+taken_at : (ps : List Piece) (text : List ℕ) (fs : List Frame) (i at : ℕ) (p : Piece) (f : Frame)
+    → i < length ps → p ≡ get_or ps i p → AreChosen ps text (lengths_of fs) →
     AreChosen (drop i ps) (drop at text) (drop i (lengths_of fs)) → let n : ℕ = (get_or fs i f).n in
-    IsChosenBy p (drop (i + 1) ps) (drop at text) n × AreChosen (drop (i + 1) ps) (drop (at + n) text) (drop (i + 1) (lengths_of fs))
+    IsChosenBy p (drop (i + 1) ps) (drop at text) n
+    × AreChosen (drop (i + 1) ps) (drop (at + n) text) (drop (i + 1) (lengths_of fs))
 taken_at ps text fs i at p f lt is chosen here =
     let all : length (lengths_of fs) ≡ length ps = chosen_length ps text (lengths_of fs) chosen in
     let within : i < length fs = omega (arith, all, length-lengths fs, lt) in
-    chosen_at ps text i p lt is at (get_or fs i f).n (lengths_of fs) (omega (arith, all, lt)) (lengths_at fs i f within) here
+    chosen_at ps text i p lt is at (get_or fs i f).n (lengths_of fs) (omega (arith, all, lt))
+    (lengths_at fs i f within) here
 
 pub loop-index-init : goal.loop-index-init
 loop-index-init c = record {
@@ -27,10 +30,20 @@ loop-index-init c = record {
 }
 
 pub bounds-chosen-index : goal.bounds-chosen-index
-bounds-chosen-index c = omega (arith, chosen_length c.args.pieces.now c.args.text.now (lengths_of c.args.chosen.now) c.requires, length-lengths c.args.chosen.now, c.loop-index-test.true)
+bounds-chosen-index c = omega (
+  arith,
+  chosen_length c.args.pieces.now c.args.text.now (lengths_of c.args.chosen.now) c.requires,
+  length-lengths c.args.chosen.now,
+  c.loop-index-test.true,
+)
 
 pub bounds-chosen-index-in-loop-index : goal.bounds-chosen-index-in-loop-index
-bounds-chosen-index-in-loop-index c = omega (arith, chosen_length c.args.pieces.now c.args.text.now (lengths_of c.args.chosen.now) c.requires, length-lengths c.args.chosen.now, c.loop-index-test.true)
+bounds-chosen-index-in-loop-index c = omega (
+  arith,
+  chosen_length c.args.pieces.now c.args.text.now (lengths_of c.args.chosen.now) c.requires,
+  length-lengths c.args.chosen.now,
+  c.loop-index-test.true,
+)
 
 pub loop-index-preserved : goal.loop-index-preserved
 loop-index-preserved c =
@@ -42,12 +55,17 @@ loop-index-preserved c =
     let n : ℕ = (get_or fs i c.index-chosen-index.result).n in
     let p = c.index-pieces-index.result in
     let lt : i < length ps = c.loop-index-test.true in
-    let r = taken_at ps text fs i at p c.index-chosen-index.result lt c.index-pieces-index.is c.requires c.loop-index.invariant.chosen in
-    let added : parts text c.add_capture.new.captures.items ≡ parts text c.loop-index.captures.items ++ captured_by p.capture (take n (drop at text)) = search rules in
+    let r = taken_at ps text fs i at p c.index-chosen-index.result lt c.index-pieces-index.is c.requires
+    c.loop-index.invariant.chosen in
+    let added : parts text c.add_capture.new.captures.items ≡ parts text c.loop-index.captures.items
+    ++ captured_by p.capture (take n (drop at text)) = search rules in
     record {
-      within = rw c.place_after-at.ensures (taken_within ps text i p lt c.index-pieces-index.is at n c.loop-index.invariant.within r.0);
+      within = rw c.place_after-at.ensures
+          (taken_within ps text i p lt c.index-pieces-index.is at n c.loop-index.invariant.within r.0);
       chosen = rw c.place_after-at.ensures r.1;
-      captured = rw c.place_after-at.ensures (taken_captured ps text i p lt c.index-pieces-index.is at n c.loop-index.invariant.within r.0 c.loop-index.captures.items c.add_capture.new.captures.items added c.loop-index.invariant.captured);
+      captured = rw c.place_after-at.ensures
+          (taken_captured ps text i p lt c.index-pieces-index.is at n c.loop-index.invariant.within r.0
+          c.loop-index.captures.items c.add_capture.new.captures.items added c.loop-index.invariant.captured);
       inside = c.in_ok-add_capture.ensures.within c.loop-index.invariant.inside;
     }
 
@@ -60,8 +78,10 @@ add_capture-requires c =
     let at : ℕ = c.loop-index.at in
     let p = c.index-pieces-index.result in
     let lt : i < length ps = c.loop-index-test.true in
-    let r = taken_at ps text fs i at p c.index-chosen-index.result lt c.index-pieces-index.is c.requires c.loop-index.invariant.chosen in
-    taken_within ps text i p lt c.index-pieces-index.is at (get_or fs i c.index-chosen-index.result).n c.loop-index.invariant.within r.0
+    let r = taken_at ps text fs i at p c.index-chosen-index.result lt c.index-pieces-index.is c.requires
+    c.loop-index.invariant.chosen in
+    taken_within ps text i p lt c.index-pieces-index.is at (get_or fs i c.index-chosen-index.result).n
+    c.loop-index.invariant.within r.0
 
 pub place_after-at-requires : goal.place_after-at-requires
 place_after-at-requires c =
@@ -72,9 +92,13 @@ place_after-at-requires c =
     let at : ℕ = c.loop-index.at in
     let p = c.index-pieces-index.result in
     let lt : i < length ps = c.loop-index-test.true in
-    let r = taken_at ps text fs i at p c.index-chosen-index.result lt c.index-pieces-index.is c.requires c.loop-index.invariant.chosen in
-    taken_within ps text i p lt c.index-pieces-index.is at (get_or fs i c.index-chosen-index.result).n c.loop-index.invariant.within r.0
+    let r = taken_at ps text fs i at p c.index-chosen-index.result lt c.index-pieces-index.is c.requires
+    c.loop-index.invariant.chosen in
+    taken_within ps text i p lt c.index-pieces-index.is at (get_or fs i c.index-chosen-index.result).n
+    c.loop-index.invariant.within r.0
 
 pub returns-clause-captured : goal.returns-clause-captured
 returns-clause-captured c =
-    captured_end c.args.pieces.now c.args.text.now c.loop-index.index c.loop-index.at c.loop-index.captures.items (drop c.loop-index.index (lengths_of c.args.chosen.now)) c.loop-index-test.false c.loop-index.invariant.chosen c.loop-index.invariant.captured
+    captured_end c.args.pieces.now c.args.text.now c.loop-index.index c.loop-index.at
+    c.loop-index.captures.items (drop c.loop-index.index (lengths_of c.args.chosen.now))
+    c.loop-index-test.false c.loop-index.invariant.chosen c.loop-index.invariant.captured

@@ -9,6 +9,7 @@ abbrev pub invariant-loop-index : goal.invariant-loop-index
 invariant-loop-index l = record {
   within : l.at ≤ length l.text;
   chosen : AreChosen (drop l.index l.pieces) (drop l.at l.text) (drop l.index (lengths_of l.chosen));
-  captured : (others : List (List ℕ)) → CapturedBy (drop l.index l.pieces) (drop l.at l.text) others → CapturedBy l.pieces l.text (parts l.text l.captures.items ++ others);
+  captured : (others : List (List ℕ)) → CapturedBy (drop l.index l.pieces) (drop l.at l.text) others
+      → CapturedBy l.pieces l.text (parts l.text l.captures.items ++ others);
   inside : All (IsWithin l.text) l.captures.items;
 }

@@ -12,11 +12,15 @@ loop-at-preserved c =
     let cell = c.in_ok-cell.cell in
     let same : c.push.new.self.items ≡ c.loop-at.row.items ++ cell ∷ [] = search rules in
     record {
-      row = λ ps row. rw same (row_push (p ∷ ps) text c.loop-at.row.items at cell c.loop-at.invariant.count (c.loop-at.invariant.row ps row) (c.in_ok-cell.ensures.cell ps row));
+      row = λ ps row. rw same (row_push (p ∷ ps) text c.loop-at.row.items at cell c.loop-at.invariant.count
+          (c.loop-at.invariant.row ps row) (c.in_ok-cell.ensures.cell ps row));
       count = search (rules, c.loop-at.invariant.count);
-      above = reads_place c.args.visits.now c.loop-at.visits c.choose.new.visits (size_of (forms_of p.ways)) (length text + 1) (length text + 1) at (omega arith) c.loop-at.invariant.above c.choose.ensures.above;
+      above = reads_place c.args.visits.now c.loop-at.visits c.choose.new.visits
+          (size_of (forms_of p.ways)) (length text + 1) (length text + 1) at
+          (omega arith) c.loop-at.invariant.above c.choose.ensures.above;
       steady = omega (arith, c.choose.ensures.steady, c.loop-at.invariant.steady);
     }
 
 pub returns-clause-row : goal.returns-clause-row
-returns-clause-row c = λ ps row. row_whole (c.args.piece.now ∷ ps) c.args.text.now c.loop-at.row.items c.loop-at.at (search (rules, c.requires)) (c.loop-at.invariant.row ps row)
+returns-clause-row c = λ ps row. row_whole (c.args.piece.now ∷ ps) c.args.text.now c.loop-at.row.items
+    c.loop-at.at (search (rules, c.requires)) (c.loop-at.invariant.row ps row)

@@ -7,5 +7,6 @@ abbrev pub invariant-loop-index : goal.invariant-loop-index
 invariant-loop-index l = record {
   within : l.at ≤ length l.text;
   splits : Splits (drop l.index l.pieces) (drop l.at l.text);
-  chosen : (others : List ℕ) → AreChosen (drop l.index l.pieces) (drop l.at l.text) others → AreChosen l.pieces l.text (lengths_of l.chosen.items ++ others);
+  chosen : (others : List ℕ) → AreChosen (drop l.index l.pieces) (drop l.at l.text) others
+      → AreChosen l.pieces l.text (lengths_of l.chosen.items ++ others);
 }

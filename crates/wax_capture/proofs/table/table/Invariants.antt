@@ -8,7 +8,8 @@ invariant-loop-index l = record {
   within : l.index ≤ length l.pieces;
   rows : ArePieceRows l.pieces l.text l.rows.items;
   count : length l.rows.items + l.index ≡ length l.pieces + 1;
-  above : l.visits ≤ l.fn.visits + all_sizes (drop l.index l.pieces) * ((length l.text + 1) * (length l.text + 1));
+  above : l.visits
+      ≤ l.fn.visits + all_sizes (drop l.index l.pieces) * ((length l.text + 1) * (length l.text + 1));
   steady : l.fn.visits ≤ l.visits;
 }
 

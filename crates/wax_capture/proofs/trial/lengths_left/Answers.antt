@@ -18,7 +18,8 @@ returns-clause-left c =
       | then-is_last w ↦
           let low : ℕ = w.max.result in
           let above : old.low ≤ low = omega (arith, w.max.ensures) in
-          let least : (m : ℕ) → old.low ≤ m → m ≡ length s → low ≤ m = λ m le whole. omega (arith, w.max.ensures, length-drop at text, le, whole) in
+          let least : (m : ℕ) → old.low ≤ m → m ≡ length s → low ≤ m =
+          λ m le whole. omega (arith, w.max.ensures, length-drop at text, le, whole) in
           rw w.span-is (left_last form c.args.is_last s old low w.if-is_last.true has sound above least)
       | else-is_last w ↦ rw w.span-is (left_all form c.args.is_last s old has sound)
     ]

@@ -10,4 +10,5 @@ returns c = λ no ps.
     let s : List ℕ = drop c.args.at c.args.text.now in
     let to : ℕ = c.next_form.result in
     let all : length (forms_of p.ways) ≤ to = search rules in
-    none_at_all p ps s to all (none_passed p ps s 0 to (λ j m lt. absurd (omega (arith, lt))) c.next_form.ensures.passed)
+    none_at_all p ps s to all
+    (none_passed p ps s 0 to (λ j m lt. absurd (omega (arith, lt))) c.next_form.ensures.passed)

@@ -17,18 +17,24 @@ loop-branch-preserved g c =
     let same : c.add_form.new.forms.items ≡ c.loop-branch.forms.items ++ form ∷ [] = search rules in
     let few : form_size form ≤ cost t = c.in-Ok.ensures.few in
     record {
-      count = omega (arith, ap length same, length_push c.loop-branch.forms.items form, c.loop-branch.invariant.count);
-      ways = rw same (ways_push ts c.args.sides.before c.args.sides.after c.loop-branch.forms.items i form c.loop-branch.invariant.count t s c.in-Ok.ensures.means c.loop-branch.invariant.ways);
-      few = rw same (omega (arith, sizes_push c.loop-branch.forms.items form, c.loop-branch.invariant.few, s.cheap, few));
+      count = omega
+          (arith, ap length same, length_push c.loop-branch.forms.items form, c.loop-branch.invariant.count);
+      ways = rw same (ways_push ts c.args.sides.before c.args.sides.after c.loop-branch.forms.items i form
+          c.loop-branch.invariant.count t s c.in-Ok.ensures.means c.loop-branch.invariant.ways);
+      few = rw same (omega
+          (arith, sizes_push c.loop-branch.forms.items form, c.loop-branch.invariant.few, s.cheap, few));
     }
 
 pub returns-clause-ways : goal.returns-clause-ways
 returns-clause-ways g c =
     let same : forms_of c.in_ok-linked.field-0 ≡ c.loop-branch.forms.items = search rules in
-    rw same (ways_all c.args.branches.now c.args.sides.before c.args.sides.after c.loop-branch.forms.items c.loop-branch.branch-index c.loop-branch-test.false c.loop-branch.invariant.count c.loop-branch.invariant.ways)
+    rw same (ways_all c.args.branches.now c.args.sides.before c.args.sides.after c.loop-branch.forms.items
+    c.loop-branch.branch-index c.loop-branch-test.false c.loop-branch.invariant.count
+    c.loop-branch.invariant.ways)
 
 pub returns-in-Err-clause-few : goal.returns-in-Err-clause-few
 returns-in-Err-clause-few g c =
     let t = c.branch-item.result in
-    let s = stands c.args.branches.now c.loop-branch.branch-index t c.loop-branch-test.true c.branch-item.is in
+    let s =
+    stands c.args.branches.now c.loop-branch.branch-index t c.loop-branch-test.true c.branch-item.is in
     refused_more c.in-Err.refusal _ _ _ _ (λ h. omega (arith, h, s.part)) c.in-Err.ensures.few

@@ -6,4 +6,5 @@ pub returns-in-Ok-clause-ways : goal.returns-in-Ok-clause-ways
 returns-in-Ok-clause-ways g c = λ k x.
     let t = c.args.token.now in
     let sides = c.args.sides in
-    both_ways (single_way t c.requires k sides.before sides.after x) (first_way c.in-Ok.form (Means t sides.before sides.after) c.in-Ok.ensures.means k x)
+    both_ways (single_way t c.requires k sides.before sides.after x)
+    (first_way c.in-Ok.form (Means t sides.before sides.after) c.in-Ok.ensures.means k x)

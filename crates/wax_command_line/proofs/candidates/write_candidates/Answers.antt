@@ -4,7 +4,8 @@ use Rattle.std.proofs.lemmas.Bool.{or_parts}
 use Rattle.std.specs.Io.KnownBytes.{Appends}
 use Rattle.wax_lines.specs.Written.{WritesPart}
 use Rattle.wax_walk.specs.Entries.{given_of}
-use Rattle.wax_command_line.proofs.Lines.{err_holds, writing_end, writing_last, writing_more, writing_none, writing_part}
+use Rattle.wax_command_line.proofs.Lines.{err_holds, writing_end, writing_last, writing_more, writing_none}
+use Rattle.wax_command_line.proofs.Lines.{writing_part}
 use Rattle.wax_command_line.proofs.candidates.write_candidates.Goals as goal
 
 pub loop-item-init : goal.loop-item-init
@@ -23,7 +24,8 @@ returns-in_err-has_errors-clause-stopped g c =
     let x = given_of g.I.Entry.Entry.facts g.I.Residue.Entry.facts c.in-Some.item in
     let fed = g.met.I.FileIterator.feeding s t (Some c.in-Some.item) c.in-Some.ensures.steps in
     let goes = c.in-Some.ensures.goes.on c.loop-item.invariant.ends in
-    err_holds _ (writing_part g.I.Directory.Directory.law _ _ _ _ _ _ _ _ _ _ _ x c.loop-item.invariant.writing fed goes.2 c.in_err-has_errors.ensures.err)
+    err_holds _ (writing_part g.I.Directory.Directory.law _ _ _ _ _ _ _ _ _ _ _ x
+    c.loop-item.invariant.writing fed goes.2 c.in_err-has_errors.ensures.err)
 
 pub loop-item-preserved : goal.loop-item-preserved
 loop-item-preserved g c =
@@ -35,8 +37,11 @@ loop-item-preserved g c =
     record {
       can = search rules;
       ends = search rules;
-      writing = writing_more g.I.Directory.Directory.law _ _ _ _ _ _ _ _ _ _ _ _ _ x c.loop-item.invariant.writing fed goes.2 c.in_ok-has_errors.ensures.ok (ap (λ v. c.loop-item.has_errors || v) c.in_ok-has_errors.ensures.error);
-      quiet = λ e. let none = or_parts c.loop-item.has_errors c.in_ok-has_errors.field-0 e in c.in_ok-has_errors.ensures.quiet none.1 ∙ c.loop-item.invariant.quiet none.0;
+      writing = writing_more g.I.Directory.Directory.law _ _ _ _ _ _ _ _ _ _ _ _ _
+          x c.loop-item.invariant.writing fed goes.2 c.in_ok-has_errors.ensures.ok
+          (ap (λ v. c.loop-item.has_errors || v) c.in_ok-has_errors.ensures.error);
+      quiet = λ e. let none = or_parts c.loop-item.has_errors c.in_ok-has_errors.field-0 e in
+          c.in_ok-has_errors.ensures.quiet none.1 ∙ c.loop-item.invariant.quiet none.0;
       steady = omega (arith, c.in_ok-has_errors.ensures.steady, c.loop-item.invariant.steady);
     }
 
@@ -44,8 +49,10 @@ pub returns-in_err-write_whole-clause-stopped : goal.returns-in_err-write_whole-
 returns-in_err-write_whole-clause-stopped g c =
     let contents = g.W.Write.contents in
     let same : c.deref.result.now ≡ c.loop-item.lines.items = search rules in
-    let part = subst (WritesPart (contents c.loop-item.output.inner) (contents c.write_whole.new.output.inner)) same c.in_err-write_whole.ensures.err.1 in
-    err_holds _ (writing_last g.I.Directory.Directory.law _ _ _ _ _ _ _ _ _ c.loop-item.invariant.writing part)
+    let part = subst (WritesPart (contents c.loop-item.output.inner)
+    (contents c.write_whole.new.output.inner)) same c.in_err-write_whole.ensures.err.1 in
+    err_holds _
+    (writing_last g.I.Directory.Directory.law _ _ _ _ _ _ _ _ _ c.loop-item.invariant.writing part)
 
 pub returns-clause-done : goal.returns-clause-done
 returns-clause-done g c =
@@ -54,5 +61,7 @@ returns-clause-done g c =
     let t = c.feed.new.self in
     let same : c.deref.result.now ≡ c.loop-item.lines.items = search rules in
     let fed = g.met.I.FileIterator.feeding s t None c.in_default.ensures.steps in
-    let written = subst (Appends (contents c.loop-item.output.inner) (contents c.write_whole.new.output.inner)) same c.in_ok-write_whole.ensures.ok in
-    writing_end g.I.Directory.Directory.law _ _ _ _ _ _ _ _ _ _ c.loop-item.invariant.writing fed (λ q i. g.met.I.FileIterator.telling t q i) written
+    let written = subst (Appends (contents c.loop-item.output.inner)
+    (contents c.write_whole.new.output.inner)) same c.in_ok-write_whole.ensures.ok in
+    writing_end g.I.Directory.Directory.law _ _ _ _ _ _ _ _ _ _ c.loop-item.invariant.writing fed
+    (λ q i. g.met.I.FileIterator.telling t q i) written

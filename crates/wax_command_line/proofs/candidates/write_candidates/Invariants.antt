@@ -11,7 +11,8 @@ invariant-loop-item g l =
     record {
       can : g.I.SeparatingFilter.can_feed l.walk;
       ends : IsFinite (left l.walk);
-      writing : Writing g.I.Directory.Directory.law (view l.fn.walk) (view l.walk) (size (left l.fn.walk)) (size (left l.walk))
+      writing : Writing g.I.Directory.Directory.law (view l.fn.walk) (view l.walk)
+          (size (left l.fn.walk)) (size (left l.walk))
           (contents l.fn.output.inner) (contents l.output.inner) l.lines.items l.has_errors;
       quiet : l.has_errors ≡ false → l.faults ≡ l.fn.faults;
       steady : l.fn.output.failures ≤ l.output.failures;

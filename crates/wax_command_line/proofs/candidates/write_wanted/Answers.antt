@@ -19,22 +19,27 @@ returns-clause-done g c =
     map_ok (λ has_errors wrote. record {
       directory = wrote.directory;
       given = wrote.given;
-      took = took_less law rules _ _ _ wrote.directory wrote.given c.new.ensures c.excluding-kept.ensures.view wrote.took;
+      took = took_less law rules _ _ _ wrote.directory wrote.given c.new.ensures
+          c.excluding-kept.ensures.view wrote.took;
       items = filter is_kept wrote.given;
       kept = refl;
       wanted = λ d request filters s listed comes are can shows told.
           let tells = law.tells wrote.directory in
           let excluding = request_excluding request filters in
-          let come = filters_come law d request filters rules _ _ _ are c.new.ensures comes c.excluding-kept.ensures.view in
-          let named = well_named law d request.origin.path s (λ p l. laws.inner d p l) (λ p t. laws.distinct d p t) shows in
+          let come = filters_come law d request filters rules _ _ _ are c.new.ensures comes
+          c.excluding-kept.ensures.view in
+          let named = well_named law d request.origin.path s (λ p l. laws.inner d p l)
+          (λ p t. laws.distinct d p t) shows in
           keeps_wanted c.law_of_walks.ensures tells excluding s listed wrote.given can named
           (all_gave law d (walk_for excluding) _ tells s listed wrote.given come shows told wrote.took.all);
       answered = λ d request filters comes are can.
-          let come = filters_come law d request filters rules _ _ _ are c.new.ensures comes c.excluding-kept.ensures.view in
+          let come = filters_come law d request filters rules _ _ _ are c.new.ensures comes
+          c.excluding-kept.ensures.view in
           answered_before law _ _ wrote.directory _ c.excluding-kept.ensures.view.directory
           (keeps_answered c.law_of_walks.ensures (request_excluding request filters) law _ wrote.directory
           wrote.given can come.takes wrote.took);
-      writes = subst (Appends (contents c.args.output.now.inner) (contents c.write_candidates.new.output.inner)) (lines_kept wrote.given) wrote.writes;
+      writes = subst (Appends (contents c.args.output.now.inner)
+          (contents c.write_candidates.new.output.inner)) (lines_kept wrote.given) wrote.writes;
       errors = wrote.errors ∙ errors_kept wrote.given;
     })
     c.write_candidates.result c.write_candidates.ensures.done
@@ -48,7 +53,8 @@ returns-clause-stopped g c =
       wrote.1,
       λ d request filters s listed comes are can shows told.
           let excluding = request_excluding request filters in
-          let come = filters_come law d request filters rules _ _ _ are c.new.ensures comes c.excluding-kept.ensures.view in
+          let come = filters_come law d request filters rules _ _ _ are c.new.ensures comes
+          c.excluding-kept.ensures.view in
           wrote.2 (request_pending excluding s listed) (come.comes s listed shows told),
     ))
     c.write_candidates.result c.write_candidates.ensures.stopped

@@ -6,11 +6,13 @@ use Rattle.wax_commands.proofs.building.add_filter.Goals as goal
 
 pub returns-in-Not-clause-ok : goal.returns-in-Not-clause-ok
 returns-in-Not-clause-ok g c =
-    rw c.in-Not.is (pattern_asked (FnReturnsAt g.B.Fn c.args.read.now) c.in-Not.expression.now _ c.add_pattern.result c.add_pattern.ensures.ok)
+    rw c.in-Not.is (pattern_asked (FnReturnsAt g.B.Fn c.args.read.now) c.in-Not.expression.now _
+    c.add_pattern.result c.add_pattern.ensures.ok)
 
 pub returns-in-Ignore-clause-ok : goal.returns-in-Ignore-clause-ok
 returns-in-Ignore-clause-ok g c =
-    rw c.in-Ignore.is (list_asked (FnReturnsAt g.B.Fn c.args.read.now) c.in-Ignore.file.now _ c.add_list.result c.add_list.ensures.ok)
+    rw c.in-Ignore.is (list_asked (FnReturnsAt g.B.Fn c.args.read.now) c.in-Ignore.file.now _
+    c.add_list.result c.add_list.ensures.ok)
 
 pub returns-in-Min-clause-ok : goal.returns-in-Min-clause-ok
 returns-in-Min-clause-ok g c = rw c.in-Min.is ([], [], tt, tt, sym (append-nil _))

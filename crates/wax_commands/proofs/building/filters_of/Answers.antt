@@ -8,20 +8,25 @@ use Rattle.wax_command_line.proofs.Lines.{err_holds}
 use Rattle.wax_commands.proofs.building.filters_of.Goals as goal
 
 pub loop-option-init : goal.loop-option-init
-loop-option-init g c = rw c.new-filters.ensures.items (λ asked h. so_far_none (FnReturnsAt g.B.Fn c.args.read.now) c.args.options.now asked h)
+loop-option-init g c = rw c.new-filters.ensures.items
+    (λ asked h. so_far_none (FnReturnsAt g.B.Fn c.args.read.now) c.args.options.now asked h)
 
 pub loop-option-preserved : goal.loop-option-preserved
 loop-option-preserved g c asked h =
-    so_far_more (FnReturnsAt g.B.Fn c.args.read.now) c.loop-option.rest.now c.in-Some.after.now (asked_by c.in-Some.option) asked _ (c.loop-option.invariant asked h) c.in-Some.ensures.some _
+    so_far_more (FnReturnsAt g.B.Fn c.args.read.now) c.loop-option.rest.now c.in-Some.after.now
+    (asked_by c.in-Some.option) asked _ (c.loop-option.invariant asked h) c.in-Some.ensures.some _
     c.in_ok-add_filter.ensures.ok
 
 pub returns-in_err-add_filter-clause-err : goal.returns-in_err-add_filter-clause-err
 returns-in_err-add_filter-clause-err g c =
     let answers = FnReturnsAt g.B.Fn c.args.read.now in
-    let refused : (asked : List WalkOption) → SayEach c.args.options.now asked → HasRefused answers asked = λ asked h.
-    so_far_refused answers c.loop-option.rest.now c.in-Some.after.now (asked_by c.in-Some.option) asked _ (c.loop-option.invariant asked h) c.in-Some.ensures.some
+    let refused : (asked : List WalkOption) → SayEach c.args.options.now asked
+    → HasRefused answers asked = λ asked h.
+    so_far_refused answers c.loop-option.rest.now c.in-Some.after.now (asked_by c.in-Some.option) asked _
+    (c.loop-option.invariant asked h) c.in-Some.ensures.some
     c.in_err-add_filter.ensures.err in
     err_holds _ refused
 
 pub returns-clause-ok : goal.returns-clause-ok
-returns-clause-ok g c asked h = so_far_all (FnReturnsAt g.B.Fn c.args.read.now) c.loop-option.rest.now asked _ (c.loop-option.invariant asked h) c.in_default.ensures.none
+returns-clause-ok g c asked h = so_far_all (FnReturnsAt g.B.Fn c.args.read.now) c.loop-option.rest.now asked _
+    (c.loop-option.invariant asked h) c.in_default.ensures.none

@@ -12,7 +12,8 @@ returns-in-Ok-true-clause-ends g c asked read =
     let held = g.W.Write.contents c.args.output.now.inner in
     let held' = g.W.Write.contents c.write_wanted.new.output.inner in
     let is : c.from-behavior.result ≡ behavior_at c.args.walk.depth = c.from-behavior.ensures in
-    ends_faulty over c.args.walk asked read c.in-Some.glob c.in-Some.ensures.some _ c.in-Some-built_filters.ensures.some c.from-behavior.result is _ c.in-Ok.ensures.begins held held'
+    ends_faulty over c.args.walk asked read c.in-Some.glob c.in-Some.ensures.some _
+    c.in-Some-built_filters.ensures.some c.from-behavior.result is _ c.in-Ok.ensures.begins held held'
     (subst (WroteWanted law _ _ held held') c.in-Ok-true.field-0-test c.in-Ok-true.ensures.done)
 
 pub returns-in-Ok-false-clause-ends : goal.returns-in-Ok-false-clause-ends
@@ -22,7 +23,8 @@ returns-in-Ok-false-clause-ends g c asked read =
     let held = g.W.Write.contents c.args.output.now.inner in
     let held' = g.W.Write.contents c.write_wanted.new.output.inner in
     let is : c.from-behavior.result ≡ behavior_at c.args.walk.depth = c.from-behavior.ensures in
-    ends_done over c.args.walk asked read c.in-Some.glob c.in-Some.ensures.some _ c.in-Some-built_filters.ensures.some c.from-behavior.result is _ c.in-Ok.ensures.begins held held'
+    ends_done over c.args.walk asked read c.in-Some.glob c.in-Some.ensures.some _
+    c.in-Some-built_filters.ensures.some c.from-behavior.result is _ c.in-Ok.ensures.begins held held'
     (subst (WroteWanted law _ _ held held') c.in-Ok-false.field-0-test c.in-Ok-false.ensures.done)
 
 pub returns-clause-ends : goal.returns-clause-ends
@@ -32,5 +34,6 @@ returns-clause-ends g c asked read =
     let held = g.W.Write.contents c.args.output.now.inner in
     let held' = g.W.Write.contents c.write_wanted.new.output.inner in
     let is : c.from-behavior.result ≡ behavior_at c.args.walk.depth = c.from-behavior.ensures in
-    ends_stopped over c.args.walk asked read c.in-Some.glob c.in-Some.ensures.some _ c.in-Some-built_filters.ensures.some c.from-behavior.result is _ c.in-Ok.ensures.begins held held'
+    ends_stopped over c.args.walk asked read c.in-Some.glob c.in-Some.ensures.some _
+    c.in-Some-built_filters.ensures.some c.from-behavior.result is _ c.in-Ok.ensures.begins held held'
     c.in-Err.ensures.stopped

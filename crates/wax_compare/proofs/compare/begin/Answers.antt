@@ -9,13 +9,17 @@ use Rattle.wax_compare.proofs.compare.begin.Goals as goal
 pub returns-then-is_wanted : goal.returns-then-is_wanted
 returns-then-is_wanted c =
     let p : StatePair = record { first = 0; second = 0; may_end = c.begins_all.result } in
-    wanted_empty c.args.first.now.0 c.args.second.now.0 c.args.search.now p (chars (string_bytes c.new.result)) (ap chars c.new.ensures.bytes ∙ chars-nil) c.requires.begin refl refl c.begins_all.ensures (c.is_wanted.ensures.0 c.if-is_wanted.true)
+    wanted_empty c.args.first.now.0 c.args.second.now.0 c.args.search.now p
+    (chars (string_bytes c.new.result)) (ap chars c.new.ensures.bytes ∙ chars-nil) c.requires.begin refl
+    refl c.begins_all.ensures (c.is_wanted.ensures.0 c.if-is_wanted.true)
 
 pub run-requires : goal.run-requires
 run-requires c =
     let p : StatePair = record { first = 0; second = 0; may_end = c.begins_all.result } in
     let x : Reached = record { pair = p; before = 0; letter = 47; depth = 0 } in
-    let pushed : c.push.new.self.reached.items ≡ x ∷ [] = c.in_ok-push.ensures ∙ ap (λ z. z ++ x ∷ []) c.in_ok-pairs.ensures in
+    let pushed : c.push.new.self.reached.items ≡ x ∷ [] =
+    c.in_ok-push.ensures ∙ ap (λ z. z ++ x ∷ []) c.in_ok-pairs.ensures in
     subst (λ z. IsHeld c.args.first.now.0 c.args.second.now.0 c.args.search.now z 0) (sym pushed)
-    (held_begin c.args.first.now.0 c.args.second.now.0 c.args.search.now x c.requires.automata c.requires.letters c.requires.begin refl refl c.begins_all.ensures refl
+    (held_begin c.args.first.now.0 c.args.second.now.0 c.args.search.now x c.requires.automata
+    c.requires.letters c.requires.begin refl refl c.begins_all.ensures refl
     (λ h. true≢false (sym (c.is_wanted.ensures.1 h) ∙ c.if-is_wanted.false)))

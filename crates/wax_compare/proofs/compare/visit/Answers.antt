@@ -1,11 +1,13 @@
-use Rattle.std.proofs.Common.{◌≡◌, ◌+◌, ◌≤◌, ◌∙◌, ◌∷◌, ◌++◌, [], Some, length, slice_get, slice_index, true≢false, refl, sym, subst, arith}
+use Rattle.std.proofs.Common.{◌≡◌, ◌+◌, ◌≤◌, ◌∙◌, ◌∷◌, ◌++◌, [], Some, length, slice_get, slice_index}
+use Rattle.std.proofs.Common.{true≢false, refl, sym, subst, arith}
 use Rattle.std.specs.Char.{IsScalar}
 use Rattle.wax_compare.specs.declared.pairs.Reached.{Reached}
 use Rattle.std.proofs.lemmas.Option.{slice_get_read}
 use Rattle.wax_compare.specs.inner.Reaching.{Readings}
 use Rattle.wax_compare.specs.inner.Searching.{GoesFrom, IsNextOrNone, IsNextPair, readings}
 use Rattle.wax_compare.specs.inner.Visiting.{Grow, IsHeld, IsSameSearch, IsVisited}
-use Rattle.wax_compare.proofs.Pushing.{ends_at, followed_push, grow_push, held_later, pairs_push, shallow_push, visited_dead, visited_known, visited_more, visited_new}
+use Rattle.wax_compare.proofs.Pushing.{ends_at, followed_push, grow_push, held_later, pairs_push}
+use Rattle.wax_compare.proofs.Pushing.{shallow_push, visited_dead, visited_known, visited_more, visited_new}
 use Rattle.wax_compare.proofs.Visiting.{Later, search_later, visited_later}
 use Rattle.wax_compare.proofs.compare.visit.Goals as goal
 
@@ -21,9 +23,12 @@ returns-in_default-clause-held c =
     let letter = slice_index old.letters.items c.args.number in
     let told = c.in_ok-pair.ensures in
     let r : Readings = readings code other new in
-    let same : IsSameSearch old new = record { wanted = told.wanted; texts = told.texts; letters = told.letters } in
-    let held : IsHeld code other new reached at = held_later code other old new reached at c.requires.held told.automata same told.firsts told.seconds in
-    let at_is : slice_get reached at ≡ Some from = slice_get_read reached (length reached) at from refl c.requires.at c.index-from.ensures in
+    let same : IsSameSearch old new =
+    record { wanted = told.wanted; texts = told.texts; letters = told.letters } in
+    let held : IsHeld code other new reached at = held_later code other old new reached at c.requires.held
+    told.automata same told.firsts told.seconds in
+    let at_is : slice_get reached at ≡ Some from =
+    slice_get_read reached (length reached) at from refl c.requires.at c.index-from.ensures in
     held
 
 pub returns-in_default-clause-visited : goal.returns-in_default-clause-visited
@@ -38,10 +43,14 @@ returns-in_default-clause-visited c =
     let letter = slice_index old.letters.items c.args.number in
     let told = c.in_ok-pair.ensures in
     let r : Readings = readings code other new in
-    let same : IsSameSearch old new = record { wanted = told.wanted; texts = told.texts; letters = told.letters } in
-    let held : IsHeld code other new reached at = held_later code other old new reached at c.requires.held told.automata same told.firsts told.seconds in
-    let at_is : slice_get reached at ≡ Some from = slice_get_read reached (length reached) at from refl c.requires.at c.index-from.ensures in
-    λ _. visited_dead r reached from at letter at_is (subst (IsNextOrNone r letter from.pair) c.in_default.is told.next)
+    let same : IsSameSearch old new =
+    record { wanted = told.wanted; texts = told.texts; letters = told.letters } in
+    let held : IsHeld code other new reached at = held_later code other old new reached at c.requires.held
+    told.automata same told.firsts told.seconds in
+    let at_is : slice_get reached at ≡ Some from =
+    slice_get_read reached (length reached) at from refl c.requires.at c.index-from.ensures in
+    λ _. visited_dead r reached from at letter at_is
+    (subst (IsNextOrNone r letter from.pair) c.in_default.is told.next)
 
 pub returns-then-is_wanted-clause-held : goal.returns-then-is_wanted-clause-held
 returns-then-is_wanted-clause-held c =
@@ -55,9 +64,12 @@ returns-then-is_wanted-clause-held c =
     let letter = slice_index old.letters.items c.args.number in
     let told = c.in_ok-pair.ensures in
     let r : Readings = readings code other new in
-    let same : IsSameSearch old new = record { wanted = told.wanted; texts = told.texts; letters = told.letters } in
-    let held : IsHeld code other new reached at = held_later code other old new reached at c.requires.held told.automata same told.firsts told.seconds in
-    let at_is : slice_get reached at ≡ Some from = slice_get_read reached (length reached) at from refl c.requires.at c.index-from.ensures in
+    let same : IsSameSearch old new =
+    record { wanted = told.wanted; texts = told.texts; letters = told.letters } in
+    let held : IsHeld code other new reached at = held_later code other old new reached at c.requires.held
+    told.automata same told.firsts told.seconds in
+    let at_is : slice_get reached at ≡ Some from =
+    slice_get_read reached (length reached) at from refl c.requires.at c.index-from.ensures in
     held
 
 pub returns-then-is_wanted-clause-ends : goal.returns-then-is_wanted-clause-ends
@@ -72,11 +84,16 @@ returns-then-is_wanted-clause-ends c =
     let letter = slice_index old.letters.items c.args.number in
     let told = c.in_ok-pair.ensures in
     let r : Readings = readings code other new in
-    let same : IsSameSearch old new = record { wanted = told.wanted; texts = told.texts; letters = told.letters } in
-    let held : IsHeld code other new reached at = held_later code other old new reached at c.requires.held told.automata same told.firsts told.seconds in
-    let at_is : slice_get reached at ≡ Some from = slice_get_read reached (length reached) at from refl c.requires.at c.index-from.ensures in
-    let pair : IsNextPair r letter from.pair c.in-Some.pair = subst (IsNextOrNone r letter from.pair) c.in-Some.is told.next in
-    λ _. ends_at r reached from at letter at_is c.in-Some.pair pair (c.is_wanted.ensures.0 c.if-is_wanted.true)
+    let same : IsSameSearch old new =
+    record { wanted = told.wanted; texts = told.texts; letters = told.letters } in
+    let held : IsHeld code other new reached at = held_later code other old new reached at c.requires.held
+    told.automata same told.firsts told.seconds in
+    let at_is : slice_get reached at ≡ Some from =
+    slice_get_read reached (length reached) at from refl c.requires.at c.index-from.ensures in
+    let pair : IsNextPair r letter from.pair c.in-Some.pair =
+    subst (IsNextOrNone r letter from.pair) c.in-Some.is told.next in
+    λ _.
+    ends_at r reached from at letter at_is c.in-Some.pair pair (c.is_wanted.ensures.0 c.if-is_wanted.true)
 
 pub returns-then-contains-clause-held : goal.returns-then-contains-clause-held
 returns-then-contains-clause-held c =
@@ -90,9 +107,12 @@ returns-then-contains-clause-held c =
     let letter = slice_index old.letters.items c.args.number in
     let told = c.in_ok-pair.ensures in
     let r : Readings = readings code other new in
-    let same : IsSameSearch old new = record { wanted = told.wanted; texts = told.texts; letters = told.letters } in
-    let held : IsHeld code other new reached at = held_later code other old new reached at c.requires.held told.automata same told.firsts told.seconds in
-    let at_is : slice_get reached at ≡ Some from = slice_get_read reached (length reached) at from refl c.requires.at c.index-from.ensures in
+    let same : IsSameSearch old new =
+    record { wanted = told.wanted; texts = told.texts; letters = told.letters } in
+    let held : IsHeld code other new reached at = held_later code other old new reached at c.requires.held
+    told.automata same told.firsts told.seconds in
+    let at_is : slice_get reached at ≡ Some from =
+    slice_get_read reached (length reached) at from refl c.requires.at c.index-from.ensures in
     held
 
 pub returns-then-contains-clause-visited : goal.returns-then-contains-clause-visited
@@ -107,11 +127,16 @@ returns-then-contains-clause-visited c =
     let letter = slice_index old.letters.items c.args.number in
     let told = c.in_ok-pair.ensures in
     let r : Readings = readings code other new in
-    let same : IsSameSearch old new = record { wanted = told.wanted; texts = told.texts; letters = told.letters } in
-    let held : IsHeld code other new reached at = held_later code other old new reached at c.requires.held told.automata same told.firsts told.seconds in
-    let at_is : slice_get reached at ≡ Some from = slice_get_read reached (length reached) at from refl c.requires.at c.index-from.ensures in
-    let pair : IsNextPair r letter from.pair c.in-Some.pair = subst (IsNextOrNone r letter from.pair) c.in-Some.is told.next in
-    λ _. visited_known r reached from at letter at_is c.in-Some.pair pair (c.contains.ensures c.if-contains.true) held.shallow
+    let same : IsSameSearch old new =
+    record { wanted = told.wanted; texts = told.texts; letters = told.letters } in
+    let held : IsHeld code other new reached at = held_later code other old new reached at c.requires.held
+    told.automata same told.firsts told.seconds in
+    let at_is : slice_get reached at ≡ Some from =
+    slice_get_read reached (length reached) at from refl c.requires.at c.index-from.ensures in
+    let pair : IsNextPair r letter from.pair c.in-Some.pair =
+    subst (IsNextOrNone r letter from.pair) c.in-Some.is told.next in
+    λ _. visited_known r reached from at letter at_is c.in-Some.pair pair
+    (c.contains.ensures c.if-contains.true) held.shallow
 
 pub returns-clause-held : goal.returns-clause-held
 returns-clause-held c =
@@ -125,31 +150,57 @@ returns-clause-held c =
     let letter = slice_index old.letters.items c.args.number in
     let told = c.in_ok-pair.ensures in
     let r : Readings = readings code other new in
-    let same : IsSameSearch old new = record { wanted = told.wanted; texts = told.texts; letters = told.letters } in
-    let held : IsHeld code other new reached at = held_later code other old new reached at c.requires.held told.automata same told.firsts told.seconds in
-    let at_is : slice_get reached at ≡ Some from = slice_get_read reached (length reached) at from refl c.requires.at c.index-from.ensures in
-    let pair : IsNextPair r letter from.pair c.in-Some.pair = subst (IsNextOrNone r letter from.pair) c.in-Some.is told.next in
-    let entry : Reached = record { pair = c.in-Some.pair; before = at; letter = c.args.letter; depth = c.saturating_add.result } in
+    let same : IsSameSearch old new =
+    record { wanted = told.wanted; texts = told.texts; letters = told.letters } in
+    let held : IsHeld code other new reached at = held_later code other old new reached at c.requires.held
+    told.automata same told.firsts told.seconds in
+    let at_is : slice_get reached at ≡ Some from =
+    slice_get_read reached (length reached) at from refl c.requires.at c.index-from.ensures in
+    let pair : IsNextPair r letter from.pair c.in-Some.pair =
+    subst (IsNextOrNone r letter from.pair) c.in-Some.is told.next in
+    let entry : Reached = record {
+      pair = c.in-Some.pair;
+      before = at;
+      letter = c.args.letter;
+      depth = c.saturating_add.result;
+    } in
     let pushed : c.push.new.self.reached.items ≡ reached ++ entry ∷ [] = c.in_ok-push.ensures in
     let by : c.args.letter ≡ letter = c.requires.letter in
     let scalar : IsScalar letter = subst IsScalar by c.ranges.letter.0 in
     let low : from.depth ≤ at = held.pairs.low at from at_is in
-    let deeper : c.saturating_add.result ≡ from.depth + 1 = omega (arith, c.saturating_add.ensures, low, c.requires.at, c.args.pairs.now.reached.small, c.args.pairs.now.reached.ok.0, c.args.pairs.now.reached.ok.1) in
-    let unwanted : GoesFrom r c.in-Some.pair [] → ⊥ = λ h. true≢false (sym (c.is_wanted.ensures.1 h) ∙ c.if-is_wanted.false) in
+    let deeper : c.saturating_add.result ≡ from.depth + 1 = omega (
+      arith,
+      c.saturating_add.ensures,
+      low,
+      c.requires.at,
+      c.args.pairs.now.reached.small,
+      c.args.pairs.now.reached.ok.0,
+      c.args.pairs.now.reached.ok.1,
+    ) in
+    let unwanted : GoesFrom r c.in-Some.pair [] → ⊥ =
+    λ h. true≢false (sym (c.is_wanted.ensures.1 h) ∙ c.if-is_wanted.false) in
     subst (λ z. IsHeld code other new z at) (sym pushed) (record {
       automata = held.automata;
       letters = held.letters;
       begin = held.begin;
-      pairs = pairs_push reached entry r from at at_is letter scalar held.pairs held.shallow pair refl by deeper unwanted;
-      followed = followed_push reached entry r from at at_is letter scalar held.pairs held.shallow pair refl by deeper unwanted held.followed;
-      shallow = shallow_push reached entry r from at at_is letter scalar held.pairs held.shallow pair refl by deeper unwanted;
+      pairs = pairs_push reached entry r from at at_is letter scalar held.pairs held.shallow pair
+          refl by deeper unwanted;
+      followed = followed_push reached entry r from at at_is letter scalar held.pairs held.shallow pair refl
+          by deeper unwanted held.followed;
+      shallow = shallow_push reached entry r from at at_is letter scalar held.pairs held.shallow pair
+          refl by deeper unwanted;
     })
 
 pub returns-clause-grows : goal.returns-clause-grows
 returns-clause-grows c =
     let reached = c.args.pairs.now.reached.items in
     let at = c.args.at in
-    let entry : Reached = record { pair = c.in-Some.pair; before = at; letter = c.args.letter; depth = c.saturating_add.result } in
+    let entry : Reached = record {
+      pair = c.in-Some.pair;
+      before = at;
+      letter = c.args.letter;
+      depth = c.saturating_add.result;
+    } in
     let pushed : c.push.new.self.reached.items ≡ reached ++ entry ∷ [] = c.in_ok-push.ensures in
     subst (Grow reached) (sym pushed) (grow_push reached entry)
 
@@ -165,18 +216,37 @@ returns-clause-visited c =
     let letter = slice_index old.letters.items c.args.number in
     let told = c.in_ok-pair.ensures in
     let r : Readings = readings code other new in
-    let same : IsSameSearch old new = record { wanted = told.wanted; texts = told.texts; letters = told.letters } in
-    let held : IsHeld code other new reached at = held_later code other old new reached at c.requires.held told.automata same told.firsts told.seconds in
-    let at_is : slice_get reached at ≡ Some from = slice_get_read reached (length reached) at from refl c.requires.at c.index-from.ensures in
-    let pair : IsNextPair r letter from.pair c.in-Some.pair = subst (IsNextOrNone r letter from.pair) c.in-Some.is told.next in
-    let entry : Reached = record { pair = c.in-Some.pair; before = at; letter = c.args.letter; depth = c.saturating_add.result } in
+    let same : IsSameSearch old new =
+    record { wanted = told.wanted; texts = told.texts; letters = told.letters } in
+    let held : IsHeld code other new reached at = held_later code other old new reached at c.requires.held
+    told.automata same told.firsts told.seconds in
+    let at_is : slice_get reached at ≡ Some from =
+    slice_get_read reached (length reached) at from refl c.requires.at c.index-from.ensures in
+    let pair : IsNextPair r letter from.pair c.in-Some.pair =
+    subst (IsNextOrNone r letter from.pair) c.in-Some.is told.next in
+    let entry : Reached = record {
+      pair = c.in-Some.pair;
+      before = at;
+      letter = c.args.letter;
+      depth = c.saturating_add.result;
+    } in
     let pushed : c.push.new.self.reached.items ≡ reached ++ entry ∷ [] = c.in_ok-push.ensures in
     let by : c.args.letter ≡ letter = c.requires.letter in
     let scalar : IsScalar letter = subst IsScalar by c.ranges.letter.0 in
     let low : from.depth ≤ at = held.pairs.low at from at_is in
-    let deeper : c.saturating_add.result ≡ from.depth + 1 = omega (arith, c.saturating_add.ensures, low, c.requires.at, c.args.pairs.now.reached.small, c.args.pairs.now.reached.ok.0, c.args.pairs.now.reached.ok.1) in
-    let unwanted : GoesFrom r c.in-Some.pair [] → ⊥ = λ h. true≢false (sym (c.is_wanted.ensures.1 h) ∙ c.if-is_wanted.false) in
-    λ _. subst (λ z. IsVisited r z at letter) (sym pushed) (visited_new reached entry r from at at_is letter scalar held.pairs held.shallow pair refl by deeper unwanted)
+    let deeper : c.saturating_add.result ≡ from.depth + 1 = omega (
+      arith,
+      c.saturating_add.ensures,
+      low,
+      c.requires.at,
+      c.args.pairs.now.reached.small,
+      c.args.pairs.now.reached.ok.0,
+      c.args.pairs.now.reached.ok.1,
+    ) in
+    let unwanted : GoesFrom r c.in-Some.pair [] → ⊥ =
+    λ h. true≢false (sym (c.is_wanted.ensures.1 h) ∙ c.if-is_wanted.false) in
+    λ _. subst (λ z. IsVisited r z at letter) (sym pushed) (visited_new reached entry r from at at_is letter
+    scalar held.pairs held.shallow pair refl by deeper unwanted)
 
 pub returns-in_default-clause-keeps : goal.returns-in_default-clause-keeps
 returns-in_default-clause-keeps c =
@@ -190,10 +260,14 @@ returns-in_default-clause-keeps c =
     let letter = slice_index old.letters.items c.args.number in
     let told = c.in_ok-pair.ensures in
     let r : Readings = readings code other new in
-    let same : IsSameSearch old new = record { wanted = told.wanted; texts = told.texts; letters = told.letters } in
-    let held : IsHeld code other new reached at = held_later code other old new reached at c.requires.held told.automata same told.firsts told.seconds in
-    let at_is : slice_get reached at ≡ Some from = slice_get_read reached (length reached) at from refl c.requires.at c.index-from.ensures in
-    let later : Later (readings code other old) r = search_later code other old new same told.firsts told.seconds in
+    let same : IsSameSearch old new =
+    record { wanted = told.wanted; texts = told.texts; letters = told.letters } in
+    let held : IsHeld code other new reached at = held_later code other old new reached at c.requires.held
+    told.automata same told.firsts told.seconds in
+    let at_is : slice_get reached at ≡ Some from =
+    slice_get_read reached (length reached) at from refl c.requires.at c.index-from.ensures in
+    let later : Later (readings code other old) r =
+    search_later code other old new same told.firsts told.seconds in
     λ l v. visited_later (readings code other old) r later reached c.requires.held.pairs at l v
 
 pub returns-then-is_wanted-clause-keeps : goal.returns-then-is_wanted-clause-keeps
@@ -208,10 +282,14 @@ returns-then-is_wanted-clause-keeps c =
     let letter = slice_index old.letters.items c.args.number in
     let told = c.in_ok-pair.ensures in
     let r : Readings = readings code other new in
-    let same : IsSameSearch old new = record { wanted = told.wanted; texts = told.texts; letters = told.letters } in
-    let held : IsHeld code other new reached at = held_later code other old new reached at c.requires.held told.automata same told.firsts told.seconds in
-    let at_is : slice_get reached at ≡ Some from = slice_get_read reached (length reached) at from refl c.requires.at c.index-from.ensures in
-    let later : Later (readings code other old) r = search_later code other old new same told.firsts told.seconds in
+    let same : IsSameSearch old new =
+    record { wanted = told.wanted; texts = told.texts; letters = told.letters } in
+    let held : IsHeld code other new reached at = held_later code other old new reached at c.requires.held
+    told.automata same told.firsts told.seconds in
+    let at_is : slice_get reached at ≡ Some from =
+    slice_get_read reached (length reached) at from refl c.requires.at c.index-from.ensures in
+    let later : Later (readings code other old) r =
+    search_later code other old new same told.firsts told.seconds in
     λ l v. visited_later (readings code other old) r later reached c.requires.held.pairs at l v
 
 pub returns-then-contains-clause-keeps : goal.returns-then-contains-clause-keeps
@@ -226,10 +304,14 @@ returns-then-contains-clause-keeps c =
     let letter = slice_index old.letters.items c.args.number in
     let told = c.in_ok-pair.ensures in
     let r : Readings = readings code other new in
-    let same : IsSameSearch old new = record { wanted = told.wanted; texts = told.texts; letters = told.letters } in
-    let held : IsHeld code other new reached at = held_later code other old new reached at c.requires.held told.automata same told.firsts told.seconds in
-    let at_is : slice_get reached at ≡ Some from = slice_get_read reached (length reached) at from refl c.requires.at c.index-from.ensures in
-    let later : Later (readings code other old) r = search_later code other old new same told.firsts told.seconds in
+    let same : IsSameSearch old new =
+    record { wanted = told.wanted; texts = told.texts; letters = told.letters } in
+    let held : IsHeld code other new reached at = held_later code other old new reached at c.requires.held
+    told.automata same told.firsts told.seconds in
+    let at_is : slice_get reached at ≡ Some from =
+    slice_get_read reached (length reached) at from refl c.requires.at c.index-from.ensures in
+    let later : Later (readings code other old) r =
+    search_later code other old new same told.firsts told.seconds in
     λ l v. visited_later (readings code other old) r later reached c.requires.held.pairs at l v
 
 pub returns-clause-keeps : goal.returns-clause-keeps
@@ -244,10 +326,20 @@ returns-clause-keeps c =
     let letter = slice_index old.letters.items c.args.number in
     let told = c.in_ok-pair.ensures in
     let r : Readings = readings code other new in
-    let same : IsSameSearch old new = record { wanted = told.wanted; texts = told.texts; letters = told.letters } in
-    let held : IsHeld code other new reached at = held_later code other old new reached at c.requires.held told.automata same told.firsts told.seconds in
-    let at_is : slice_get reached at ≡ Some from = slice_get_read reached (length reached) at from refl c.requires.at c.index-from.ensures in
-    let later : Later (readings code other old) r = search_later code other old new same told.firsts told.seconds in
-    let entry : Reached = record { pair = c.in-Some.pair; before = at; letter = c.args.letter; depth = c.saturating_add.result } in
+    let same : IsSameSearch old new =
+    record { wanted = told.wanted; texts = told.texts; letters = told.letters } in
+    let held : IsHeld code other new reached at = held_later code other old new reached at c.requires.held
+    told.automata same told.firsts told.seconds in
+    let at_is : slice_get reached at ≡ Some from =
+    slice_get_read reached (length reached) at from refl c.requires.at c.index-from.ensures in
+    let later : Later (readings code other old) r =
+    search_later code other old new same told.firsts told.seconds in
+    let entry : Reached = record {
+      pair = c.in-Some.pair;
+      before = at;
+      letter = c.args.letter;
+      depth = c.saturating_add.result;
+    } in
     let pushed : c.push.new.self.reached.items ≡ reached ++ entry ∷ [] = c.in_ok-push.ensures in
-    λ l v. subst (λ z. IsVisited r z at l) (sym pushed) (visited_more reached entry r at l c.requires.at (visited_later (readings code other old) r later reached c.requires.held.pairs at l v))
+    λ l v. subst (λ z. IsVisited r z at l) (sym pushed) (visited_more reached entry r at l c.requires.at
+    (visited_later (readings code other old) r later reached c.requires.held.pairs at l v))

@@ -5,5 +5,7 @@ use Rattle.wax_compare.proofs.compared.difference.Goals as goal
 
 pub returns : goal.returns
 returns g c =
-    answer_as c.args.texts (Accepts c.compiled-first.result.now.0 0) (Accepts c.compiled-second.result.now.0 0) (g.A.Program.means c.args.first.now)
-    (g.B.Program.means c.args.second.now) c.compiled-first.ensures c.compiled-second.ensures FirstOnly c.in_ok-found.found c.in_ok-found.ensures
+    answer_as c.args.texts (Accepts c.compiled-first.result.now.0 0)
+    (Accepts c.compiled-second.result.now.0 0) (g.A.Program.means c.args.first.now)
+    (g.B.Program.means c.args.second.now) c.compiled-first.ensures c.compiled-second.ensures FirstOnly
+    c.in_ok-found.found c.in_ok-found.ensures

@@ -7,5 +7,7 @@ returns-clause-all c =
     let code = c.args.program.now.0 in
     let cuts = c.cut_test.new.cuts.items in
     let folded = c.cut_test.new.folded.items in
-    λ before. before_more code c.args.at cuts folded (Some c.in-Some.test.now) c.in-Some.ensures.test c.in_ok-cut_test.ensures.all
-    (before_kept c.args.cuts.now.items cuts c.in_ok-cut_test.ensures.cuts c.args.folded.now.items folded c.in_ok-cut_test.ensures.folded code c.args.at before)
+    λ before. before_more code c.args.at cuts folded (Some c.in-Some.test.now) c.in-Some.ensures.test
+    c.in_ok-cut_test.ensures.all
+    (before_kept c.args.cuts.now.items cuts c.in_ok-cut_test.ensures.cuts c.args.folded.now.items folded
+    c.in_ok-cut_test.ensures.folded code c.args.at before)

@@ -10,7 +10,8 @@ sorted_kept : (xs ys : List ℕ) → IsPermutation xs ys → AreKept xs ys
 sorted_kept xs ys p x h = Contains-permutation xs ys x p h
 
 -- what the first cuts are is kept to the end
-begun : (xs ys : List ℕ) (x : ℕ) → xs ≡ 0 ∷ 57344 ∷ [] → AreKept xs ys → Contains (0 ∷ 57344 ∷ []) x → Contains ys x
+begun : (xs ys : List ℕ) (x : ℕ) → xs ≡ 0 ∷ 57344 ∷ [] → AreKept xs ys
+    → Contains (0 ∷ 57344 ∷ []) x → Contains ys x
 begun xs ys x e kept h = kept x (subst (λ z. Contains z x) (sym e) h)
 
 pub returns : goal.returns
@@ -32,8 +33,10 @@ returns c =
     let foldings = foldings_kept e z listed last c.in_ok-cut_foldings.ensures.all in
     let slash : IsCutOut z 47 = cut_kept a z from_a 47 c.in_ok-cut_around.ensures.cut in
     record {
-      first = cut_apart z listed foldings slash code (before_kept b z from_b c.cut_program.new.folded.items listed c.in_ok-cut_program-2.ensures.folded code (length code) c.in_ok-cut_program.ensures.all);
-      second = cut_apart z listed foldings slash other (before_kept d z from_d listed listed (kept_same listed) other (length other) c.in_ok-cut_program-2.ensures.all);
+      first = cut_apart z listed foldings slash code (before_kept b z from_b c.cut_program.new.folded.items
+          listed c.in_ok-cut_program-2.ensures.folded code (length code) c.in_ok-cut_program.ensures.all);
+      second = cut_apart z listed foldings slash other (before_kept d z from_d listed listed
+          (kept_same listed) other (length other) c.in_ok-cut_program-2.ensures.all);
       slash = slash;
       begin = begun start z 0 c.in_ok-cuts.ensures.items from_start (0, omega arith, refl);
       after = begun start z 57344 c.in_ok-cuts.ensures.items from_start (1, omega arith, refl);

@@ -5,6 +5,7 @@ use Rattle.wax_components.proofs.capturing.capture_count.Given as goal
 
 abbrev pub invariant-loop-token : goal.invariant-loop-token
 invariant-loop-token g l = record {
-  counted : l.count + length (filter is_capturing (drop l.token-index l.token-items)) ≡ length (filter is_capturing l.token-items);
+  counted : l.count + length (filter is_capturing (drop l.token-index l.token-items))
+      ≡ length (filter is_capturing l.token-items);
   within : l.count ≤ l.token-index;
 }

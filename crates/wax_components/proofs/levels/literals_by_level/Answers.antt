@@ -32,11 +32,13 @@ loop-alloc-preserved g c =
     let next : c.in_ok-level.level.items ≡ below =
     c.in_ok-level.ensures ∙ ap (flat_map sub_globs) c.as_slice-in-loop-alloc.ensures.value in
     let here : c.push_literals_of_level.new.found.items ≡ found ++ flat_map literals_in level =
-    c.in_ok-push_literals_of_level.ensures ∙ ap (λ z. found ++ flat_map literals_in z) c.as_slice.ensures.value in
+    c.in_ok-push_literals_of_level.ensures
+    ∙ ap (λ z. found ++ flat_map literals_in z) c.as_slice.ensures.value in
     ap (λ z. c.push_literals_of_level.new.found.items ++ flat_map literals_in (rest z)) next
     ∙ ap (λ z. z ++ flat_map literals_in (rest below)) here
     ∙ append_assoc found (flat_map literals_in level) (flat_map literals_in (rest below))
-    ∙ ap (λ z. found ++ z) (sym (flat_map-append literals_in level (rest below)) ∙ ap (flat_map literals_in) (sym (rest_step level)))
+    ∙ ap (λ z. found ++ z) (sym (flat_map-append literals_in level (rest below))
+    ∙ ap (flat_map literals_in) (sym (rest_step level)))
     ∙ c.loop-alloc.invariant
 
 pub returns : goal.returns

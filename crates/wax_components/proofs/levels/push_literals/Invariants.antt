@@ -6,4 +6,5 @@ use Rattle.wax_components.proofs.levels.push_literals.Given as goal
 
 abbrev pub invariant-loop-component : goal.invariant-loop-component
 invariant-loop-component g l =
-    l.found.items ++ flat_map with_text (drop l.component-index l.component-items) ≡ l.initial.found.items ++ literals_in l.glob
+    l.found.items ++ flat_map with_text (drop l.component-index l.component-items)
+    ≡ l.initial.found.items ++ literals_in l.glob

@@ -5,4 +5,5 @@ use Rattle.wax_components.proofs.levels.push_sub_globs.Given as goal
 
 abbrev pub invariant-loop-token : goal.invariant-loop-token
 invariant-loop-token g l =
-    l.level.items ++ flat_map sub_globs_in (drop l.token-index l.token-items) ≡ l.initial.level.items ++ sub_globs l.glob
+    l.level.items ++ flat_map sub_globs_in (drop l.token-index l.token-items)
+    ≡ l.initial.level.items ++ sub_globs l.glob

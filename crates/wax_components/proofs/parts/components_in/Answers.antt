@@ -11,7 +11,8 @@ overflow_add-end g c =
     let ts = c.args.tokens.now in
     let i = c.loop-start.start in
     let n : c.max.result ≡ max (position_or_len is_boundary (drop i ts)) 1 =
-    c.max.ensures ∙ ap (λ z. max z 1) (c.run_len.ensures ∙ ap (position_or_len is_boundary) (take_rest ts i)) in
+    c.max.ensures
+    ∙ ap (λ z. max z 1) (c.run_len.ensures ∙ ap (position_or_len is_boundary) (take_rest ts i)) in
     omega (arith, n, part_fits ts i c.loop-start-test.true)
 
 pub loop-start-preserved-in_ok-push : goal.loop-start-preserved-in_ok-push
@@ -20,8 +21,10 @@ loop-start-preserved-in_ok-push g c =
     let i = c.loop-start.start in
     let old = c.loop-start.components.items in
     let n : c.max.result ≡ max (position_or_len is_boundary (drop i ts)) 1 =
-    c.max.ensures ∙ ap (λ z. max z 1) (c.run_len.ensures ∙ ap (position_or_len is_boundary) (take_rest ts i)) in
-    let part = next_part ts i c.max.result c.index-tokens-start.result c.loop-start-test.true c.index-tokens-start.is n in
+    c.max.ensures
+    ∙ ap (λ z. max z 1) (c.run_len.ensures ∙ ap (position_or_len is_boundary) (take_rest ts i)) in
+    let part = next_part ts i c.max.result c.index-tokens-start.result c.loop-start-test.true
+    c.index-tokens-start.is n in
     let plain : is_separator c.index-tokens-start.result ≡ false = search rules in
     let after = components_in true (drop (i + c.max.result) ts) in
     record {

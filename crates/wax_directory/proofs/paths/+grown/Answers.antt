@@ -14,7 +14,9 @@ use Rattle.wax_directory.proofs.Planting.{total, below_less, below_some, is_new,
 use Rattle.wax_directory.proofs.Planting.{names_grown, names_all, file_grows, file_distinct, entry_grown}
 use Rattle.wax_directory.proofs.Planting.{entry_named, folder_grows, grown_distinct, AreGrown}
 use Rattle.wax_directory.proofs.paths.+grown.Goals as goal
-use Rattle.wax_directory.proofs.paths.+grown.Goals.{in-Some+in_ok-tails_below+in_ok-node+in_ok-from_str+in_ok-push}
+use Rattle.wax_directory.proofs.paths.+grown.Goals.{
+  in-Some+in_ok-tails_below+in_ok-node+in_ok-from_str+in_ok-push,
+}
 use Rattle.wax_directory.proofs.paths.+grown.Goals.{in_default}
 
 pub returns-then-not-lead_on-clause-stands : goal.returns-then-not-lead_on-clause-stands
@@ -57,7 +59,8 @@ loop-tail-preserved t c =
           w.as_slice-in-Some.ensures.value ∙ w.in_ok-tails_below.ensures in
           let grows : Grows (below_name x tails) w.in_ok-node.node =
           subst (λ l. ¬ (l ≡ []) → Grows l w.in_ok-node.node) group w.in_ok-node.ensures.stands some in
-          let more : c.match-new_name.items.items ≡ items ++ Entry w.in_ok-from_str.field-0 w.in_ok-node.node ∷
+          let more : c.match-new_name.items.items
+          ≡ items ++ Entry w.in_ok-from_str.field-0 w.in_ok-node.node ∷
           [] = ap (λ v. v.items) w.items-is ∙ w.in_ok-push.ensures.items in
           let named : names_of c.match-new_name.items.items ≡ names_of items ++ x ∷ [] =
           entry_named items c.match-new_name.items.items w.in_ok-from_str.field-0 w.in_ok-node.node x more
@@ -73,7 +76,8 @@ loop-tail-preserved t c =
           }
       | in_default w ↦
           let none : None ≡ new_name (names_of items) (first_name r) =
-          sym (ap (option_map (λ (y : Bor (List ℕ)). y.now)) (none_of c.new_name.result w.in_default.not-Some))
+          sym (ap (option_map (λ (y : Bor (List ℕ)). y.now))
+          (none_of c.new_name.result w.in_default.not-Some))
           ∙ c.new_name.ensures ∙ ap (λ l. new_name (names_of l) (first_name r)) c.as_slice.ensures.value in
           let kept : c.match-new_name.items.items ≡ items = ap (λ v. v.items) w.items-is in
           record {

@@ -16,9 +16,11 @@ compiled_component-requires c =
     let t = c.args.token.now in
     let parts = c.deref-component-items.result.now in
     let part = c.component-item.result in
-    let longest : All (IsComponent (tokens_of t)) parts = subst (All (IsComponent (tokens_of t))) (sym c.deref-component-items.ensures.value) c.in_ok-components.ensures.longest in
+    let longest : All (IsComponent (tokens_of t)) parts = subst (All (IsComponent (tokens_of t)))
+    (sym c.deref-component-items.ensures.value) c.in_ok-components.ensures.longest in
     let here : IsComponent (tokens_of t) part =
-    subst (IsComponent (tokens_of t)) (sym c.component-item.is) (All-get_or (IsComponent (tokens_of t)) parts c.loop-component.component-index part c.loop-component-test.true longest) in
+    subst (IsComponent (tokens_of t)) (sym c.component-item.is) (All-get_or (IsComponent (tokens_of t)) parts
+    c.loop-component.component-index part c.loop-component-test.true longest) in
     subst (λ z. costs (trees z) < 1048576) (sym c.tokens-tokens.ensures) (part_fits t part c.requires here)
 
 pub loop-component-preserved : goal.loop-component-preserved
@@ -28,6 +30,9 @@ loop-component-preserved c =
     let i = c.loop-component.component-index in
     let old = c.loop-component.leading.items in
     let grown : old ++ part ∷ [] ≡ c.push.new.self.items = search rules in
-    let plain : list_any has_boundary part ≡ false = ap (list_any has_boundary) (sym c.tokens-tokens.ensures) ∙ sym c.hold_boundary.ensures ∙ c.if-hold_boundary.false in
-    subst (λ z. z ++ before_first (list_any has_boundary) (drop (i + 1) parts) ≡ leading c.args.token.now) grown
-    (kept_next (list_any has_boundary) old parts (leading c.args.token.now) i part c.loop-component-test.true c.component-item.is plain c.loop-component.invariant)
+    let plain : list_any has_boundary part ≡ false = ap (list_any has_boundary) (sym c.tokens-tokens.ensures)
+    ∙ sym c.hold_boundary.ensures ∙ c.if-hold_boundary.false in
+    subst (λ z. z ++ before_first (list_any has_boundary) (drop (i + 1) parts) ≡ leading c.args.token.now)
+    grown
+    (kept_next (list_any has_boundary) old parts (leading c.args.token.now) i part c.loop-component-test.true
+    c.component-item.is plain c.loop-component.invariant)

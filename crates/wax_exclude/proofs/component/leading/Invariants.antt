@@ -5,4 +5,5 @@ use Rattle.wax_exclude.specs.Leading.{leading}
 use Rattle.wax_exclude.proofs.component.leading.Given as goal
 
 abbrev pub invariant-loop-component : goal.invariant-loop-component
-invariant-loop-component l = l.leading.items ++ before_first (list_any has_boundary) (drop l.component-index l.component-items) ≡ leading l.token
+invariant-loop-component l = l.leading.items ++ before_first (list_any has_boundary)
+    (drop l.component-index l.component-items) ≡ leading l.token

@@ -10,14 +10,17 @@ loop-index-preserved c =
     let lines = c.args.lines.now in
     let i = c.loop-index.index in
     let line = c.index-lines-index.result in
-    let at : slice_get lines i ≡ Some line = slice_get-get_or lines i line c.loop-index-test.true ∙ ap Some (sym c.index-lines-index.is) in
+    let at : slice_get lines i ≡ Some line = slice_get-get_or lines i line c.loop-index-test.true
+    ∙ ap Some (sym c.index-lines-index.is) in
     line_numbered lines c.loop-index.patterns.items c.add_alternatives.new.patterns.items i line at
     (subst (λ ts. (k : ℕ) (s : List ℕ) → MeansNumbered c.add_alternatives.new.patterns.items k s
-    ↔ (MeansNumbered c.loop-index.patterns.items k s ⊎ MatchesBy i i ts k s)) c.alternatives.ensures c.in_ok-add_alternatives.ensures)
+    ↔ (MeansNumbered c.loop-index.patterns.items k s ⊎ MatchesBy i i ts k s)) c.alternatives.ensures
+    c.in_ok-add_alternatives.ensures)
     c.loop-index.invariant
 
 pub returns : goal.returns
 returns c =
     both_ok c.compile_numbered.result c.compile_numbered.ensures.means c.compile_numbered.ensures.closed
-    (λ p means closed. all_numbered c.args.lines.now c.loop-index.patterns.items p.0 c.loop-index.index c.loop-index-test.false c.loop-index.invariant closed
+    (λ p means closed. all_numbered c.args.lines.now c.loop-index.patterns.items p.0 c.loop-index.index
+    c.loop-index-test.false c.loop-index.invariant closed
     (rw (← c.deref.ensures.value) means))

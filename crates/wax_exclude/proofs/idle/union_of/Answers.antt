@@ -1,4 +1,5 @@
-use Rattle.std.proofs.Common.{◌≡◌, ◌∙◌, ◌+◌, ◌++◌, ◌∷◌, [], ℕ, List, Some, ap, get_or, length, slice_get, subst, sym, take}
+use Rattle.std.proofs.Common.{◌≡◌, ◌∙◌, ◌+◌, ◌++◌, ◌∷◌, [], ℕ, List, Some, ap, get_or, length, slice_get}
+use Rattle.std.proofs.Common.{subst, sym, take}
 use Rattle.std.proofs.lemmas.Bool.{false≢true, lt-ltb}
 use Rattle.std.proofs.lemmas.List.{take_all, take_more}
 use Rattle.std.proofs.lemmas.Option.{slice_get-get_or}
@@ -12,18 +13,23 @@ loop-index-preserved c =
     let indexes : List ℕ = c.args.indexes.now in
     let i = c.loop-index.index-index in
     let at : ℕ = get_or indexes i 0 in
-    let grown : take i indexes ++ at ∷ [] ≡ take (i + 1) indexes = sym (take_more indexes i 0 c.loop-index-test.true) in
+    let grown : take i indexes ++ at ∷ [] ≡ take (i + 1) indexes =
+    sym (take_more indexes i 0 c.loop-index-test.true) in
     subst (AreTokensOf lines c.match-get.tokens.items) grown (elim c.match-get.branch [
       | in-Some+in_ok-copy_to w ↦ (
           let line = w.in-Some.line.now in
           let (_, same, _, low, _) = w.in-Some.ensures.lookup in
-          let is : slice_get lines at ≡ Some line = slice_get-get_or lines at line low.0 ∙ ap Some (sym same) in
-          let more : w.copy_to.new.copies.items ≡ c.loop-index.tokens.items ++ line.alternatives = rw w.alternatives.ensures at w.in_ok-copy_to.ensures in
+          let is : slice_get lines at ≡ Some line =
+          slice_get-get_or lines at line low.0 ∙ ap Some (sym same) in
+          let more : w.copy_to.new.copies.items ≡ c.loop-index.tokens.items ++ line.alternatives =
+          rw w.alternatives.ensures at w.in_ok-copy_to.ensures in
           subst (λ v. AreTokensOf lines v.items (take i indexes ++ at ∷ [])) (sym w.tokens-is)
-          (tokens_more lines c.loop-index.tokens.items w.copy_to.new.copies.items (take i indexes) at line is more c.loop-index.invariant)
+          (tokens_more lines c.loop-index.tokens.items w.copy_to.new.copies.items
+          (take i indexes) at line is more c.loop-index.invariant)
           )
       | in_default w ↦ subst (λ v. AreTokensOf lines v.items (take i indexes ++ at ∷ [])) (sym w.tokens-is)
-          (tokens_same lines c.loop-index.tokens.items (take i indexes) at (λ lt. false≢true (w.in_default.ensures.lookup.0 ∙ lt-ltb at (length lines) lt)) c.loop-index.invariant)
+          (tokens_same lines c.loop-index.tokens.items (take i indexes) at (λ lt. false≢true
+          (w.in_default.ensures.lookup.0 ∙ lt-ltb at (length lines) lt)) c.loop-index.invariant)
     ])
 
 pub returns-in-Ok : goal.returns-in-Ok

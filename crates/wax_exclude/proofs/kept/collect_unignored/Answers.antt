@@ -11,8 +11,11 @@ returns g c =
     let laws = g.met.D.Directory in
     map_ok (λ r h d request s listed held begins shows told.
     let tells = law.tells r.1 in
-    let named = well_named law d request.start s (λ p l. laws.inner d p l) (λ p t. laws.distinct d p t) shows in
-    let all = unignored_gave law d request c.args.rule _ _ held begins c.excluding.ensures.view tells s listed h.0 shows told h.1.all in
+    let named =
+    well_named law d request.start s (λ p l. laws.inner d p l) (λ p t. laws.distinct d p t) shows in
+    let all = unignored_gave law d request c.args.rule _ _ held begins c.excluding.ensures.view tells s listed
+    h.0 shows told h.1.all in
     subst (KeepsUnignored tells request s listed) (sym h.3)
-    (keeps_unignored c.law_of_ignoring.ensures.gives c.law_of_ignoring.ensures.lists tells request s listed h.0 named.plain all))
+    (keeps_unignored c.law_of_ignoring.ensures.gives c.law_of_ignoring.ensures.lists tells request s listed
+    h.0 named.plain all))
     c.collect.result c.collect.ensures.took

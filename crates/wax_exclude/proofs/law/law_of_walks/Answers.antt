@@ -18,7 +18,8 @@ returns c = record {
     | inr n ↦ none_meant w asked origin s plain start n
   ];
   gives_least = λ w asked walked origin s can plain distinct fits.
-      gives_least w (goes_test w.glob) (goes_tests w.rooted w.glob) asked walked origin can s plain distinct fits;
+      gives_least w (goes_test w.glob) (goes_tests w.rooted w.glob) asked walked origin can
+      s plain distinct fits;
   lists_exactly = λ w asked walked origin s can named.
       lists_exactly w (goes_test w.glob) (goes_tests w.rooted w.glob) asked walked origin can s named.plain;
   least_nothing = λ w asked walked origin s can plain beyond.

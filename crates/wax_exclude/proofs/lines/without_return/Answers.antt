@@ -9,7 +9,8 @@ pub returns-in-Some : goal.returns-in-Some
 returns-in-Some c =
     let text = c.args.text.now in
     let cut : text ≡ c.in-Some.front.now ++ 13 ∷ [] =
-    subst (λ r. MatchOption r ((front : List ℕ) → text ≢ front ++ (13 ∷ [])) (λ x. text ≡ x.now ++ (13 ∷ []))) c.in-Some.is
+    subst (λ r. MatchOption r ((front : List ℕ) → text ≢ front ++ (13 ∷ [])) (λ x. text ≡ x.now ++ (13 ∷ [])))
+    c.in-Some.is
     (strip_suffix_char 13 text c.strip_suffix.result c.strip_suffix.ensures.cases (lit< tt)) in
     sym (ap without_return cut ∙ return_dropped c.in-Some.front.now)
 
@@ -17,5 +18,6 @@ pub returns-in-None : goal.returns-in-None
 returns-in-None c =
     let text = c.args.text.now in
     sym (none_dropped text
-    (subst (λ r. MatchOption r ((front : List ℕ) → text ≢ front ++ (13 ∷ [])) (λ x. text ≡ x.now ++ (13 ∷ []))) c.in-None.is
+    (subst (λ r. MatchOption r ((front : List ℕ) → text ≢ front ++ (13 ∷ []))
+    (λ x. text ≡ x.now ++ (13 ∷ []))) c.in-None.is
     (strip_suffix_char 13 text c.strip_suffix.result c.strip_suffix.ensures.cases (lit< tt))))

@@ -14,9 +14,13 @@ loop-index-preserved c =
     elim c.match-line_in.branch [
       | in-Some+in_ok-push w ↦ (
           let grown : map written_of c.match-line_in.lines.items ≡ read ++ written_of w.in-Some.line ∷ [] =
-          ap (λ v. map written_of v.items) w.lines-is ∙ ap (map written_of) w.in_ok-push.ensures.items ∙ map-append written_of c.loop-index.lines.items (w.in-Some.line ∷ []) in
-          ap (λ v. v ++ rest) grown ∙ next_line (λ part. part.now) _ read (written_of w.in-Some.line ∷ []) parts i _ c.loop-index-test.true w.in-Some.ensures c.loop-index.invariant)
+          ap (λ v. map written_of v.items) w.lines-is ∙ ap (map written_of) w.in_ok-push.ensures.items
+          ∙ map-append written_of c.loop-index.lines.items (w.in-Some.line ∷ []) in
+          ap (λ v. v ++ rest) grown ∙ next_line (λ part. part.now) _ read (written_of w.in-Some.line ∷ [])
+          parts i _ c.loop-index-test.true w.in-Some.ensures c.loop-index.invariant)
       | in_default w ↦ (
-          let same : map written_of c.match-line_in.lines.items ≡ read ++ [] = ap (λ v. map written_of v.items) w.lines-is ∙ sym (append-nil read) in
-          ap (λ v. v ++ rest) same ∙ next_line (λ part. part.now) _ read [] parts i _ c.loop-index-test.true w.in_default.ensures c.loop-index.invariant)
+          let same : map written_of c.match-line_in.lines.items ≡ read ++ [] =
+          ap (λ v. map written_of v.items) w.lines-is ∙ sym (append-nil read) in
+          ap (λ v. v ++ rest) same ∙ next_line (λ part. part.now) _ read [] parts i _ c.loop-index-test.true
+          w.in_default.ensures c.loop-index.invariant)
     ]

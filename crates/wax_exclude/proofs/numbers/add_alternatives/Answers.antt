@@ -14,8 +14,12 @@ loop-pattern-preserved c =
     let own = c.args.own in
     let above = c.args.above in
     let number : c.if-ends_wild.number ≡ cond (ends_wild (members t)) above own = elim c.if-ends_wild.branch [
-      | then-ends_wild w ↦ w.number-is ∙ sym (ap (λ b. cond b above own) (sym c.ends_wild.ensures ∙ w.if-ends_wild.true))
-      | else-ends_wild w ↦ w.number-is ∙ sym (ap (λ b. cond b above own) (sym c.ends_wild.ensures ∙ w.if-ends_wild.false))
+      | then-ends_wild w ↦ w.number-is
+          ∙ sym (ap (λ b. cond b above own) (sym c.ends_wild.ensures ∙ w.if-ends_wild.true))
+      | else-ends_wild w ↦ w.number-is
+          ∙ sym (ap (λ b. cond b above own) (sym c.ends_wild.ensures ∙ w.if-ends_wild.false))
     ] in
-    alternative_added (λ k s. MeansNumbered c.args.patterns.now.items k s ⊎ MatchesBy own above ts k s) own above c.loop-pattern.pattern-index ts t
-    c.loop-pattern.patterns.items c.push.new.self.items _ c.loop-pattern-test.true c.pattern-item.is c.in_ok-push.ensures.items number refl c.loop-pattern.invariant
+    alternative_added (λ k s. MeansNumbered c.args.patterns.now.items k s ⊎ MatchesBy own above ts k s) own
+    above c.loop-pattern.pattern-index ts t
+    c.loop-pattern.patterns.items c.push.new.self.items _ c.loop-pattern-test.true c.pattern-item.is
+    c.in_ok-push.ensures.items number refl c.loop-pattern.invariant

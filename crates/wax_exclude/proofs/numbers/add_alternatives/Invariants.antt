@@ -6,5 +6,6 @@ use Rattle.wax_exclude.proofs.numbers.add_alternatives.Given as goal
 
 abbrev pub invariant-loop-pattern : goal.invariant-loop-pattern
 invariant-loop-pattern l =
-    Completes (λ k s. MeansNumbered l.fn.patterns.items k s ⊎ MatchesBy l.own l.above l.alternatives k s) l.patterns.items
+    Completes (λ k s. MeansNumbered l.fn.patterns.items k s ⊎ MatchesBy l.own l.above l.alternatives k s)
+    l.patterns.items
     (MatchesBy l.own l.above (drop l.pattern-index l.alternatives))

@@ -9,12 +9,14 @@ loop-alternative-preserved c =
     let loop = c.loop-alternative in
     let keeps = c.in_ok-add.ensures.keeps in (
       (λ s pass. keeps s (loop.invariant.0 s pass)),
-      alternative_passes c.args.alternatives.now loop.alternative-index c.alternative-item.result loop.literals c.add.new.self
+      alternative_passes c.args.alternatives.now loop.alternative-index c.alternative-item.result
+          loop.literals c.add.new.self
           c.loop-alternative-test.true c.alternative-item.is keeps c.in_ok-add.ensures.adds loop.invariant.1,
     )
 
 pub returns-clause-adds : goal.returns-clause-adds
 returns-clause-adds c =
     subst (λ ts. AlternativesPass ts c.loop-alternative.literals)
-    (take_all c.loop-alternative.alternative-index c.args.alternatives.now (omega (arith, c.loop-alternative-test.false)))
+    (take_all c.loop-alternative.alternative-index c.args.alternatives.now
+    (omega (arith, c.loop-alternative-test.false)))
     c.loop-alternative.invariant.1

@@ -8,5 +8,6 @@ pub returns : goal.returns
 returns c =
     let lines = c.args.lines.now in
     let n = c.args.settled in
-    let whole : take (length lines - n) (drop n lines) ≡ drop n lines = take_all (length lines - n) (drop n lines) (omega (arith, length-drop n lines)) in
+    let whole : take (length lines - n) (drop n lines) ≡ drop n lines =
+    take_all (length lines - n) (drop n lines) (omega (arith, length-drop n lines)) in
     c.some_covers.ensures ∙ ap (list_any Everything) whole ∙ any_from lines n c.requires.marks

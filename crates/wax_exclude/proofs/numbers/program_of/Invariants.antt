@@ -5,4 +5,5 @@ use Rattle.wax_exclude.proofs.numbers.program_of.Given as goal
 
 abbrev pub invariant-loop-index : goal.invariant-loop-index
 invariant-loop-index l =
-    (l.number ≤ l.index) × Completes (HasMatch l.top 0 l.lines) l.patterns.items (HasMatch l.top l.number (drop l.index l.lines))
+    (l.number ≤ l.index) × Completes (HasMatch l.top 0 l.lines) l.patterns.items
+    (HasMatch l.top l.number (drop l.index l.lines))

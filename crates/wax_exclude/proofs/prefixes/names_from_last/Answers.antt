@@ -10,5 +10,6 @@ returns c =
     ap from_last c.reverse.ensures.items
     ∙ reversed_last copies
     ∙ sym (append-nil (map string_bytes copies))
-    ∙ ap (λ v. map string_bytes copies ++ map (λ x. x.now) v) (sym (drop_of_length-le c.deref-name-items.result.now c.loop-name-test.false))
+    ∙ ap (λ v. map string_bytes copies ++ map (λ x. x.now) v)
+    (sym (drop_of_length-le c.deref-name-items.result.now c.loop-name-test.false))
     ∙ c.loop-name.invariant

@@ -25,7 +25,8 @@ pub returns-then-eq : goal.returns-then-eq
 returns-then-eq c =
     let name = c.in_ok-name.name in
     let other = c.in_ok-other.other in
-    let same : string_bytes name ≡ string_bytes other = (bytes_eq-Decides (string_bytes name) (string_bytes other)).0 (sym c.if-eq.ensures) in (
+    let same : string_bytes name ≡ string_bytes other =
+    (bytes_eq-Decides (string_bytes name) (string_bytes other)).0 (sym c.if-eq.ensures) in (
       ap from_last c.in_ok-name.ensures.items ∙ from_last_end c.pop.new.self.items name,
       ap from_last c.in_ok-other.ensures.items ∙ from_last_end c.pop-2.new.self.items other
           ∙ ap (λ v. v ∷ from_last c.pop-2.new.self.items) (sym same),

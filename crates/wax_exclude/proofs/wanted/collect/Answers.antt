@@ -14,7 +14,8 @@ returns-clause-wanted g c =
     let laws = g.met.I.Directory.Directory in
     map_ok (λ r h d request s listed comes can shows told.
     let tells = law.tells r.1 in
-    let named = well_named law d request.origin.path s (λ p l. laws.inner d p l) (λ p t. laws.distinct d p t) shows in
+    let named =
+    well_named law d request.origin.path s (λ p l. laws.inner d p l) (λ p t. laws.distinct d p t) shows in
     let all = all_gave law d (walk_for request) _ tells s listed h.0 comes shows told h.1.all in
     subst (KeepsWanted tells request s listed) (sym h.3)
     (keeps_wanted c.law_of_walks.ensures tells request s listed h.0 can named all))

@@ -23,14 +23,16 @@ returns-clause-took g c =
 
 pub returns-clause-known : goal.returns-clause-known
 returns-clause-known g c =
-    map_ok (λ r h. all_before (g.I.FileIterator.known c.args.walk) _ r.0.items c.excluding-kept.ensures.known h)
+    map_ok
+    (λ r h. all_before (g.I.FileIterator.known c.args.walk) _ r.0.items c.excluding-kept.ensures.known h)
     c.collect.result c.collect.ensures.known
 
 pub returns-clause-wanted : goal.returns-clause-wanted
 returns-clause-wanted g c =
     map_ok (λ r h d request filters s listed comes are can shows told.
     h d (request_excluding request filters) s listed
-    (filters_come g.I.Directory.Directory.law d request filters (map g.R.Exclude.rule c.args.rules.items) _ _ _ are
+    (filters_come g.I.Directory.Directory.law d request filters
+    (map g.R.Exclude.rule c.args.rules.items) _ _ _ are
     c.new.ensures comes c.excluding-kept.ensures.view)
     can shows told)
     c.collect.result c.collect.ensures.wanted
@@ -41,6 +43,7 @@ returns-clause-answered g c =
     let seen = c.excluding-kept.ensures.view in
     map_ok (λ r h d request filters comes are can.
     answered_before law _ _ r.1 _ seen.directory (h d (request_excluding request filters)
-    (filters_come law d request filters (map g.R.Exclude.rule c.args.rules.items) _ _ _ are c.new.ensures comes seen)
+    (filters_come law d request filters (map g.R.Exclude.rule c.args.rules.items) _ _ _ are
+    c.new.ensures comes seen)
     can))
     c.collect.result c.collect.ensures.answered

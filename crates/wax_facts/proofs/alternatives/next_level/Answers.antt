@@ -18,7 +18,8 @@ loop-token-preserved g c =
     sym c.opened.ensures.levels ∙ c.in-Err.ensures.levels in
     record {
       all = one_found c.loop-token.found.items c.push.new.self.items c.loop-token.below.items left rest _
-          c.in-Some.token c.in-Err.token own taken c.in_ok-push-in-Err.ensures.items c.loop-token.invariant.all;
+          c.in-Some.token c.in-Err.token own taken c.in_ok-push-in-Err.ensures.items
+          c.loop-token.invariant.all;
       less = omega (arith, more, size, c.loop-token.invariant.less);
       given = omega (arith, more, ap length taken, c.loop-token.invariant.given);
       count = search rules;

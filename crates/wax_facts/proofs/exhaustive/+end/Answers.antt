@@ -6,7 +6,9 @@ use Rattle.wax_facts.proofs.exhaustive.+end.Goals as goal
 pub exhaustive_of_branches-loop-index-preserved : goal.exhaustive_of_branches-loop-index-preserved
 exhaustive_of_branches-loop-index-preserved g t c = record {
   within = omega (arith, c.loop-index.invariant.within);
-  common = exhaustive_put c.args.tokens.now c.loop-index.index c.index-tokens-index-in-loop-index.result c.loop-index.common c.certainty-common.result
-      (omega (arith, c.loop-index-test.true)) c.loop-index.invariant.within c.index-tokens-index-in-loop-index.is c.loop-index.invariant.common
+  common = exhaustive_put c.args.tokens.now c.loop-index.index c.index-tokens-index-in-loop-index.result
+      c.loop-index.common c.certainty-common.result
+      (omega (arith, c.loop-index-test.true)) c.loop-index.invariant.within
+      c.index-tokens-index-in-loop-index.is c.loop-index.invariant.common
       (c.certainty-common.ensures.common ∙ ap (λ z. certainty z c.loop-index.common) c.exhaustive_of.ensures);
 }

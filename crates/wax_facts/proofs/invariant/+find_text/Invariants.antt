@@ -18,7 +18,8 @@ decreases-text_of_copies g l = 2 * tree_size l.copies.now.token.value + 1
 
 -- where the first branch and those still to come have the text, all have it
 abbrev pub invariant-text_of_all-loop-token : goal.invariant-text_of_all-loop-token
-invariant-text_of_all-loop-token g l = TextOfAll (trees (take 1 l.tokens ++ drop l.token-index l.others)) (chars (string_bytes l.text))
+invariant-text_of_all-loop-token g l =
+    TextOfAll (trees (take 1 l.tokens ++ drop l.token-index l.others)) (chars (string_bytes l.text))
     → TextOfAll (trees l.tokens) (chars (string_bytes l.text))
 
 -- what is joined and the text of the tokens still to come are the text of all

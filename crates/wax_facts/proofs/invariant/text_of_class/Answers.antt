@@ -8,4 +8,5 @@ use Rattle.wax_facts.proofs.invariant.text_of_class.Goals as goal
 pub returns : goal.returns
 returns c =
     let e : string_bytes c.push.new.self ≡ encode_utf8 c.in-Some.c = search rules in
-    subst (LeafText (class c.args.set.now.0 c.args.set.now.1)) (sym (char_text c.in-Some.c (string_bytes c.push.new.self) (IsUtf8-string_bytes c.push.new.self) e)) c.in-Some.ensures
+    subst (LeafText (class c.args.set.now.0 c.args.set.now.1)) (sym (char_text c.in-Some.c
+    (string_bytes c.push.new.self) (IsUtf8-string_bytes c.push.new.self) e)) c.in-Some.ensures

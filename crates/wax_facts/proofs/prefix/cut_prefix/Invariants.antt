@@ -9,7 +9,8 @@ use Rattle.wax_facts.proofs.prefix.cut_prefix.Given as goal
 abbrev pub invariant-loop-first : goal.invariant-loop-first
 invariant-loop-first g l = record {
   first : IsOpened (trees l.left);
-  taken : Taken (opened_last (trees l.tokens)) (opened_last (trees l.left)) l.taken l.cut.0 (chars (string_bytes l.cut.1)) (chars (string_bytes l.after_slash));
+  taken : Taken (opened_last (trees l.tokens)) (opened_last (trees l.left)) l.taken l.cut.0
+      (chars (string_bytes l.cut.1)) (chars (string_bytes l.after_slash));
 }
 
 abbrev pub decreases-loop-first : goal.decreases-loop-first

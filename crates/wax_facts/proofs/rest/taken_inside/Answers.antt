@@ -1,4 +1,5 @@
-use Rattle.std.proofs.Common.{◌≡◌, ◌∙◌, ◌-◌, ◌<◌, ◌≤◌, ◌||◌, nat_lt, length, ap, sym, subst, true, false, rules, Some, None, MatchOption}
+use Rattle.std.proofs.Common.{◌≡◌, ◌∙◌, ◌-◌, ◌<◌, ◌≤◌, ◌||◌, nat_lt, length, ap, sym, subst, true, false}
+use Rattle.std.proofs.Common.{rules, Some, None, MatchOption}
 use Rattle.wax_token.specs.Words.{trees}
 use Rattle.wax_facts.specs.Prefix.{opened}
 use Rattle.wax_facts.specs.Rest.{begins_with_tree}
@@ -10,16 +11,20 @@ pub returns-in_err-inside : goal.returns-in_err-inside
 returns-in_err-inside c =
     let r : c.from_residual-in_err-inside.result ≡ None = search rules in
     let lt : c.args.taken < length c.in_ok-last.before.now = search rules in
-    subst (λ z. MatchOption z (inside (trees c.args.tokens.now) c.args.taken ≡ None) (λ k. IsInside (trees c.args.tokens.now) c.args.taken k)) (sym r)
-    (inside_before c.args.tokens.now c.in_ok-last.before.now c.in_ok-last.last.now c.args.taken c.in_ok-last.ensures.cases.0 lt)
+    subst (λ z. MatchOption z (inside (trees c.args.tokens.now) c.args.taken ≡ None)
+    (λ k. IsInside (trees c.args.tokens.now) c.args.taken k)) (sym r)
+    (inside_before c.args.tokens.now c.in_ok-last.before.now c.in_ok-last.last.now c.args.taken
+    c.in_ok-last.ensures.cases.0 lt)
 
 pub returns-in_err-open_body : goal.returns-in_err-open_body
 returns-in_err-open_body c =
     let r : c.from_residual-in_err-open_body.result ≡ None = search rules in
     let le : length c.in_ok-last.before.now ≤ c.args.taken = search rules in
     let o : open_body c.in_ok-last.last.now ≡ None = search rules in
-    subst (λ z. MatchOption z (inside (trees c.args.tokens.now) c.args.taken ≡ None) (λ k. IsInside (trees c.args.tokens.now) c.args.taken k)) (sym r)
-    (inside_last c.args.tokens.now c.in_ok-last.before.now c.in_ok-last.last.now c.args.taken c.in_ok-last.ensures.cases.0 le
+    subst (λ z. MatchOption z (inside (trees c.args.tokens.now) c.args.taken ≡ None)
+    (λ k. IsInside (trees c.args.tokens.now) c.args.taken k)) (sym r)
+    (inside_last c.args.tokens.now c.in_ok-last.before.now c.in_ok-last.last.now c.args.taken
+    c.in_ok-last.ensures.cases.0 le
     ∙ ap (entered_body (c.args.taken - length c.in_ok-last.before.now)) o)
 
 pub returns-then-rest_begins_inside : goal.returns-then-rest_begins_inside
@@ -30,8 +35,10 @@ returns-then-rest_begins_inside c =
     let o : open_body c.in_ok-last.last.now ≡ Some body = search rules in
     let e : (nat_lt 0 c.in_ok-inside.inside || begins_with_tree (opened body)) ≡ true = search rules in (
       body,
-      inside_last c.args.tokens.now c.in_ok-last.before.now c.in_ok-last.last.now c.args.taken c.in_ok-last.ensures.cases.0 le
-          ∙ ap (λ z. entered_body z (open_body c.in_ok-last.last.now)) (sym k) ∙ ap (entered_body c.in_ok-inside.inside) o ∙ entered_yes c.in_ok-inside.inside body e,
+      inside_last c.args.tokens.now c.in_ok-last.before.now c.in_ok-last.last.now c.args.taken
+          c.in_ok-last.ensures.cases.0 le
+          ∙ ap (λ z. entered_body z (open_body c.in_ok-last.last.now)) (sym k)
+          ∙ ap (entered_body c.in_ok-inside.inside) o ∙ entered_yes c.in_ok-inside.inside body e,
     )
 
 pub returns : goal.returns
@@ -41,5 +48,7 @@ returns c =
     let k : c.in_ok-inside.inside ≡ c.args.taken - length c.in_ok-last.before.now = search rules in
     let o : open_body c.in_ok-last.last.now ≡ Some body = search rules in
     let e : (nat_lt 0 c.in_ok-inside.inside || begins_with_tree (opened body)) ≡ false = search rules in
-    inside_last c.args.tokens.now c.in_ok-last.before.now c.in_ok-last.last.now c.args.taken c.in_ok-last.ensures.cases.0 le
-    ∙ ap (λ z. entered_body z (open_body c.in_ok-last.last.now)) (sym k) ∙ ap (entered_body c.in_ok-inside.inside) o ∙ entered_no c.in_ok-inside.inside body e
+    inside_last c.args.tokens.now c.in_ok-last.before.now c.in_ok-last.last.now c.args.taken
+    c.in_ok-last.ensures.cases.0 le
+    ∙ ap (λ z. entered_body z (open_body c.in_ok-last.last.now)) (sym k)
+    ∙ ap (entered_body c.in_ok-inside.inside) o ∙ entered_no c.in_ok-inside.inside body e

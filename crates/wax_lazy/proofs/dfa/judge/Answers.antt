@@ -14,10 +14,12 @@ returns-then-reads_last-clause-decides c =
     let text = chars c.args.text.now in
     let name = chars c.last_name.result.now in
     let last = c.requires.last (search rules) in
-    let by_name = subst (λ n. IsTrue c.in_ok-is_match.is_match ↔ Accepts code n name) (c.requires.cache.name (search rules)) c.in_ok-is_match.ensures.decides in
+    let by_name = subst (λ n. IsTrue c.in_ok-is_match.is_match ↔ Accepts code n name)
+    (c.requires.cache.name (search rules)) c.in_ok-is_match.ensures.decides in
     let by_flags = decides_by c.holds.result _ _ (c.requires.onward Path 0) c.holds.ensures in
     record {
-      matches = decides_by c.in_ok-is_match.is_match _ _ (name_decides code text name last c.last_name.ensures.name) by_name;
+      matches = decides_by c.in_ok-is_match.is_match _ _
+          (name_decides code text name last c.last_name.ensures.name) by_name;
       below = decides_by c.holds.result _ _ (last_below code last text) by_flags;
     }
 
@@ -27,8 +29,11 @@ returns-clause-decides c =
     let text = chars c.args.text.now in
     let states = c.follow_text.new.cache.table.states.items in
     let begins = c.follow_text.ensures.kept.start ∙ c.requires.cache.whole (search rules) in
-    let next = subst (λ n. LeadsText code states n text c.in_ok-next.next) (c.requires.cache.whole (search rules)) c.in_ok-next.ensures.leads in
-    let at = subst (λ n. IsAheadVerdict code n text c.below.result c.verdict_at.result) begins (c.verdict_at.ensures.decides text (subst (λ n. LeadsText code states n text c.in_ok-next.next) (sym begins) next)) in
+    let next = subst (λ n. LeadsText code states n text c.in_ok-next.next)
+    (c.requires.cache.whole (search rules)) c.in_ok-next.ensures.leads in
+    let at = subst (λ n. IsAheadVerdict code n text c.below.result c.verdict_at.result) begins
+    (c.verdict_at.ensures.decides text
+    (subst (λ n. LeadsText code states n text c.in_ok-next.next) (sym begins) next)) in
     let way = subst (λ m. IsAheadVerdict code 0 text m c.verdict_at.result) c.below.ensures at in
     record {
       matches = way.matches;

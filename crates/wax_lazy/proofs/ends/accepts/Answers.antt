@@ -9,12 +9,15 @@ pub returns-in-To-clause-decides : goal.returns-in-To-clause-decides
 returns-in-To-clause-decides c =
     let leads = (rw c.in-To.is at c.in_ok-state.ensures.leads).1 in
     let places = places_at c.follow_text.new.cache.table.states.items c.in-To.state in
-    decides_by c.accepts.result _ _ (matches_at c.args.program.now.0 c.args.cache.now.start (chars c.args.text.now) Rest places leads) c.accepts.ensures.accepts
+    decides_by c.accepts.result _ _ (matches_at c.args.program.now.0 c.args.cache.now.start
+    (chars c.args.text.now) Rest places leads) c.accepts.ensures.accepts
 
 pub returns-in-Nothing-clause-decides : goal.returns-in-Nothing-clause-decides
 returns-in-Nothing-clause-decides c =
-    (verdict_nothing c.args.program.now.0 c.args.cache.now.start (chars c.args.text.now) Rest (rw c.in-Nothing.is at c.in_ok-state.ensures.leads)).matches
+    (verdict_nothing c.args.program.now.0 c.args.cache.now.start (chars c.args.text.now) Rest
+    (rw c.in-Nothing.is at c.in_ok-state.ensures.leads)).matches
 
 pub returns-in-Everything-clause-decides : goal.returns-in-Everything-clause-decides
 returns-in-Everything-clause-decides c =
-    (verdict_everything c.args.program.now.0 c.args.cache.now.start (chars c.args.text.now) Rest (rw c.in-Everything.is at c.in_ok-state.ensures.leads)).matches
+    (verdict_everything c.args.program.now.0 c.args.cache.now.start (chars c.args.text.now) Rest
+    (rw c.in-Everything.is at c.in_ok-state.ensures.leads)).matches

@@ -12,10 +12,13 @@ returns-in-To-clause-decides c = λ text led.
     let states = c.args.cache.now.table.states.items in
     let places = places_at states c.in-To.state in
     let leads = (rw c.in-To.is at led).1 in
-    let ahead = subst (λ p. IsTrue c.any_ahead.result ↔ AnyAhead c.args.onward.now c.args.m p) (sym c.places.ensures) c.any_ahead.ensures in
+    let ahead = subst (λ p. IsTrue c.any_ahead.result ↔ AnyAhead c.args.onward.now c.args.m p)
+    (sym c.places.ensures) c.any_ahead.ensures in
     record {
-      matches = decides_by c.accepts.result _ _ (matches_at code start text c.args.m places leads) c.accepts.ensures.accepts;
-      ahead = decides_by c.any_ahead.result _ _ (ahead_at code start text c.args.m places leads c.args.onward.now c.requires.onward) ahead;
+      matches = decides_by c.accepts.result _ _ (matches_at code start text c.args.m places leads)
+          c.accepts.ensures.accepts;
+      ahead = decides_by c.any_ahead.result _ _
+          (ahead_at code start text c.args.m places leads c.args.onward.now c.requires.onward) ahead;
     }
 
 pub returns-in-Nothing-clause-decides : goal.returns-in-Nothing-clause-decides
@@ -24,4 +27,5 @@ returns-in-Nothing-clause-decides c = λ text led.
 
 pub returns-in-Everything-clause-decides : goal.returns-in-Everything-clause-decides
 returns-in-Everything-clause-decides c = λ text led.
-    verdict_everything c.args.program.now.0 c.args.cache.now.start text c.args.m (rw c.in-Everything.is at led)
+    verdict_everything c.args.program.now.0 c.args.cache.now.start text c.args.m
+    (rw c.in-Everything.is at led)

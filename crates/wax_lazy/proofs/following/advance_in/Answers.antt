@@ -9,5 +9,6 @@ returns-in-Some-clause-decides c =
     let code = c.args.program.now.0 in
     let text : List ℕ = c.args.text.now in
     let states = c.args.cache.now.table.states.items in
-    next_decides code states (places_at states c.args.state) (drop c.args.index text) (drop (c.args.index + 1) text) (get_or text c.args.index 0) c.in-Some.next
+    next_decides code states (places_at states c.args.state) (drop c.args.index text)
+    (drop (c.args.index + 1) text) (get_or text c.args.index 0) c.in-Some.next
     (next_of text c.args.index c.requires.within) (c.in-Some.ensures code c.requires.here.cache)

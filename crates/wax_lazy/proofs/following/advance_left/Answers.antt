@@ -12,9 +12,11 @@ pub returns-in_ok-next-in-Some-next-clause-utf8 : goal.returns-in_ok-next-in-Som
 returns-in_ok-next-in-Some-next-clause-utf8 c =
     let left : List ℕ = c.args.left.now in
     let rest : List ℕ = chars_rest c.next.new.self in
-    let begins : left ≡ encode_utf8 c.in-Some-next.c ++ rest = sym c.chars-all.ensures.rest ∙ c.in-Some-next.ensures.steps.0 in
+    let begins : left ≡ encode_utf8 c.in-Some-next.c ++ rest =
+    sym c.chars-all.ensures.rest ∙ c.in-Some-next.ensures.steps.0 in
     let zero : len_utf8 c.in-Some-next.c ≡ 0 + len_utf8 c.in-Some-next.c = omega arith in
-    let after : drop c.len_utf8.result left ≡ rest = ap (λ n. drop n left) (c.len_utf8.ensures.value ∙ zero) ∙ drop_past_char left rest 0 c.in-Some-next.c begins in
+    let after : drop c.len_utf8.result left ≡ rest = ap (λ n. drop n left) (c.len_utf8.ensures.value ∙ zero)
+    ∙ drop_past_char left rest 0 c.in-Some-next.c begins in
     subst IsUtf8 (sym after) (IsUtf8-past_char left rest c.in-Some-next.c c.utf8.left begins)
 
 pub returns-in_ok-next-in-Some-next-clause-decides : goal.returns-in_ok-next-in-Some-next-clause-decides
@@ -25,9 +27,12 @@ returns-in_ok-next-in-Some-next-clause-decides c =
     let next = c.in_ok-next-in-Some-next.next in
     let left : List ℕ = c.args.left.now in
     let rest : List ℕ = chars_rest c.next.new.self in
-    let begins : left ≡ encode_utf8 c.in-Some-next.c ++ rest = sym c.chars-all.ensures.rest ∙ c.in-Some-next.ensures.steps.0 in
+    let begins : left ≡ encode_utf8 c.in-Some-next.c ++ rest =
+    sym c.chars-all.ensures.rest ∙ c.in-Some-next.ensures.steps.0 in
     let zero : len_utf8 c.in-Some-next.c ≡ 0 + len_utf8 c.in-Some-next.c = omega arith in
-    let after : drop c.len_utf8.result left ≡ rest = ap (λ n. drop n left) (c.len_utf8.ensures.value ∙ zero) ∙ drop_past_char left rest 0 c.in-Some-next.c begins in
+    let after : drop c.len_utf8.result left ≡ rest = ap (λ n. drop n left) (c.len_utf8.ensures.value ∙ zero)
+    ∙ drop_past_char left rest 0 c.in-Some-next.c begins in
     let first = chars_past_char left rest c.in-Some-next.c c.utf8.left begins in
     subst (λ z. DecidesLeft code states places (chars left) (chars z) next) (sym after)
-    (next_decides code states places (chars left) (chars rest) c.in-Some-next.c next first c.in_ok-next-in-Some-next.ensures.leads)
+    (next_decides code states places (chars left) (chars rest) c.in-Some-next.c next first
+    c.in_ok-next-in-Some-next.ensures.leads)

@@ -20,10 +20,14 @@ returns-in_default c =
     let code = c.args.program.now.0 in
     let text : List ℕ = c.args.text.now in
     let new = c.advance_in.new.cache.table.states.items in
-    let led = leads_on code (λ s. Accepts code c.args.cache.now.start (text ++ s)) new _ (drop c.loop-index.index text) (drop c.in_ok-next.end text) c.in_ok-next.next
+    let led = leads_on code (λ s. Accepts code c.args.cache.now.start (text ++ s)) new _
+    (drop c.loop-index.index text) (drop c.in_ok-next.end text) c.in_ok-next.next
     c.loop-index.invariant.stays c.in_ok-next.ensures.decides in
     record {
-      kept = record { cache = c.advance_in.ensures.kept.cache; start = c.advance_in.ensures.kept.start ∙ c.loop-index.invariant.start };
+      kept = record {
+        cache = c.advance_in.ensures.kept.cache;
+        start = c.advance_in.ensures.kept.start ∙ c.loop-index.invariant.start;
+      };
       leads = leads_past code _ new (drop c.in_ok-next.end text) c.in_ok-next.next c.in_default.not-To led;
     }
 
@@ -31,7 +35,9 @@ pub loop-index-preserved : goal.loop-index-preserved
 loop-index-preserved c =
     let code = c.args.program.now.0 in
     let text : List ℕ = c.args.text.now in
-    let led = leads_on code (λ s. Accepts code c.args.cache.now.start (text ++ s)) c.advance_in.new.cache.table.states.items _ (drop c.loop-index.index text) (drop c.in_ok-next.end text) c.in_ok-next.next
+    let led = leads_on code (λ s. Accepts code c.args.cache.now.start (text ++ s))
+    c.advance_in.new.cache.table.states.items _ (drop c.loop-index.index text)
+    (drop c.in_ok-next.end text) c.in_ok-next.next
     c.loop-index.invariant.stays c.in_ok-next.ensures.decides in
     let to = rw c.in-To.is at led in
     record {
@@ -45,5 +51,7 @@ loop-index-preserved c =
 pub returns-clause-leads : goal.returns-clause-leads
 returns-clause-leads c =
     let held = c.loop-index.invariant in
-    let end : drop c.loop-index.index c.args.text.now ≡ [] = drop_all c.loop-index.index c.args.text.now c.loop-index-test.false in
-    leads_end c.args.program.now.0 _ c.loop-index.cache.table.states.items _ c.loop-index.state end held.has_state held.stays
+    let end : drop c.loop-index.index c.args.text.now ≡ [] =
+    drop_all c.loop-index.index c.args.text.now c.loop-index-test.false in
+    leads_end c.args.program.now.0 _ c.loop-index.cache.table.states.items _ c.loop-index.state end
+    held.has_state held.stays

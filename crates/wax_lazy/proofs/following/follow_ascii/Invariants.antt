@@ -11,7 +11,8 @@ invariant-loop-index l = record {
   start : l.cache.start ≡ l.fn.cache.start;
   has_state : HasState l.cache.table.states.items l.state;
   within : l.index ≤ length l.text;
-  stays : (s : List ℕ) → Accepts l.program.0 l.fn.cache.start (l.text ++ s) ↔ AnyAmong l.program.0 (places_at l.cache.table.states.items l.state) (drop l.index l.text ++ s);
+  stays : (s : List ℕ) → Accepts l.program.0 l.fn.cache.start (l.text ++ s)
+      ↔ AnyAmong l.program.0 (places_at l.cache.table.states.items l.state) (drop l.index l.text ++ s);
 }
 
 abbrev pub decreases-loop-index : goal.decreases-loop-index

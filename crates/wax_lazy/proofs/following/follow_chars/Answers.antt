@@ -18,7 +18,8 @@ loop-left-init c =
     }
 
 pub range_from-left-requires : goal.range_from-left-requires
-range_from-left-requires c = λ _. IsCharBoundary-from_drop c.loop-left.left.now c.in_ok-next.end c.in_ok-next.ensures.further.1 c.in_ok-next.ensures.utf8
+range_from-left-requires c = λ _. IsCharBoundary-from_drop c.loop-left.left.now c.in_ok-next.end
+    c.in_ok-next.ensures.further.1 c.in_ok-next.ensures.utf8
 
 pub returns-in_default : goal.returns-in_default
 returns-in_default c =
@@ -26,11 +27,16 @@ returns-in_default c =
     let text : List ℕ = chars c.args.text.now in
     let left : List ℕ = c.loop-left.left.now in
     let new = c.advance_left.new.cache.table.states.items in
-    let led = leads_on code (λ s. Accepts code c.args.cache.now.start (text ++ s)) new _ (chars left) (chars (drop c.in_ok-next.end left)) c.in_ok-next.next
+    let led = leads_on code (λ s. Accepts code c.args.cache.now.start (text ++ s)) new _ (chars left)
+    (chars (drop c.in_ok-next.end left)) c.in_ok-next.next
     c.loop-left.invariant.stays c.in_ok-next.ensures.decides in
     record {
-      kept = record { cache = c.advance_left.ensures.kept.cache; start = c.advance_left.ensures.kept.start ∙ c.loop-left.invariant.start };
-      leads = leads_past code _ new (chars (drop c.in_ok-next.end left)) c.in_ok-next.next c.in_default.not-To led;
+      kept = record {
+        cache = c.advance_left.ensures.kept.cache;
+        start = c.advance_left.ensures.kept.start ∙ c.loop-left.invariant.start;
+      };
+      leads = leads_past code _ new (chars (drop c.in_ok-next.end left)) c.in_ok-next.next
+          c.in_default.not-To led;
     }
 
 pub loop-left-preserved : goal.loop-left-preserved
@@ -38,7 +44,9 @@ loop-left-preserved c =
     let code = c.args.program.now.0 in
     let text : List ℕ = chars c.args.text.now in
     let left : List ℕ = c.loop-left.left.now in
-    let led = leads_on code (λ s. Accepts code c.args.cache.now.start (text ++ s)) c.advance_left.new.cache.table.states.items _ (chars left) (chars (drop c.in_ok-next.end left)) c.in_ok-next.next
+    let led = leads_on code (λ s. Accepts code c.args.cache.now.start (text ++ s))
+    c.advance_left.new.cache.table.states.items _ (chars left)
+    (chars (drop c.in_ok-next.end left)) c.in_ok-next.next
     c.loop-left.invariant.stays c.in_ok-next.ensures.decides in
     let to = rw (sym c.range_from-left.ensures.value) at (rw c.in-To.is at led) in
     record {
@@ -54,4 +62,5 @@ returns-clause-leads c =
     let held = c.loop-left.invariant in
     let none : length c.loop-left.left.now ≡ 0 = search rules in
     let end : chars c.loop-left.left.now ≡ [] = ap chars (nil_from_length _ none) ∙ chars-nil in
-    leads_end c.args.program.now.0 _ c.loop-left.cache.table.states.items _ c.loop-left.state end held.has_state held.stays
+    leads_end c.args.program.now.0 _ c.loop-left.cache.table.states.items _ c.loop-left.state end
+    held.has_state held.stays

@@ -12,7 +12,8 @@ invariant-loop-left l = record {
   cache : IsCacheOf l.program.0 l.cache;
   start : l.cache.start ≡ l.fn.cache.start;
   has_state : HasState l.cache.table.states.items l.state;
-  stays : (s : List ℕ) → Accepts l.program.0 l.fn.cache.start (chars l.text ++ s) ↔ AnyAmong l.program.0 (places_at l.cache.table.states.items l.state) (chars l.left ++ s);
+  stays : (s : List ℕ) → Accepts l.program.0 l.fn.cache.start (chars l.text ++ s)
+      ↔ AnyAmong l.program.0 (places_at l.cache.table.states.items l.state) (chars l.left ++ s);
 }
 
 abbrev pub decreases-loop-left : goal.decreases-loop-left

@@ -5,5 +5,7 @@ use Rattle.wax_lazy.proofs.following.follow_text.Goals as goal
 
 pub returns-then-is_ascii-clause-leads : goal.returns-then-is_ascii-clause-leads
 returns-then-is_ascii-clause-leads c =
-    subst (λ z. IfOk c.follow_ascii.result (LeadsText c.args.program.now.0 c.follow_ascii.new.cache.table.states.items c.args.cache.now.start z))
-    (c.as_bytes.ensures.value ∙ sym (chars-IsAscii c.args.text.now c.if-is_ascii.ensures.cases)) c.follow_ascii.ensures.leads
+    subst (λ z. IfOk c.follow_ascii.result
+    (LeadsText c.args.program.now.0 c.follow_ascii.new.cache.table.states.items c.args.cache.now.start z))
+    (c.as_bytes.ensures.value ∙ sym (chars-IsAscii c.args.text.now c.if-is_ascii.ensures.cases))
+    c.follow_ascii.ensures.leads

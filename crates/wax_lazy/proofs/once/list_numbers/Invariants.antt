@@ -9,5 +9,6 @@ abbrev pub invariant-loop-c : goal.invariant-loop-c
 invariant-loop-c l = record {
   utf8 : IsUtf8 (chars_rest l.left);
   stepper : l.stepper ≡ length l.program.0;
-  stays : (s : List ℕ) → Accepts l.program.0 0 (chars l.text ++ s) ↔ AnyAmong l.program.0 l.places.items (chars (chars_rest l.left) ++ s);
+  stays : (s : List ℕ) → Accepts l.program.0 0 (chars l.text ++ s)
+      ↔ AnyAmong l.program.0 l.places.items (chars (chars_rest l.left) ++ s);
 }

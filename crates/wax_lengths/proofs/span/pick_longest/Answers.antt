@@ -12,7 +12,8 @@ loop-span-init c = record {
 }
 
 pub returns-clause-picked : goal.returns-clause-picked
-returns-clause-picked c = left_none c.args.span.now c.loop-span.span (drop c.args.at c.args.text.now) c.loop-span-test.false c.loop-span.invariant.left
+returns-clause-picked c = left_none c.args.span.now c.loop-span.span (drop c.args.at c.args.text.now)
+    c.loop-span-test.false c.loop-span.invariant.left
 
 pub returns-clause-narrowed : goal.returns-clause-narrowed
 returns-clause-narrowed c = c.loop-span.invariant.left.from

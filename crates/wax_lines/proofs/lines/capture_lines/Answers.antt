@@ -10,16 +10,21 @@ pub returns-in_err-matcher-clause-stopped : goal.returns-in_err-matcher-clause-s
 returns-in_err-matcher-clause-stopped g c =
     let left = g.R.Read.remaining c.args.input.now.inner in
     let held = g.W.Write.contents c.args.output.now.inner in
-    let Writes = WritesCaptures (g.P.Program.means c.args.program.now) (g.P.Program.captured c.args.program.now) in
+    let Writes =
+    WritesCaptures (g.P.Program.means c.args.program.now) (g.P.Program.captured c.args.program.now) in
     if_err _ c.from_residual.result c.from_residual.ensures.1
     (λ e q. subst (Stopped Writes left left held held) (sym q) (stopped_at_once Writes left held))
 
 pub returns-clause-done : goal.returns-clause-done
 returns-clause-done g c =
-    let alike = captured_as _ _ (g.P.Program.means c.args.program.now) c.in_ok-matcher.ensures.decides (g.met.P.Program.is_decided c.args.program.now) (g.P.Program.captured c.args.program.now) in
-    IfOk-weaker c.filter_lines_by.result _ _ (λ answer h. filtered_as _ _ alike _ _ _ _ answer h) c.filter_lines_by.ensures.done
+    let alike = captured_as _ _ (g.P.Program.means c.args.program.now) c.in_ok-matcher.ensures.decides
+    (g.met.P.Program.is_decided c.args.program.now) (g.P.Program.captured c.args.program.now) in
+    IfOk-weaker c.filter_lines_by.result _ _ (λ answer h. filtered_as _ _ alike _ _ _ _ answer h)
+    c.filter_lines_by.ensures.done
 
 pub returns-clause-stopped : goal.returns-clause-stopped
 returns-clause-stopped g c =
-    let alike = captured_as _ _ (g.P.Program.means c.args.program.now) c.in_ok-matcher.ensures.decides (g.met.P.Program.is_decided c.args.program.now) (g.P.Program.captured c.args.program.now) in
-    IfErr-weaker c.filter_lines_by.result _ _ (λ error h. stopped_as _ _ alike _ _ _ _ error h) c.filter_lines_by.ensures.stopped
+    let alike = captured_as _ _ (g.P.Program.means c.args.program.now) c.in_ok-matcher.ensures.decides
+    (g.met.P.Program.is_decided c.args.program.now) (g.P.Program.captured c.args.program.now) in
+    IfErr-weaker c.filter_lines_by.result _ _ (λ error h. stopped_as _ _ alike _ _ _ _ error h)
+    c.filter_lines_by.ensures.stopped

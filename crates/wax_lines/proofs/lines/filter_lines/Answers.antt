@@ -16,10 +16,14 @@ returns-in_err-matcher-clause-stopped g c =
 
 pub returns-clause-done : goal.returns-clause-done
 returns-clause-done g c =
-    let alike = meant_as _ _ (g.P.Program.means c.args.program.now) c.in_ok-matcher.ensures.decides (g.met.P.Program.is_decided c.args.program.now) in
-    IfOk-weaker c.filter_lines_by.result _ _ (λ answer h. filtered_as _ _ alike _ _ _ _ answer h) c.filter_lines_by.ensures.done
+    let alike = meant_as _ _ (g.P.Program.means c.args.program.now) c.in_ok-matcher.ensures.decides
+    (g.met.P.Program.is_decided c.args.program.now) in
+    IfOk-weaker c.filter_lines_by.result _ _ (λ answer h. filtered_as _ _ alike _ _ _ _ answer h)
+    c.filter_lines_by.ensures.done
 
 pub returns-clause-stopped : goal.returns-clause-stopped
 returns-clause-stopped g c =
-    let alike = meant_as _ _ (g.P.Program.means c.args.program.now) c.in_ok-matcher.ensures.decides (g.met.P.Program.is_decided c.args.program.now) in
-    IfErr-weaker c.filter_lines_by.result _ _ (λ error h. stopped_as _ _ alike _ _ _ _ error h) c.filter_lines_by.ensures.stopped
+    let alike = meant_as _ _ (g.P.Program.means c.args.program.now) c.in_ok-matcher.ensures.decides
+    (g.met.P.Program.is_decided c.args.program.now) in
+    IfErr-weaker c.filter_lines_by.result _ _ (λ error h. stopped_as _ _ alike _ _ _ _ error h)
+    c.filter_lines_by.ensures.stopped

@@ -10,9 +10,18 @@ use Rattle.wax_match.proofs.encode.compile.Goals as goal
 pub new-requires : goal.new-requires
 new-requires g c =
     let ts = trees c.args.tokens.now in
-    let e : c.into_instructions.result.items ≡ sequence_code ts c.args.sides.before c.args.sides.after ++ [] = search rules in
-    let n : length c.into_instructions.result.items ≡ length (sequence_code ts c.args.sides.before c.args.sides.after) = ap length (e ∙ append-nil (sequence_code ts c.args.sides.before c.args.sides.after)) in
-    omega (arith, n, length-sequence ts c.args.sides.before c.args.sides.after, c.weigh_all-cost.ensures.cost, c.in_ok-tail.ensures.1)
+    let e : c.into_instructions.result.items ≡ sequence_code ts c.args.sides.before c.args.sides.after ++ [] =
+    search rules in
+    let n : length c.into_instructions.result.items
+    ≡ length (sequence_code ts c.args.sides.before c.args.sides.after) =
+    ap length (e ∙ append-nil (sequence_code ts c.args.sides.before c.args.sides.after)) in
+    omega (
+      arith,
+      n,
+      length-sequence ts c.args.sides.before c.args.sides.after,
+      c.weigh_all-cost.ensures.cost,
+      c.in_ok-tail.ensures.1,
+    )
 
 pub returns-clause-means : goal.returns-clause-means
 returns-clause-means g c =
@@ -21,6 +30,8 @@ returns-clause-means g c =
     let b : c.new.result.0 ≡ code ++ [] = search rules in
     let e : c.new.result.0 ≡ code = b ∙ append-nil code in
     λ s. (
-      (λ h. program_sound (compiled_sequence ts c.args.sides.before c.args.sides.after) s (subst (λ z. Accepts z 0 s) e h)),
-      (λ h. subst (λ z. Accepts z 0 s) (sym e) (program_complete (compiled_sequence ts c.args.sides.before c.args.sides.after) s h)),
+      (λ h. program_sound (compiled_sequence ts c.args.sides.before c.args.sides.after) s
+          (subst (λ z. Accepts z 0 s) e h)),
+      (λ h. subst (λ z. Accepts z 0 s) (sym e)
+          (program_complete (compiled_sequence ts c.args.sides.before c.args.sides.after) s h)),
     )

@@ -34,5 +34,6 @@ returns c =
     let bytes : written ≡ encode_utf8_all (escaped (chars c.args.text.now)) =
     sym (append-nil written) ∙ sym (ap (λ z. written ++ encode_utf8_all (escaped z)) end)
     ∙ c.loop-character.invariant.1 in
-    sym (chars_from_encodes (escaped (chars c.args.text.now)) written (IsUtf8-string_bytes c.loop-character.escaped)
+    sym (chars_from_encodes (escaped (chars c.args.text.now)) written
+    (IsUtf8-string_bytes c.loop-character.escaped)
     (sym bytes))

@@ -18,7 +18,8 @@ decreases-shifted_each l = 3 * trees_size (trees l.tokens.items)
 abbrev pub invariant-shifted_each-loop-token : goal.invariant-shifted_each-loop-token
 invariant-shifted_each-loop-token l = record {
   fewer : trees_size (trees l.tokens.items) ≤ trees_size (trees l.fn.tokens.items);
-  done : map (shifted_tree l.bytes) l.tokens.items ++ reverse l.done.items ≡ map (shifted_tree l.bytes) l.fn.tokens.items;
+  done : map (shifted_tree l.bytes) l.tokens.items ++ reverse l.done.items
+      ≡ map (shifted_tree l.bytes) l.fn.tokens.items;
 }
 
 abbrev pub decreases-shifted_each-loop-token : goal.decreases-shifted_each-loop-token

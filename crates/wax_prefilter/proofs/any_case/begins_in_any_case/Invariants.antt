@@ -7,4 +7,5 @@ use Rattle.wax_prefilter.proofs.any_case.begins_in_any_case.Given as goal
 abbrev pub invariant-loop-d : goal.invariant-loop-d
 invariant-loop-d l =
     IsUtf8 (chars_rest l.left) × IsUtf8 (chars_rest l.wanted)
-    × ((x y : List ℕ) → chars l.text ≡ x ++ y → SameText true (chars l.beginning) x → BeginsAlike (chars (chars_rest l.left)) (chars (chars_rest l.wanted)) y)
+    × ((x y : List ℕ) → chars l.text ≡ x ++ y → SameText true (chars l.beginning) x
+    → BeginsAlike (chars (chars_rest l.left)) (chars (chars_rest l.wanted)) y)

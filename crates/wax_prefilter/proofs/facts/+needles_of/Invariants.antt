@@ -20,5 +20,7 @@ decreases-needles_of_some l = 2 * trees_size (trees l.tokens.now)
 
 -- a text that is meant holds one of these, or a later branch means it
 abbrev pub invariant-needles_of_some-loop-token : goal.invariant-needles_of_some-loop-token
-invariant-needles_of_some-loop-token l = (before after : Bool) (text : List ℕ) → CanBeAfter l.anchor before → MeansSome (trees l.tokens) before after text
-    → ContainsOne l.anchor l.all.items text ⊎ MeansSome (trees (drop l.token-index l.tokens)) before after text
+invariant-needles_of_some-loop-token l = (before after : Bool) (text : List ℕ) → CanBeAfter l.anchor before
+    → MeansSome (trees l.tokens) before after text
+    → ContainsOne l.anchor l.all.items text
+    ⊎ MeansSome (trees (drop l.token-index l.tokens)) before after text

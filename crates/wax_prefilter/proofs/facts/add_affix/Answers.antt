@@ -9,5 +9,7 @@ pub returns : goal.returns
 returns c =
     let tokens = trees c.args.tokens.now in
     let known : EachContainsOne c.args.anchor c.in-Some.needles.items (MeansEach tokens) =
-    subst (λ o. IfSome o (λ v. EachContainsOne c.args.anchor v.items (MeansEach tokens))) c.in-Some.is c.in_ok-needles.ensures in
-    rw c.in_ok-add.ensures (more_facts tokens c.args.facts.now.items c.args.anchor c.in-Some.needles.items c.requires known)
+    subst (λ o. IfSome o (λ v. EachContainsOne c.args.anchor v.items (MeansEach tokens))) c.in-Some.is
+    c.in_ok-needles.ensures in
+    rw c.in_ok-add.ensures
+    (more_facts tokens c.args.facts.now.items c.args.anchor c.in-Some.needles.items c.requires known)

@@ -12,6 +12,7 @@ returns c =
     let token = c.index-tokens-i.result in
     let needles = c.in-Some.needles.items in
     let known : EachContainsOne Anywhere needles (Means token) =
-    subst (λ o. IfSome o (λ v. EachContainsOne Anywhere v.items (Means token))) c.in-Some.is c.in_ok-needles.ensures in
+    subst (λ o. IfSome o (λ v. EachContainsOne Anywhere v.items (Means token))) c.in-Some.is
+    c.in_ok-needles.ensures in
     rw c.in_ok-add.ensures (more_facts (trees tokens) c.args.facts.now.items Anywhere needles c.requires.facts
     (one_holds tokens c.args.i token needles c.requires.in_range c.index-tokens-i.is known))

@@ -10,5 +10,7 @@ returns-in-Beginning c = λ before after text alone h.
     let first : before ≡ false = subst (λ anchor. CanBeAfter anchor before) c.in-Beginning.is alone in
     let m : TreeMeans before after c.in-Tree.has_root text = rw c.in-Tree.is at h in
     let rooted : TreeMeans false after true text =
-    subst (λ b. TreeMeans b after true text) first (subst (λ b. TreeMeans before after b text) c.if-has_root.true m) in
-    subst (λ anchor. ContainsAt anchor (false, chars (47 ∷ [])) text) (sym c.in-Beginning.is) (slash_begins after text rooted)
+    subst (λ b. TreeMeans b after true text) first
+    (subst (λ b. TreeMeans before after b text) c.if-has_root.true m) in
+    subst (λ anchor. ContainsAt anchor (false, chars (47 ∷ [])) text) (sym c.in-Beginning.is)
+    (slash_begins after text rooted)

@@ -19,5 +19,6 @@ invariant-least_of_each-loop-token l = LeftAfter l.tokens l.token-index l.sum
 
 -- a text that is meant is long enough, or a later branch means it
 abbrev pub invariant-least_of_some-loop-token : goal.invariant-least_of_some-loop-token
-invariant-least_of_some-loop-token l = (before after : Bool) (text : List ℕ) → MeansSome (trees l.tokens) before after text
+invariant-least_of_some-loop-token l = (before after : Bool) (text : List ℕ)
+    → MeansSome (trees l.tokens) before after text
     → (l.least ≤ length text) ⊎ MeansSome (trees (drop l.token-index l.tokens)) before after text

@@ -13,9 +13,14 @@ loop-token-preserved c =
     let token = c.token-item.result in
     let needles = c.in-Some.needles.items in
     let known : EachContainsOne Anywhere needles (Means token) =
-    subst (λ o. IfSome o (λ v. EachContainsOne Anywhere v.items (Means token))) c.in-Some.is c.in_ok-needles.ensures in
+    subst (λ o. IfSome o (λ v. EachContainsOne Anywhere v.items (Means token))) c.in-Some.is
+    c.in_ok-needles.ensures in
     elim c.if-len-greatest.branch [
-      | then-len-greatest w ↦ subst (λ o. IfSome o (λ v. EachContainsOne Anywhere v.items (MeansEach (trees tokens)))) (sym w.longest-is)
-          (one_holds tokens c.loop-token.token-index token needles c.loop-token-test.true c.token-item.is known)
-      | else-len-greatest w ↦ subst (λ o. IfSome o (λ v. EachContainsOne Anywhere v.items (MeansEach (trees tokens)))) (sym w.longest-is) c.loop-token.invariant
+      | then-len-greatest w ↦ subst (λ o.
+          IfSome o (λ v. EachContainsOne Anywhere v.items (MeansEach (trees tokens)))) (sym w.longest-is)
+          (one_holds tokens c.loop-token.token-index token needles c.loop-token-test.true
+          c.token-item.is known)
+      | else-len-greatest w ↦
+          subst (λ o. IfSome o (λ v. EachContainsOne Anywhere v.items (MeansEach (trees tokens))))
+          (sym w.longest-is) c.loop-token.invariant
     ]

@@ -6,4 +6,5 @@ use Rattle.wax_prefilter.proofs.literals.may_contain_one.Given as goal
 
 -- the text has no needle so far
 abbrev pub invariant-loop-needle : goal.invariant-loop-needle
-invariant-loop-needle l = NoneBefore (λ held. ContainsAt Anywhere held (chars l.text)) l.needle-index l.needles
+invariant-loop-needle l =
+    NoneBefore (λ held. ContainsAt Anywhere held (chars l.text)) l.needle-index l.needles

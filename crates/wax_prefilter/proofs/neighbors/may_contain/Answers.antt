@@ -11,7 +11,10 @@ returns-then-not-neighbors-number_of c = λ text x z are e.
     let position = c.loop-position.position in
     let before : (position - 1) + 1 ≡ position = omega (arith, c.loop-position.auto.position) in
     let number : number_at held (position - 1) ≡ c.number_of.result =
-    ap (λ i. neighbors_number (slice_index held (position - 1)) (slice_index held i)) before ∙ sym c.number_of.ensures.number in
+    ap (λ i. neighbors_number (slice_index held (position - 1)) (slice_index held i)) before
+    ∙ sym c.number_of.ensures.number in
     let seen : get_or flags (number_at held (position - 1)) false ≡ true =
-    neighbors_within text x held z flags (position - 1) e are (omega (arith, before, c.loop-position-test.true)) in
-    absurd (false≢true (sym c.if-not-neighbors-number_of.true ∙ ap (λ n. get_or flags n false) (sym number) ∙ seen))
+    neighbors_within text x held z flags (position - 1) e are
+    (omega (arith, before, c.loop-position-test.true)) in
+    absurd (false≢true (sym c.if-not-neighbors-number_of.true
+    ∙ ap (λ n. get_or flags n false) (sym number) ∙ seen))

@@ -7,7 +7,8 @@ loop-position-preserved c =
     let number = c.number_of.result in
     let flags = c.loop-position.neighbors in (
       length-set flags number true ∙ c.loop-position.invariant.0,
-      neighbors_more c.args.text.now flags c.loop-position.position number (omega (arith, c.number_of.ensures.inside, c.loop-position.invariant.0))
+      neighbors_more c.args.text.now flags c.loop-position.position number
+          (omega (arith, c.number_of.ensures.inside, c.loop-position.invariant.0))
           c.loop-position.auto.position c.number_of.ensures.number c.loop-position.invariant.1,
     )
 

@@ -5,10 +5,13 @@ use Rattle.wax_prefilter.proofs.pair.find_first.Goals as goal
 
 pub returns-then-position-lt-LANES-clause-before : goal.returns-then-position-lt-LANES-clause-before
 returns-then-position-lt-LANES-clause-before c =
-    none_further c.args.pairs.now c.args.bytes.now c.loop-at.at c.first_position-position.result c.loop-at.invariant.1 c.first_position-position.ensures.before
+    none_further c.args.pairs.now c.args.bytes.now c.loop-at.at c.first_position-position.result
+    c.loop-at.invariant.1 c.first_position-position.ensures.before
 
 pub loop-at-preserved : goal.loop-at-preserved
 loop-at-preserved c =
-    let before : NoPairsBefore c.args.pairs.now c.args.bytes.now (c.loop-at.at + c.first_position-position.result) =
-    none_further c.args.pairs.now c.args.bytes.now c.loop-at.at c.first_position-position.result c.loop-at.invariant.1 c.first_position-position.ensures.before in
+    let before : NoPairsBefore c.args.pairs.now c.args.bytes.now
+    (c.loop-at.at + c.first_position-position.result) =
+    none_further c.args.pairs.now c.args.bytes.now c.loop-at.at c.first_position-position.result
+    c.loop-at.invariant.1 c.first_position-position.ensures.before in
     (omega arith, λ k below. before k (omega (arith, below, c.if-position-lt-LANES.false)))

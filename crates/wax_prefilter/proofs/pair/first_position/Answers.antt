@@ -14,25 +14,33 @@ loop-pair-preserved c =
     let i = c.loop-pair.pair-index in
     let this : Pair = get_or pairs i (record { first = 0; last = 0; distance = 0 }) in
     let wide : length c.differences.result ≡ 32 = c.differences.ensures.lanes in
-    let marked : ZeroWhere this (chunk 0 32 bytes) (chunk 0 32 (drop this.distance bytes)) c.differences.result = c.differences.ensures.zero in (
+    let marked : ZeroWhere this (chunk 0 32 bytes)
+    (chunk 0 32 (drop this.distance bytes)) c.differences.result = c.differences.ensures.zero in (
       length_lesser c.loop-pair.least c.differences.result c.loop-pair.invariant.0 wide,
-      λ k pair below is j lt first last. lesser_zero c.loop-pair.least c.differences.result j c.loop-pair.invariant.0 wide lt (elim (cases_lt k i) [
-        | inl less ↦ inl (c.loop-pair.invariant.1 k pair less is j lt first last)
-        | inr from ↦
-            let here : k ≡ i = omega (arith, below, from) in
-            let same : this ≡ pair =
-            sym (get_or_default pairs i pair (record { first = 0; last = 0; distance = 0 }) c.loop-pair-test.true) ∙ ap (λ n. get_or pairs n pair) (sym here) ∙ is in
-            inr (subst (λ p. ZeroWhere p (chunk 0 32 bytes) (chunk 0 32 (drop p.distance bytes)) c.differences.result) same marked j lt first last)
-      ]),
+      λ k pair below is j lt first last. lesser_zero c.loop-pair.least c.differences.result j
+          c.loop-pair.invariant.0 wide lt (elim (cases_lt k i) [
+            | inl less ↦ inl (c.loop-pair.invariant.1 k pair less is j lt first last)
+            | inr from ↦
+                let here : k ≡ i = omega (arith, below, from) in
+                let same : this ≡ pair =
+                sym (get_or_default pairs i pair (record { first = 0; last = 0; distance = 0 })
+                c.loop-pair-test.true) ∙ ap (λ n. get_or pairs n pair) (sym here) ∙ is in
+                inr (subst (λ p. ZeroWhere p (chunk 0 32 bytes) (chunk 0 32 (drop p.distance bytes))
+                c.differences.result) same marked j lt first last)
+          ]),
     )
 
 pub returns-clause-before : goal.returns-clause-before
 returns-clause-before c = λ k lt (i, pair, below, is, stands).
     let bytes = c.args.bytes.now in
-    let room : pair.distance + 32 ≤ length bytes = subst (λ p. p.distance + 32 ≤ length bytes) is (c.requires.room i pair below) in
+    let room : pair.distance + 32 ≤ length bytes =
+    subst (λ p. p.distance + 32 ≤ length bytes) is (c.requires.room i pair below) in
     subst (NoPairBefore pair bytes) (omega arith)
-    (before_lane pair bytes 0 (omega (arith, room)) (λ n none. absurd (omega (arith, none))) c.loop-pair.least c.first_zero.result c.loop-pair.invariant.0
-    (c.loop-pair.invariant.1 i pair (omega (arith, below, c.loop-pair-test.false)) is) c.first_zero.ensures) k lt stands
+    (before_lane pair bytes 0 (omega (arith, room)) (λ n none. absurd (omega (arith, none))) c.loop-pair.least
+    c.first_zero.result c.loop-pair.invariant.0
+    (c.loop-pair.invariant.1 i pair (omega (arith, below, c.loop-pair-test.false)) is) c.first_zero.ensures) k
+    lt stands
 
 pub returns-clause-inside : goal.returns-clause-inside
-returns-clause-inside c = omega (arith, c.first_zero.ensures, few_lanes c.loop-pair.least c.loop-pair.invariant.0)
+returns-clause-inside c =
+    omega (arith, c.first_zero.ensures, few_lanes c.loop-pair.least c.loop-pair.invariant.0)

@@ -17,7 +17,8 @@ loop-place-preserved c =
     let within : i < length places = c.loop-place-test.true in
     let held = c.loop-place.invariant in
     record {
-      ends = ends_step c.args.program.now.0 places i (get_or places i 0) c.loop-place.numbers.items c.push_ends.new.numbers.items within
+      ends = ends_step c.args.program.now.0 places i (get_or places i 0) c.loop-place.numbers.items
+          c.push_ends.new.numbers.items within
           (get_or_default places i 0 (get_or places i 0) within) c.in_ok-push_ends.ensures.ends held.ends;
       above = omega (arith, held.above, c.push_ends.ensures.above);
       steady = omega (arith, held.steady, c.push_ends.ensures.steady);

@@ -11,11 +11,14 @@ loop-number-init c = range_begins c.args.low c.args.numbers.now.items
 pub loop-number-preserved : goal.loop-number-preserved
 loop-number-preserved c =
     rw c.in_ok-push.ensures.items
-    (range_step c.args.low c.loop-number.number c.args.numbers.now.items c.loop-number.numbers.items (omega (arith, c.loop-number.auto.number)) c.loop-number.invariant)
+    (range_step c.args.low c.loop-number.number c.args.numbers.now.items c.loop-number.numbers.items
+    (omega (arith, c.loop-number.auto.number)) c.loop-number.invariant)
 
 pub returns : goal.returns
 returns c =
-    let end : c.loop-number.number ≡ c.args.high = omega (arith, c.loop-number-test.false, c.loop-number.auto.number-end) in
+    let end : c.loop-number.number ≡ c.args.high =
+    omega (arith, c.loop-number-test.false, c.loop-number.auto.number-end) in
     rw (c.in_ok-push-2.ensures.items, ← end)
     (range_whole c.args.low c.loop-number.number (c.loop-number.number + 1) c.args.numbers.now.items _ refl
-    (range_step c.args.low c.loop-number.number c.args.numbers.now.items c.loop-number.numbers.items (omega (arith, end, c.if-low-high.false)) c.loop-number.invariant))
+    (range_step c.args.low c.loop-number.number c.args.numbers.now.items c.loop-number.numbers.items
+    (omega (arith, end, c.if-low-high.false)) c.loop-number.invariant))

@@ -6,7 +6,8 @@ use Rattle.wax_program.proofs.instruction.class_other.Goals as goal
 pub returns-then-negated : goal.returns-then-negated
 returns-then-negated c =
     let forward = sym c.are_forward.ensures ∙ c.if-not-are_forward.false in (
-      (λ _. subst (λ n. HoldsOther n c.args.archetypes.now) (sym c.if-negated.true) (negated_other c.args.archetypes.now forward)),
+      (λ _. subst (λ n. HoldsOther n c.args.archetypes.now) (sym c.if-negated.true)
+          (negated_other c.args.archetypes.now forward)),
       (λ _. c.if-negated.true),
     )
 

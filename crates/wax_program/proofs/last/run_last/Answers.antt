@@ -5,7 +5,8 @@ use Rattle.wax_program.proofs.last.run_last.Goals as goal
 pub returns-clause-decides : goal.returns-clause-decides
 returns-clause-decides c =
     same_answer c.run_at.result _ _
-    (name_decides c.args.program.now.0 (chars c.args.text.now) (chars c.last_name-name.result.now) c.requires.last c.last_name-name.ensures.name)
+    (name_decides c.args.program.now.0 (chars c.args.text.now) (chars c.last_name-name.result.now)
+    c.requires.last c.last_name-name.ensures.name)
     c.run_at.ensures.decides
 
 pub returns-clause-above : goal.returns-clause-above
@@ -14,4 +15,5 @@ returns-clause-above c =
     counted_name c.args.program.now.1 c.args.meter.now c.skip.new.self c.run_at.new.meter
     (length c.args.text.now) (length c.last_name-name.result.now)
     (length (chars c.args.text.now)) (length (chars c.last_name-name.result.now))
-    (omega (arith, c.size.ensures.few, c.size.ensures.size, c.if-size-le3.false)) cut.bytes cut.most (omega (arith, c.skip.ensures.counted)) c.run_at.ensures.above
+    (omega (arith, c.size.ensures.few, c.size.ensures.size, c.if-size-le3.false)) cut.bytes cut.most
+    (omega (arith, c.skip.ensures.counted)) c.run_at.ensures.above

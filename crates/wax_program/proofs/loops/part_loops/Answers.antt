@@ -26,10 +26,12 @@ loop-place-preserved c =
       parted = elim c.if-is_loop.branch [
         | then-is_loop+in_ok-push w ↦
             rw (w.loops-is, w.others-is, w.in_ok-push.ensures.items)
-            (parted_one places i (get_or places i 0) within is c.loop-place.loops.items c.loop-place.others.items held.parted)
+            (parted_one places i (get_or places i 0) within is c.loop-place.loops.items
+            c.loop-place.others.items held.parted)
         | else-is_loop+in_ok-push-2 w ↦
             rw (w.loops-is, w.others-is, w.in_ok-push-2.ensures.items)
-            (parted_other places i (get_or places i 0) within is c.loop-place.loops.items c.loop-place.others.items held.parted)
+            (parted_other places i (get_or places i 0) within is c.loop-place.loops.items
+            c.loop-place.others.items held.parted)
       ];
       above = omega (arith, held.above, c.is_loop.ensures.above);
       steady = omega (arith, held.steady, c.is_loop.ensures.steady);

@@ -15,7 +15,8 @@ invariant-loop-c g l = (m : ℕ) × record {
   size : (g.R.Sets.position l.sets).size ≡ length l.program.0;
   read : IsEmpty (g.R.Sets.position l.sets).read;
   next : IsEmpty (g.R.Sets.position l.sets).next;
-  stays : Stays l.program.0 l.start (chars l.text) (chars (chars_rest l.left)) (g.R.Sets.position l.sets).pending;
+  stays : Stays l.program.0 l.start (chars l.text) (chars (chars_rest l.left))
+      (g.R.Sets.position l.sets).pending;
   above : l.meter ≤ l.fn.meter + l.program.1 * m;
   below : min (l.fn.meter + m) most_ticks ≤ l.meter;
   steady : l.fn.meter ≤ l.meter;

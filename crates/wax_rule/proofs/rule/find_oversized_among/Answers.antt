@@ -10,7 +10,8 @@ pub returns-in-Some : goal.returns-in-Some
 returns-in-Some c =
     let i = c.loop-token.token-index in
     let later : Option Break = head_of (oversized_among (trees (drop (i + 1) c.args.tokens.now))) in
-    sym (sym c.loop-token.invariant ∙ oversized_among_step c.args.tokens.now i c.token-item.result c.loop-token-test.true c.token-item.is
+    sym (sym c.loop-token.invariant
+    ∙ oversized_among_step c.args.tokens.now i c.token-item.result c.loop-token-test.true c.token-item.is
     ∙ ap (λ z. option_or z later) (sym c.in_ok-found.ensures ∙ c.in-Some.is))
 
 pub loop-token-preserved : goal.loop-token-preserved

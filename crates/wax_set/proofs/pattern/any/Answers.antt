@@ -7,7 +7,10 @@ use Rattle.wax_set.proofs.Patterns.{are_oversized, is_any_of}
 use Rattle.wax_set.proofs.pattern.any.Goals as goal
 
 pub compiled-requires : goal.compiled-requires
-compiled-requires g c = (trees c.in_ok-tokens.tokens.items, c.in_ok-token.ensures ∙ ap (λ ts. alternation (0, 0) (trees ts)) (map-id c.in_ok-tokens.tokens.items))
+compiled-requires g c = (
+  trees c.in_ok-tokens.tokens.items,
+  c.in_ok-token.ensures ∙ ap (λ ts. alternation (0, 0) (trees ts)) (map-id c.in_ok-tokens.tokens.items),
+)
 
 pub returns-in-Ok : goal.returns-in-Ok
 returns-in-Ok g c =
@@ -23,4 +26,5 @@ returns-in-Err-Refused g c =
     let is : c.in_ok-token.token ≡ alternation (0, 0) (trees ts) =
     c.in_ok-token.ensures ∙ ap (λ ts. alternation (0, 0) (trees ts)) (map-id ts) in
     let large : 1048576 < program_length c.in_ok-token.token = search rules in
-    inr (are_oversized g.P.Pattern.spells c.args.patterns.items ts c.in_ok-token.token c.in_ok-tokens.ensures is large)
+    inr (are_oversized g.P.Pattern.spells c.args.patterns.items ts c.in_ok-token.token
+    c.in_ok-tokens.ensures is large)

@@ -26,5 +26,7 @@ returns-in-Err g c =
     let left = into_iter_items c.loop-pattern.pattern-iterator in
     let rest = into_iter_items c.next.new.self in
     let taken : left ≡ c.in-Some.pattern ∷ rest = search rules in
-    refused_next g.P.Pattern.spells g.P.Pattern.refuses c.args.patterns.items c.loop-pattern.yielded c.loop-pattern.tokens.items
-    c.in-Some.pattern left rest c.in-Err.error c.loop-pattern.invariant.each c.loop-pattern.invariant.joined taken c.in-Err.ensures
+    refused_next g.P.Pattern.spells g.P.Pattern.refuses c.args.patterns.items c.loop-pattern.yielded
+    c.loop-pattern.tokens.items
+    c.in-Some.pattern left rest c.in-Err.error c.loop-pattern.invariant.each c.loop-pattern.invariant.joined
+    taken c.in-Err.ensures

@@ -9,7 +9,8 @@ use Rattle.wax_test_uses.proofs.captured.picture_stem.Goals as goal
 pub returns-in_default : goal.returns-in_default
 returns-in_default c p =
     let none : c.in_ok-matched.field-0 ≡ None = search rules in
-    let means = (is_picture c.in_ok-glob.glob.tree c.in_ok-glob.ensures.build.only (chars c.args.path.now)).1 p in
+    let means =
+    (is_picture c.in_ok-glob.glob.tree c.in_ok-glob.ensures.build.only (chars c.args.path.now)).1 p in
     unmatched (IsMeant c.in_ok-glob.glob) (HasCaptures c.in_ok-glob.glob) _ _ c.in_ok-matched.ensures none
     (subst (IsMeant c.in_ok-glob.glob) (sym c.from-candidate.ensures) means)
 
@@ -21,7 +22,8 @@ returns-in-Some-get c =
     c.in_ok-matched.ensures some in
     let stem = stem_is c.in_ok-glob.glob.tree s c.in-Some.matched (chars c.in-Some-get.stem.now)
     c.in_ok-glob.ensures.build.only
-    (subst (λ v. HasCaptures c.in_ok-glob.glob v c.in-Some.matched.captures) c.from-candidate.ensures captured)
+    (subst (λ v. HasCaptures c.in_ok-glob.glob v c.in-Some.matched.captures)
+    c.from-candidate.ensures captured)
     c.in-Some-get.ensures in
     subst (λ v. HasStem s (chars v)) (sym c.in_ok-copied-in-Some-get.ensures) stem
 
@@ -30,6 +32,8 @@ returns c =
     let some : c.in_ok-matched.field-0 ≡ Some c.in-Some.matched = c.in-Some.is in
     let captured = matched_so (IsMeant c.in_ok-glob.glob) (HasCaptures c.in_ok-glob.glob) _ _ _
     c.in_ok-matched.ensures some in
-    absurd (stem_there c.in_ok-glob.glob.tree (chars c.args.path.now) c.in-Some.matched c.in_ok-glob.ensures.build.only
-    (subst (λ v. HasCaptures c.in_ok-glob.glob v c.in-Some.matched.captures) c.from-candidate.ensures captured)
+    absurd (stem_there c.in_ok-glob.glob.tree (chars c.args.path.now) c.in-Some.matched
+    c.in_ok-glob.ensures.build.only
+    (subst (λ v. HasCaptures c.in_ok-glob.glob v c.in-Some.matched.captures)
+    c.from-candidate.ensures captured)
     c.in-None.ensures)

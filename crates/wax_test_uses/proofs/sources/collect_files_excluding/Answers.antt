@@ -12,5 +12,6 @@ returns-in-Ok g c =
       less.0.1.only,
       h.0,
       h.1,
-      one_more_before_files law (not_meant less.0.0) _ _ r.1 _ _ (c.in-Ok.ensures.comes less.0.0 less.0.1.only.0) h.2,
+      one_more_before_files law (not_meant less.0.0) _ _ r.1 _ _
+          (c.in-Ok.ensures.comes less.0.0 less.0.1.only.0) h.2,
     )) c.collect_unignored_files.ensures

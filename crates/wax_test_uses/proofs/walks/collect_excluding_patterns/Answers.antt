@@ -19,5 +19,6 @@ returns-in-Ok g c =
         are_read = h.3;
         all = refl;
       },
-      keeps_one_more law (not_meant less.0.0) _ _ _ r.1 _ (c.in-Ok.ensures.comes less.0.0 less.0.1.only.0) h.4,
+      keeps_one_more law (not_meant less.0.0) _ _ _ r.1 _
+          (c.in-Ok.ensures.comes less.0.0 less.0.1.only.0) h.4,
     )) c.collect_excluding_pattern.ensures

@@ -68,7 +68,8 @@ returns-clause-answered g c =
     let b = c.walk_from.ensures.begins in
     map_ok (λ r h. (
       h.1.told,
-      subst (λ d. g.D.Directory.law.answered r.1 ≡ g.D.Directory.law.answered d ++ h.1.told) b.directory h.1.answered,
+      subst (λ d. g.D.Directory.law.answered r.1 ≡ g.D.Directory.law.answered d ++ h.1.told)
+          b.directory h.1.answered,
       entries_answered range c.args.start.now _ h.1.told h.0 _ b.takes h.1.ends_there h.1.course h.3,
     ))
     c.collect.result c.collect.ensures.took

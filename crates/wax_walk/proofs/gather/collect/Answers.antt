@@ -34,7 +34,8 @@ loop-item-preserved g c =
         kept_more g.I.Entry.Entry.facts g.I.Residue.Entry.facts _ _ c.in-Some.item taking.0
             c.in_ok-keep.ensures taking.2,
       );
-      known = all_kept _ _ _ c.in-Some.item known.1 (g.met.I.FileIterator.keeping s t (Some c.in-Some.item) fed)
+      known =
+          all_kept _ _ _ c.in-Some.item known.1 (g.met.I.FileIterator.keeping s t (Some c.in-Some.item) fed)
           _ _ c.in_ok-keep.ensures known.0;
     }
 

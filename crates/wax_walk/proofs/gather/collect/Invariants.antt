@@ -19,7 +19,8 @@ invariant-loop-item g l =
           (size (left l.fn.walk)) (size (left l.walk)) xs ×
           (map (given_outcome g.I.Entry.Entry.facts g.I.Residue.Entry.facts) l.items.items ≡ filter is_kept
           xs);
-      known : All (KnownOutcome (known l.fn.walk)) l.items.items × StaysKnown (known l.fn.walk) (known l.walk);
+      known : All (KnownOutcome (known l.fn.walk)) l.items.items
+          × StaysKnown (known l.fn.walk) (known l.walk);
     }
 
 abbrev pub decreases-loop-item : goal.decreases-loop-item

@@ -29,7 +29,8 @@ loop-item-preserved g c =
           (taking_more g.I.Directory.Directory.law _ _ _ _ _ _ _
           (given_of g.I.Entry.Entry.facts g.I.Residue.Entry.facts c.in-Some.item)
           c.loop-item.invariant.taking (g.met.I.FileIterator.feeding s t (Some c.in-Some.item) fed) goes.2);
-      known = all_fed _ _ _ c.in-Some.item known.1 (g.met.I.FileIterator.keeping s t (Some c.in-Some.item) fed)
+      known =
+          all_fed _ _ _ c.in-Some.item known.1 (g.met.I.FileIterator.keeping s t (Some c.in-Some.item) fed)
           _ _ c.in_ok-push.ensures.items known.0;
     }
 

@@ -17,8 +17,10 @@ loop-pattern-preserved g c =
     let grown : c.push.new.self.items ≡ had ++ c.in-Ok.exclusion ∷ [] = search rules in
     record {
       each = subst (λ z. Excluded spells excluded_mark (before ++ pattern ∷ []) z) (sym grown)
-          (one_more_excluded spells excluded_mark before had pattern c.in-Ok.exclusion c.loop-pattern.invariant.each c.in-Ok.ensures);
-      joined = pattern_taken before pattern rest left c.args.patterns.items taken c.loop-pattern.invariant.joined;
+          (one_more_excluded spells excluded_mark before had pattern c.in-Ok.exclusion
+          c.loop-pattern.invariant.each c.in-Ok.ensures);
+      joined =
+          pattern_taken before pattern rest left c.args.patterns.items taken c.loop-pattern.invariant.joined;
       count = search rules;
     }
 
@@ -27,7 +29,8 @@ returns-in-Err g c =
     let left = into_iter_items c.loop-pattern.pattern-iterator in
     let rest = into_iter_items c.next.new.self in
     let taken : left ≡ c.in-Some.pattern ∷ rest = search rules in
-    first_refused g.P.Pattern.spells excluded_mark g.P.Pattern.refuses c.args.patterns.items c.loop-pattern.yielded
+    first_refused g.P.Pattern.spells excluded_mark g.P.Pattern.refuses c.args.patterns.items
+    c.loop-pattern.yielded
     c.loop-pattern.exclusions.items c.in-Some.pattern left rest c.in-Err.error c.loop-pattern.invariant.each
     c.loop-pattern.invariant.joined taken c.in-Err.ensures
 

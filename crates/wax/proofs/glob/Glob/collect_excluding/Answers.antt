@@ -33,8 +33,10 @@ returns-clause-unmeant g c =
     let law = g.D.Directory.law in
     let h = c.walk_in-walk.ensures.begins in
     map_ok (λ r k taken prefix path s listed is empty shows told.
-    let all = k.1.all (pending nothing nothing listed 0)
-    (refl, (pending nothing nothing listed 0, h.unmeant taken prefix is empty path s listed shows told, refl)) in
+    let all = k.1.all (pending nothing nothing listed 0) (
+      refl,
+      (pending nothing nothing listed 0, h.unmeant taken prefix is empty path s listed shows told, refl),
+    ) in
     keeps_nothing (law.tells r.1) c.args.behavior.budget listed k.0 _
     (subst (λ n. Yielded (law.tells r.1) n (pending nothing nothing listed 0) k.0) h.listings all) k.3)
     c.collect_excluding.result c.collect_excluding.ensures.took

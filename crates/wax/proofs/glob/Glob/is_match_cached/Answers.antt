@@ -8,15 +8,20 @@ use Rattle.wax.proofs.glob.Glob.is_match_cached.Goals as goal
 
 pub invariant_of-self : goal.invariant_of-self
 invariant_of-self c =
-    subst (λ p. IsCompiledGlob c.self.inside.checked.token p c.self.inside.pieces) (sym c.is_match_cached.ensures.same) c.self.invariant
+    subst (λ p. IsCompiledGlob c.self.inside.checked.token p c.self.inside.pieces)
+    (sym c.is_match_cached.ensures.same) c.self.invariant
 
 pub returns-clause-means : goal.returns-clause-means
 returns-clause-means c =
     let text = chars c.as_str.result.now in
-    let compiled = subst (λ t. IsCompiled t c.self.inside.compiled) (ap (λ g. g.tree) c.self.view_is) c.self.invariant.compiled in
-    let here = same_answer c.is_match_cached.result _ _ (compiled.accepts text) c.is_match_cached.ensures.decides in
-    subst (λ z. IfOk c.is_match_cached.result (λ b. IsTrue b ↔ IsMeant c.args.self.now z)) c.as_str.ensures here
+    let compiled = subst (λ t. IsCompiled t c.self.inside.compiled) (ap (λ g. g.tree) c.self.view_is)
+    c.self.invariant.compiled in
+    let here =
+    same_answer c.is_match_cached.result _ _ (compiled.accepts text) c.is_match_cached.ensures.decides in
+    subst (λ z. IfOk c.is_match_cached.result (λ b. IsTrue b ↔ IsMeant c.args.self.now z))
+    c.as_str.ensures here
 
 pub returns-clause-decides : goal.returns-clause-decides
 returns-clause-decides c =
-    decided_alike c.is_match_cached.result _ (means_tested c.args.self.now.tree false false c.args.path.now) (returns-clause-means c)
+    decided_alike c.is_match_cached.result _ (means_tested c.args.self.now.tree false false c.args.path.now)
+    (returns-clause-means c)

@@ -12,7 +12,10 @@ invariant_of-result c =
     let is : IsCompiled c.args.self.now.tree compiled =
     subst (λ t. IsCompiled t compiled) (ap (λ g. g.tree) c.self.view_is) c.self.invariant.compiled in (
       subst (λ code. AcceptsMeant code c.args.self.now) (sym c.in_ok-matcher.ensures) is.accepts,
-      λ known text. subst (λ t. Means t false false text) c.token.ensures.same (c.is_everything.ensures.all known text),
-      subst (λ t. IfSome c.folder_of.result (λ folder. (text : List ℕ) → Means t false false text ↔ IsInFolder (chars folder.now) text)) c.token-2.ensures.same
-          (folder_meant c.token-2.result.now _ c.folder_of.result c.concatenation.ensures c.folder_of.ensures),
+      λ known text.
+          subst (λ t. Means t false false text) c.token.ensures.same (c.is_everything.ensures.all known text),
+      subst (λ t. IfSome c.folder_of.result (λ folder. (text : List ℕ)
+          → Means t false false text ↔ IsInFolder (chars folder.now) text)) c.token-2.ensures.same
+          (folder_meant c.token-2.result.now _ c.folder_of.result c.concatenation.ensures
+          c.folder_of.ensures),
     )

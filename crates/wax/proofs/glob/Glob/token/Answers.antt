@@ -10,4 +10,5 @@ pub returns-clause-kept : goal.returns-clause-kept
 returns-clause-kept c = subst IsKept (ap (λ t. t.token) (sym c.as_ref.ensures.same)) c.self.invariant.kept
 
 pub returns-clause-fits : goal.returns-clause-fits
-returns-clause-fits c = subst (λ t. program_length t ≤ 1048576) (ap (λ t. t.token) (sym c.as_ref.ensures.same)) c.self.invariant.compiled.fits
+returns-clause-fits c = subst (λ t. program_length t ≤ 1048576)
+    (ap (λ t. t.token) (sym c.as_ref.ensures.same)) c.self.invariant.compiled.fits

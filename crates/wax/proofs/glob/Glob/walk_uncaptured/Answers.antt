@@ -23,8 +23,10 @@ returns-in-Some-clause-begins g c =
     let same : c.within-asked.result ≡ within asked w.0 = w.3 ∙ ap (λ r. within r w.0) c.range.ensures in
     let prefix_names = c.in-Some.prefix_names in
     map_ok (λ walk seen. least_along glob g.D.Directory.law c.args.directory start asked w.0 w.1
-    (λ b filters plain. can_walk glob.tree kept w.0 w.2 start asked b filters plain) (none_match glob.tree kept)
-    (subst (λ t. (taken : ℕ) × (prefix : List ℕ) × Prefix t taken prefix) tree c.in_ok-prefix_names.ensures.prefix)
+    (λ b filters plain. can_walk glob.tree kept w.0 w.2 start asked b filters plain)
+    (none_match glob.tree kept)
+    (subst (λ t. (taken : ℕ) × (prefix : List ℕ) × Prefix t taken prefix) tree
+    c.in_ok-prefix_names.ensures.prefix)
     _ _ (seen_from glob _ _ c.within-asked.result.min asked.min (ap (λ (r : DepthRange). r.min) same) seen) _
     (ap (λ (r : DepthRange). record { min = 0; max = r.max; budget = r.budget }) same)
     prefix_names.is_rooted (from_last prefix_names.names.items)
@@ -45,8 +47,10 @@ returns-in-None-clause-begins g c =
     let kept : IsKept glob.tree = subst IsKept tree c.token.ensures.kept in
     let same : c.within-asked.result ≡ within asked w.0 = w.3 ∙ ap (λ r. within r w.0) c.range.ensures in
     map_ok (λ walk seen. least_ended glob g.D.Directory.law c.args.directory start asked w.0 w.1
-    (λ b filters plain. can_walk glob.tree kept w.0 w.2 start asked b filters plain) (none_match glob.tree kept)
-    (subst (λ t. (taken : ℕ) × (prefix : List ℕ) × Prefix t taken prefix) tree c.in_ok-prefix_names.ensures.prefix)
+    (λ b filters plain. can_walk glob.tree kept w.0 w.2 start asked b filters plain)
+    (none_match glob.tree kept)
+    (subst (λ t. (taken : ℕ) × (prefix : List ℕ) × Prefix t taken prefix) tree
+    c.in_ok-prefix_names.ensures.prefix)
     _ _ (seen_from glob _ _ c.within-asked.result.min asked.min (ap (λ (r : DepthRange). r.min) same) seen) _
     (λ taken prefix p. subst (λ o. MatchOption o (HasEmptyName prefix)
     (λ r. PrefixSplitsInto prefix r.is_rooted (from_last r.names.items))) c.in-None.is

@@ -5,17 +5,22 @@ use Rattle.wax_token.specs.Cost.{program_length}
 use Rattle.wax.specs.GlobView.{IsMeant}
 use Rattle.wax.proofs.glob.GlobProgram.is_match_counted.Goals as goal
 
-abbrev compiled_of : (c : goal.After-is_match_counted) → IsCompiled c.args.self.now.tree c.self.inside.compiled
-compiled_of c = subst (λ t. IsCompiled t c.self.inside.compiled) (ap (λ g. g.tree) c.self.view_is) c.self.invariant.compiled
+abbrev compiled_of : (c : goal.After-is_match_counted)
+    → IsCompiled c.args.self.now.tree c.self.inside.compiled
+compiled_of c = subst (λ t. IsCompiled t c.self.inside.compiled) (ap (λ g. g.tree) c.self.view_is)
+    c.self.invariant.compiled
 
 pub returns-clause-decides : goal.returns-clause-decides
 returns-clause-decides c =
     let r = c.is_match_counted.result in
-    let here = decides_tree c.args.self.now.tree _ (compiled_of c) r (chars c.as_str.result.now) c.is_match_counted.ensures.decides in
+    let here = decides_tree c.args.self.now.tree _ (compiled_of c) r
+    (chars c.as_str.result.now) c.is_match_counted.ensures.decides in
     subst (λ s. IfOk r (λ answer. IsTrue answer.0 ↔ IsMeant c.args.self.now s)) c.as_str.ensures here
 
 pub returns-clause-above : goal.returns-clause-above
 returns-clause-above c =
     let r = c.is_match_counted.result in
-    let here = visits_tree c.args.self.now.tree _ (compiled_of c) r (chars c.as_str.result.now) c.is_match_counted.ensures.above in
-    subst (λ s. IfOk r (λ answer. answer.1 ≤ program_length c.args.self.now.tree * (length s + 1))) c.as_str.ensures here
+    let here = visits_tree c.args.self.now.tree _ (compiled_of c) r
+    (chars c.as_str.result.now) c.is_match_counted.ensures.above in
+    subst (λ s. IfOk r (λ answer. answer.1 ≤ program_length c.args.self.now.tree * (length s + 1)))
+    c.as_str.ensures here

@@ -23,12 +23,16 @@ returns-in-Ok-Some-clause-begins g c =
     let kept : IsKept glob.tree = subst IsKept tree c.token.ensures.kept in
     let same : c.within-range.result ≡ within asked w.0 = w.3 ∙ ap (λ r. within r w.0) c.range.ensures in
     let prefix_names = c.in-Ok-Some.prefix_names in
-    begins_along glob g.D.Directory.law c.args.directory start asked w.0 w.1 (λ b filters plain. can_walk glob.tree kept w.0 w.2 start asked b filters plain)
+    begins_along glob g.D.Directory.law c.args.directory start asked w.0 w.1
+    (λ b filters plain. can_walk glob.tree kept w.0 w.2 start asked b filters plain)
     (none_match glob.tree kept) _
     (subst (λ t. (taken : ℕ) × (prefix : List ℕ) × Prefix t taken prefix) tree c.in-Ok-Some.ensures.prefix)
-    _ c.within-range.result same prefix_names.is_rooted (from_last prefix_names.names.items) c.in-Ok-Some.leading.items
-    (λ taken prefix p. subst (λ t. IsPlan t prefix prefix_names.is_rooted (from_last prefix_names.names.items) c.in-Ok-Some.leading.items) tree
-    (subst (λ o. MatchOption o (HasEmptyName prefix) (λ r. IsPlan token prefix r.0.is_rooted (from_last r.0.names.items) r.1.items)) c.in-Ok-Some.field-0-is
+    _ c.within-range.result same prefix_names.is_rooted (from_last prefix_names.names.items)
+    c.in-Ok-Some.leading.items
+    (λ taken prefix p. subst (λ t. IsPlan t prefix prefix_names.is_rooted
+    (from_last prefix_names.names.items) c.in-Ok-Some.leading.items) tree
+    (subst (λ o. MatchOption o (HasEmptyName prefix) (λ r.
+    IsPlan token prefix r.0.is_rooted (from_last r.0.names.items) r.1.items)) c.in-Ok-Some.field-0-is
     (c.in-Ok-Some.ensures.plan taken prefix (subst (λ t. Prefix t taken prefix) (sym tree) p))))
     c.walk_along-walk.ensures.begins c.walk_of.ensures.view
 
@@ -42,11 +46,13 @@ returns-in-Ok-None-clause-begins g c =
     let w = c.within-range.ensures in
     let kept : IsKept glob.tree = subst IsKept tree c.token.ensures.kept in
     let same : c.within-range.result ≡ within asked w.0 = w.3 ∙ ap (λ r. within r w.0) c.range.ensures in
-    begins_ended glob g.D.Directory.law c.args.directory start asked w.0 w.1 (λ b filters plain. can_walk glob.tree kept w.0 w.2 start asked b filters plain)
+    begins_ended glob g.D.Directory.law c.args.directory start asked w.0 w.1
+    (λ b filters plain. can_walk glob.tree kept w.0 w.2 start asked b filters plain)
     (none_match glob.tree kept) _
     (subst (λ t. (taken : ℕ) × (prefix : List ℕ) × Prefix t taken prefix) tree c.in-Ok-None.ensures.prefix)
     _ c.within-range.result (leading_mark (component_test {A = Span}) c.new.result.items decides glob)
-    (λ taken prefix p. subst (λ o. MatchOption o (HasEmptyName prefix) (λ r. IsPlan token prefix r.0.is_rooted (from_last r.0.names.items) r.1.items)) c.in-Ok-None.field-0-is
+    (λ taken prefix p. subst (λ o. MatchOption o (HasEmptyName prefix) (λ r.
+    IsPlan token prefix r.0.is_rooted (from_last r.0.names.items) r.1.items)) c.in-Ok-None.field-0-is
     (c.in-Ok-None.ensures.plan taken prefix (subst (λ t. Prefix t taken prefix) (sym tree) p)))
     same c.ended-walk.ensures.ended c.walk_of-in-Ok-None.ensures.view
 
@@ -58,6 +64,8 @@ returns-in-Err-clause-begins g c =
     let w = c.within-range.ensures in
     let kept : IsKept glob.tree = subst IsKept c.token.ensures.same c.token.ensures.kept in
     let same : c.within-range.result ≡ within asked w.0 = w.3 ∙ ap (λ r. within r w.0) c.range.ensures in
-    begins_refused glob g.D.Directory.law c.args.directory start asked w.0 w.1 (λ b filters plain. can_walk glob.tree kept w.0 w.2 start asked b filters plain)
+    begins_refused glob g.D.Directory.law c.args.directory start asked w.0 w.1
+    (λ b filters plain. can_walk glob.tree kept w.0 w.2 start asked b filters plain)
     (none_match glob.tree kept) _
-    _ c.within-range.result c.new-in-Err.result.items c.new-in-Err.ensures.items same c.refused-walk.ensures.lacks c.walk_of-in-Err.ensures.view
+    _ c.within-range.result c.new-in-Err.result.items c.new-in-Err.ensures.items same
+    c.refused-walk.ensures.lacks c.walk_of-in-Err.ensures.view

@@ -24,10 +24,12 @@ returns-in-Not-clause-below c =
 
 pub returns-in-Ignore-clause-covers : goal.returns-in-Ignore-clause-covers
 returns-in-Ignore-clause-covers c =
-    filter_covers c.ignores_below.result _ (rule c.args.self.now) (ap rule (sym c.in-Ignore.is)) c.args.path.now
+    filter_covers c.ignores_below.result _ (rule c.args.self.now)
+    (ap rule (sym c.in-Ignore.is)) c.args.path.now
     c.ignores_below.ensures.says
 
 pub returns-in-Ignore-clause-below : goal.returns-in-Ignore-clause-below
 returns-in-Ignore-clause-below c =
-    filter_below c.ignores_below.result _ (rule c.args.self.now) (ap rule (sym c.in-Ignore.is)) c.args.path.now
+    filter_below c.ignores_below.result _ (rule c.args.self.now)
+    (ap rule (sym c.in-Ignore.is)) c.args.path.now
     c.ignores_below.ensures.says

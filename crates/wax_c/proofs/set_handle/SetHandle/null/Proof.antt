@@ -45,10 +45,13 @@ null_spec 𝓤 𝓛 𝓜 𝓡 wired =
     let fits = ((heap_laws.the_row_laws.lawful 𝓛).typed a.0 _ are.0).0 in
     qed 𝓛 ((‵ ftrue ⊛ ‵ (owns (Z ∷ []) a (told a.0, tt))) ∷ ‵ ftrue ∷ []) ∵ split ! $ drop ! $ fsplit ! $
     enter ! _ _ _ _ _ $ alloc_all ! (λ l. pass_all ! refl (fits, tt) $
-    sets ! (agg ! (and_then ! (lit ! tt) (and_then ! (get ! refl) (no_more !)))) refl (tt, (record { fits = lit< tt }, (fits.1, tt))) $
+    sets ! (agg ! (and_then ! (lit ! tt) (and_then ! (get ! refl) (no_more !)))) refl
+    (tt, (record { fits = lit< tt }, (fits.1, tt))) $
     returns ! (look_at ! 0 refl) $ free_all ! refl $
     -- [the allocator; nothing; nothing]
-    fjoin ! $ feq_i ! (List Val) (vnull ∷ []) (vnull ∷ []) refl $ fjoin ! $ feq_i ! (List Val) (v ∷ []) (v ∷ []) refl $ fjoin ! $
-    fpack ! (Valss (RawPtr ∷ Z ∷ [])) (within (shape handle.the_type) (to handle.the_type d) (v ∷ [])) (vnull ∷ [], (hv ∷ [], tt)) $ fjoin ! $
+    fjoin ! $ feq_i ! (List Val) (vnull ∷ []) (vnull ∷ []) refl $ fjoin ! $
+    feq_i ! (List Val) (v ∷ []) (v ∷ []) refl $ fjoin ! $
+    fpack ! (Valss (RawPtr ∷ Z ∷ [])) (within (shape handle.the_type) (to handle.the_type d) (v ∷ []))
+    (vnull ∷ [], (hv ∷ [], tt)) $ fjoin ! $
     suffices ! _ (ends_at 𝓛 f.ended stayed c y v d (tt, tt) (tt, tt)) $ says ! (refl, refl) $
     keep ! (0 ∷ []) $ nothing ! $ nothing ! $ join ! $ nothing ! $ done !))

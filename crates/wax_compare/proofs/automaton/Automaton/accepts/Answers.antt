@@ -9,4 +9,5 @@ returns c =
     let states = c.args.self.now.states.items in
     let s = c.index.result.now in
     let here = slice_get_read states (length states) c.args.state s refl c.requires.state c.index.ensures in
-    subst (λ z. IsTrue s.accepts ↔ AnyAmong c.args._program.now.0 z []) (sym (ap option_places here)) (c.requires.automaton.rows c.args.state s here).ends
+    subst (λ z. IsTrue s.accepts ↔ AnyAmong c.args._program.now.0 z []) (sym (ap option_places here))
+    (c.requires.automaton.rows c.args.state s here).ends

@@ -11,7 +11,9 @@ returns-then-known-ne0-clause-step c =
     let states = c.args.self.now.states.items in
     let s = c.index.result.now in
     let at = slice_get_read states (length states) c.args.state s refl c.requires.state c.index.ensures in
-    known_step c.args.program.now.0 c.args.letters.now states c.args.state c.args.number c.index-known.result.now s at (c.requires.automaton.rows c.args.state s at) c.requires.number c.index-known.ensures c.if-known-ne0.true
+    known_step c.args.program.now.0 c.args.letters.now states c.args.state c.args.number
+    c.index-known.result.now s at (c.requires.automaton.rows c.args.state s at) c.requires.number
+    c.index-known.ensures c.if-known-ne0.true
 
 pub returns-clause-step : goal.returns-clause-step
 returns-clause-step c =
@@ -23,17 +25,24 @@ returns-clause-step c =
     let next = c.in_ok-next.next in
     let s = c.index-2.result.now in
     let at = slice_get_read old (length old) c.args.state s refl c.requires.state c.index-2.ensures in
-    let places : c.deref.result.now ≡ state_places old c.args.state = c.deref.ensures.value ∙ sym (ap option_places at) in
-    let is : c.index-letters-number.result ≡ letter = c.index-letters-number.is ∙ get_or_default c.args.letters.now c.args.number c.index-letters-number.result 0 c.requires.number in
-    let reaches : AreReached code letter c.deref.result.now (taken_if c.in_ok-step.field-0 []) c.step.new.reached.items = subst (λ n. AreReached code n c.deref.result.now (taken_if c.in_ok-step.field-0 []) c.step.new.reached.items) is c.in_ok-step.ensures.reaches in
-    step_keeps code mid new (fill_keeps mid new c.args.state c.args.number next c.fill.ensures.filled) (state_places old c.args.state) letter next
-    (step_to code old mid letter c.args.state next c.deref.result.now c.step.new.reached.items c.in_ok-step.field-0 places reaches c.in_ok-next.ensures.places)
+    let places : c.deref.result.now ≡ state_places old c.args.state =
+    c.deref.ensures.value ∙ sym (ap option_places at) in
+    let is : c.index-letters-number.result ≡ letter = c.index-letters-number.is
+    ∙ get_or_default c.args.letters.now c.args.number c.index-letters-number.result 0 c.requires.number in
+    let reaches : AreReached code letter c.deref.result.now (taken_if c.in_ok-step.field-0 [])
+    c.step.new.reached.items = subst (λ n. AreReached code n c.deref.result.now
+    (taken_if c.in_ok-step.field-0 []) c.step.new.reached.items) is c.in_ok-step.ensures.reaches in
+    step_keeps code mid new (fill_keeps mid new c.args.state c.args.number next c.fill.ensures.filled)
+    (state_places old c.args.state) letter next
+    (step_to code old mid letter c.args.state next c.deref.result.now c.step.new.reached.items
+    c.in_ok-step.field-0 places reaches c.in_ok-next.ensures.places)
 
 pub returns-clause-kept : goal.returns-clause-kept
 returns-clause-kept c =
     let mid = c.intern.new.self.states.items in
     let new = c.fill.new.self.states.items in
-    keeps_more c.args.self.now.states.items mid new c.in_ok-next.ensures.kept (fill_keeps mid new c.args.state c.args.number c.in_ok-next.next c.fill.ensures.filled)
+    keeps_more c.args.self.now.states.items mid new c.in_ok-next.ensures.kept
+    (fill_keeps mid new c.args.state c.args.number c.in_ok-next.next c.fill.ensures.filled)
 
 pub returns-clause-automaton : goal.returns-clause-automaton
 returns-clause-automaton c =
@@ -45,9 +54,19 @@ returns-clause-automaton c =
     let next = c.in_ok-next.next in
     let s = c.index-2.result.now in
     let at = slice_get_read old (length old) c.args.state s refl c.requires.state c.index-2.ensures in
-    let places : c.deref.result.now ≡ state_places old c.args.state = c.deref.ensures.value ∙ sym (ap option_places at) in
-    let is : c.index-letters-number.result ≡ letter = c.index-letters-number.is ∙ get_or_default c.args.letters.now c.args.number c.index-letters-number.result 0 c.requires.number in
-    let reaches : AreReached code letter c.deref.result.now (taken_if c.in_ok-step.field-0 []) c.step.new.reached.items = subst (λ n. AreReached code n c.deref.result.now (taken_if c.in_ok-step.field-0 []) c.step.new.reached.items) is c.in_ok-step.ensures.reaches in
-    let step : LeadsToState code mid (state_places old c.args.state) letter next = step_to code old mid letter c.args.state next c.deref.result.now c.step.new.reached.items c.in_ok-step.field-0 places reaches c.in_ok-next.ensures.places in
-    let there : LeadsToState code mid (state_places mid c.args.state) letter next = subst (λ z. LeadsToState code mid z letter next) (sym (c.in_ok-next.ensures.kept c.args.state c.requires.state).1) step in
-    filled mid new c.args.state c.args.number next c.fill.ensures.filled code c.args.letters.now there c.intern.new.self c.fill.new.self refl refl c.fill.ensures.stepper c.fill.ensures.distinctions c.in_ok-next.ensures.automaton
+    let places : c.deref.result.now ≡ state_places old c.args.state =
+    c.deref.ensures.value ∙ sym (ap option_places at) in
+    let is : c.index-letters-number.result ≡ letter = c.index-letters-number.is
+    ∙ get_or_default c.args.letters.now c.args.number c.index-letters-number.result 0 c.requires.number in
+    let reaches : AreReached code letter c.deref.result.now (taken_if c.in_ok-step.field-0 [])
+    c.step.new.reached.items = subst (λ n. AreReached code n c.deref.result.now
+    (taken_if c.in_ok-step.field-0 []) c.step.new.reached.items) is c.in_ok-step.ensures.reaches in
+    let step : LeadsToState code mid (state_places old c.args.state) letter next =
+    step_to code old mid letter c.args.state next c.deref.result.now c.step.new.reached.items
+    c.in_ok-step.field-0 places reaches c.in_ok-next.ensures.places in
+    let there : LeadsToState code mid (state_places mid c.args.state) letter next =
+    subst (λ z. LeadsToState code mid z letter next)
+    (sym (c.in_ok-next.ensures.kept c.args.state c.requires.state).1) step in
+    filled mid new c.args.state c.args.number next c.fill.ensures.filled code c.args.letters.now there
+    c.intern.new.self c.fill.new.self refl refl c.fill.ensures.stepper c.fill.ensures.distinctions
+    c.in_ok-next.ensures.automaton

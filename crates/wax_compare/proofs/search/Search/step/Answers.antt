@@ -17,10 +17,17 @@ returns-then-is_dead-clause-next c =
     let number = c.args.number in
     let letter = slice_index letters number in
     let from = c.args.from in
-    let new : Search = record { wanted = old.wanted; texts = old.texts; letters = old.letters; first = c.follow.new.self; second = old.second } in
+    let new : Search = record {
+      wanted = old.wanted;
+      texts = old.texts;
+      letters = old.letters;
+      first = c.follow.new.self;
+      second = old.second;
+    } in
     let r : Readings = readings code c.args.second.now.0 new in
     let one : LeadsToState code r.firsts (state_places r.firsts from.first) letter c.in_ok-to.to =
-    step_here code old.first.states.items r.firsts letters c.deref.result.now number from.first c.in_ok-to.to c.in_ok-to.ensures.kept c.requires.first c.deref.ensures.value c.in_ok-to.ensures.step in
+    step_here code old.first.states.items r.firsts letters c.deref.result.now number from.first c.in_ok-to.to
+    c.in_ok-to.ensures.kept c.requires.first c.deref.ensures.value c.in_ok-to.ensures.step in
     next_dead r letter from c.in_ok-to.to one (c.is_dead.ensures.0 c.if-is_dead.true)
 
 pub returns-then-is_over-clause-next : goal.returns-then-is_over-clause-next
@@ -32,12 +39,21 @@ returns-then-is_over-clause-next c =
     let number = c.args.number in
     let letter = slice_index letters number in
     let from = c.args.from in
-    let new : Search = record { wanted = old.wanted; texts = old.texts; letters = old.letters; first = c.follow.new.self; second = c.follow-2.new.self } in
+    let new : Search = record {
+      wanted = old.wanted;
+      texts = old.texts;
+      letters = old.letters;
+      first = c.follow.new.self;
+      second = c.follow-2.new.self;
+    } in
     let r : Readings = readings code other new in
     let one : LeadsToState code r.firsts (state_places r.firsts from.first) letter c.in_ok-to.to =
-    step_here code old.first.states.items r.firsts letters c.deref.result.now number from.first c.in_ok-to.to c.in_ok-to.ensures.kept c.requires.first c.deref.ensures.value c.in_ok-to.ensures.step in
+    step_here code old.first.states.items r.firsts letters c.deref.result.now number from.first c.in_ok-to.to
+    c.in_ok-to.ensures.kept c.requires.first c.deref.ensures.value c.in_ok-to.ensures.step in
     let two : LeadsToState other r.seconds (state_places r.seconds from.second) letter c.in_ok-other.other =
-    step_here other old.second.states.items r.seconds letters c.deref-2.result.now number from.second c.in_ok-other.other c.in_ok-other.ensures.kept c.requires.second c.deref-2.ensures.value c.in_ok-other.ensures.step in
+    step_here other old.second.states.items r.seconds letters c.deref-2.result.now number from.second
+    c.in_ok-other.other c.in_ok-other.ensures.kept c.requires.second c.deref-2.ensures.value
+    c.in_ok-other.ensures.step in
     let told = c.is_over.ensures c.if-is_over.true in
     next_over r letter from c.in_ok-to.to c.in_ok-other.other one two told.0 told.1
 
@@ -50,14 +66,27 @@ returns-clause-next c =
     let number = c.args.number in
     let letter = slice_index letters number in
     let from = c.args.from in
-    let new : Search = record { wanted = old.wanted; texts = old.texts; letters = old.letters; first = c.follow.new.self; second = c.follow-2.new.self } in
+    let new : Search = record {
+      wanted = old.wanted;
+      texts = old.texts;
+      letters = old.letters;
+      first = c.follow.new.self;
+      second = c.follow-2.new.self;
+    } in
     let r : Readings = readings code other new in
     let one : LeadsToState code r.firsts (state_places r.firsts from.first) letter c.in_ok-to.to =
-    step_here code old.first.states.items r.firsts letters c.deref.result.now number from.first c.in_ok-to.to c.in_ok-to.ensures.kept c.requires.first c.deref.ensures.value c.in_ok-to.ensures.step in
+    step_here code old.first.states.items r.firsts letters c.deref.result.now number from.first c.in_ok-to.to
+    c.in_ok-to.ensures.kept c.requires.first c.deref.ensures.value c.in_ok-to.ensures.step in
     let two : LeadsToState other r.seconds (state_places r.seconds from.second) letter c.in_ok-other.other =
-    step_here other old.second.states.items r.seconds letters c.deref-2.result.now number from.second c.in_ok-other.other c.in_ok-other.ensures.kept c.requires.second c.deref-2.ensures.value c.in_ok-other.ensures.step in
-    let next : StatePair = record { first = c.in_ok-to.to; second = c.in_ok-other.other; may_end = c.begun_after.result } in
-    let is : c.index-letter.result.now ≡ letter = c.index-letter.ensures ∙ get_or_default letters number c.index-letter.result.now 0 c.requires.number in
-    let begun : c.begun_after.result ≡ begun_after old.texts from.may_end letter = c.begun_after.ensures ∙ ap (begun_after old.texts from.may_end) is in
-    let may : IsAllowed old.texts from.may_end letter = subst (IsAllowed old.texts from.may_end) is (c.is_allowed.ensures.0 c.if-not-is_allowed.false) in
+    step_here other old.second.states.items r.seconds letters c.deref-2.result.now number from.second
+    c.in_ok-other.other c.in_ok-other.ensures.kept c.requires.second c.deref-2.ensures.value
+    c.in_ok-other.ensures.step in
+    let next : StatePair =
+    record { first = c.in_ok-to.to; second = c.in_ok-other.other; may_end = c.begun_after.result } in
+    let is : c.index-letter.result.now ≡ letter = c.index-letter.ensures
+    ∙ get_or_default letters number c.index-letter.result.now 0 c.requires.number in
+    let begun : c.begun_after.result ≡ begun_after old.texts from.may_end letter =
+    c.begun_after.ensures ∙ ap (begun_after old.texts from.may_end) is in
+    let may : IsAllowed old.texts from.may_end letter =
+    subst (IsAllowed old.texts from.may_end) is (c.is_allowed.ensures.0 c.if-not-is_allowed.false) in
     next_pair r letter from c.in_ok-to.to c.in_ok-other.other one two next refl refl begun may

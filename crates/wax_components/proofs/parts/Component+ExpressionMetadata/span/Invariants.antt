@@ -6,6 +6,7 @@ use Rattle.wax_components.proofs.parts.Component+ExpressionMetadata.span.Given a
 
 abbrev pub invariant-loop-token : goal.invariant-loop-token
 invariant-loop-token l = record {
-  joint : fold (λ s u. span_union s (annotation_of u)) l.span (drop l.token-index l.token-items) ≡ joint_span l.self;
+  joint : fold (λ s u. span_union s (annotation_of u)) l.span (drop l.token-index l.token-items)
+      ≡ joint_span l.self;
   fits : l.span.0 + l.span.1 < 2 ^ 64;
 }

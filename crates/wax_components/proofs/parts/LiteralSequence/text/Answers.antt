@@ -6,7 +6,8 @@ use Rattle.wax_components.specs.Parts.{literals_text}
 use Rattle.wax_components.proofs.parts.LiteralSequence.text.Goals as goal
 
 pub loop-token-init : goal.loop-token-init
-loop-token-init g c = ap (λ z. z ++ literals_text c.self.inside.tokens.now) (ap chars c.new-text.ensures.bytes ∙ no_text) ∙ c.self.view_is
+loop-token-init g c = ap (λ z. z ++ literals_text c.self.inside.tokens.now)
+    (ap chars c.new-text.ensures.bytes ∙ no_text) ∙ c.self.view_is
 
 pub loop-token-preserved : goal.loop-token-preserved
 loop-token-preserved g c =
@@ -16,7 +17,8 @@ loop-token-preserved g c =
     let piece = c.literal_text.result.now in
     let rest = literals_text (drop (i + 1) ts) in
     let split : drop i ts ≡ c.token-item.result ∷ drop (i + 1) ts =
-    drop_more ts i c.token-item.result c.loop-token-test.true ∙ ap (λ z. z ∷ drop (i + 1) ts) (sym c.token-item.is) in
+    drop_more ts i c.token-item.result c.loop-token-test.true
+    ∙ ap (λ z. z ∷ drop (i + 1) ts) (sym c.token-item.is) in
     ap (λ z. chars z ++ rest) c.in_ok-push_str.ensures.bytes
     ∙ ap (λ z. z ++ rest) (chars-append old piece (IsUtf8-string_bytes c.loop-token.text))
     ∙ append_assoc (chars old) (chars piece) rest

@@ -98,7 +98,8 @@ returns-in_err-cursor-clause-counted g c =
 
 pub returns-in-Ok-None-clause-counted : goal.returns-in-Ok-None-clause-counted
 returns-in-Ok-None-clause-counted g c =
-    let K : Option ListItem → Type 0 = λ v. Counts (next_counts (Ok v)) (g.Self.Directory.law.tally c.loop.self)
+    let K : Option ListItem → Type 0 =
+    λ v. Counts (next_counts (Ok v)) (g.Self.Directory.law.tally c.loop.self)
     (g.Self.Directory.law.tally c.next.new.self) in
     counts_end c.loop.items.items c.args.most _ _ _ c.loop.invariant.taken.counted
     (subst K c.in-Ok-None.field-0-is c.in-Ok-None.ensures.counted)

@@ -7,7 +7,9 @@ use Rattle.wax_directory.proofs.Finding.{other_distinct, own_duplicate, below_du
 use Rattle.wax_directory.proofs.Finding.{folder_distinct, entry_at, no_entry_at, entry_within, one_more}
 use Rattle.wax_directory.proofs.Finding.{same_entry, not_both}
 use Rattle.wax_directory.proofs.tree.Node.+has_distinct_names.Goals as goal
-use Rattle.wax_directory.proofs.tree.Node.+has_distinct_names.Goals.{in-Entry+in_ok-has_distinct_names+else-not-branch-2}
+use Rattle.wax_directory.proofs.tree.Node.+has_distinct_names.Goals.{
+  in-Entry+in_ok-has_distinct_names+else-not-branch-2,
+}
 use Rattle.wax_directory.proofs.tree.Node.+has_distinct_names.Goals.{in_default-item}
 
 pub returns-in_default : goal.returns-in_default

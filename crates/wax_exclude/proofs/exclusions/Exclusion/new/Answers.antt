@@ -16,7 +16,8 @@ use Rattle.wax_exclude.proofs.exclusions.Exclusion.new.Goals as goal
 pub covering_of-requires : goal.covering_of-requires
 covering_of-requires c =
     let t = c.args.pattern in
-    All-same (λ u. cost u < 1048576) c.as_slice.result.now (alternatives t) (c.as_slice.ensures.value ∙ c.in_ok-alternatives.ensures.all)
+    All-same (λ u. cost u < 1048576) c.as_slice.result.now (alternatives t)
+    (c.as_slice.ensures.value ∙ c.in_ok-alternatives.ensures.all)
     (alternatives_fit t c.in_ok-compiled.ensures.fits)
 
 pub invariant_of-result : goal.invariant_of-result
@@ -25,9 +26,11 @@ invariant_of-result c =
     let ts = c.in_ok-alternatives.alternatives.items in
     let accepts = c.in_ok-compiled.ensures.compiled.accepts in
     record {
-      whole = λ s. subst (λ code. Accepts code 0 s ↔ MeansSome (trees ts) false false s) (sym c.with_most.ensures)
+      whole =
+          λ s. subst (λ code. Accepts code 0 s ↔ MeansSome (trees ts) false false s) (sym c.with_most.ensures)
           (whole_of t ts c.in_ok-compiled.compiled c.in_ok-alternatives.ensures.means accepts s);
-      covers = subst (CoverAll c.in_ok-covering.covering.items) c.as_slice.ensures.value c.in_ok-covering.ensures;
+      covers =
+          subst (CoverAll c.in_ok-covering.covering.items) c.as_slice.ensures.value c.in_ok-covering.ensures;
       all = c.some_everything-covers_all.ensures ∙ ap some_everything c.as_slice-2.ensures.value;
     }
 
@@ -35,4 +38,5 @@ pub returns-clause-says : goal.returns-clause-says
 returns-clause-says c =
     let t = c.args.pattern in
     let all = c.in_ok-alternatives.ensures.all in
-    subst (λ z. excluded_mark z ≡ not_mark t) (sym all) (says_pattern t (subst (MeansOneOf t) all c.in_ok-alternatives.ensures.means))
+    subst (λ z. excluded_mark z ≡ not_mark t) (sym all)
+    (says_pattern t (subst (MeansOneOf t) all c.in_ok-alternatives.ensures.means))

@@ -12,9 +12,13 @@ returns-in_ok-found-in-Some-Some c =
     let lines = c.args.self.now.lines.now in
     let index = c.args.index in
     let one : (s : List ℕ) → Accepts c.in-Some-Some.first.0 0 s ↔ SomeHeldMeans lines (index ∷ []) s =
-    subst (λ k. IfSome k (λ p. (s : List ℕ) → Accepts p.0 0 s ↔ SomeHeldMeans lines (index ∷ []) s)) c.in-Some-Some.is-0 c.in_ok-first.ensures in
+    subst (λ k. IfSome k (λ p. (s : List ℕ) → Accepts p.0 0 s ↔ SomeHeldMeans lines (index ∷ []) s))
+    c.in-Some-Some.is-0 c.in_ok-first.ensures in
     let two : (s : List ℕ) → Accepts c.in-Some-Some.second.0 0 s ↔ SomeHeldMeans lines c.args.others.now s =
-    subst (λ k. IfSome k (λ p. (s : List ℕ) → Accepts p.0 0 s ↔ SomeHeldMeans lines c.args.others.now s)) c.in-Some-Some.is-1 c.in_ok-second.ensures in
-    answer_as Paths (Accepts c.in-Some-Some.first.0 0) (Accepts c.in-Some-Some.second.0 0) (HeldMeans lines index) (SomeHeldMeans lines c.args.others.now)
-    (λ s. ((λ h. (only_one lines index s).0 ((one s).0 h)), (λ m. (one s).1 ((only_one lines index s).1 m)))) two
+    subst (λ k. IfSome k (λ p. (s : List ℕ) → Accepts p.0 0 s ↔ SomeHeldMeans lines c.args.others.now s))
+    c.in-Some-Some.is-1 c.in_ok-second.ensures in
+    answer_as Paths (Accepts c.in-Some-Some.first.0 0) (Accepts c.in-Some-Some.second.0 0)
+    (HeldMeans lines index) (SomeHeldMeans lines c.args.others.now)
+    (λ s. ((λ h. (only_one lines index s).0 ((one s).0 h)), (λ m. (one s).1 ((only_one lines index s).1 m))))
+    two
     c.args.wanted c.in_ok-found-in-Some-Some.found c.in_ok-found-in-Some-Some.ensures

@@ -13,7 +13,8 @@ loop-earlier-preserved-then-not-self-earlier c =
     let k = c.loop-earlier.earlier in
     let line = c.index-self-earlier.result in
     let low : k < length lines = omega (arith, c.loop-earlier-test.true, c.requires) in
-    takes_none_of_other lines c.args.index k (get_or lines k line) (slice_get-get_or lines k line low) c.if-not-self-earlier.true c.loop-earlier.invariant
+    takes_none_of_other lines c.args.index k (get_or lines k line) (slice_get-get_or lines k line low)
+    c.if-not-self-earlier.true c.loop-earlier.invariant
 
 pub returns-in-Text : goal.returns-in-Text
 returns-in-Text c =
@@ -21,12 +22,16 @@ returns-in-Text c =
     let k = c.loop-earlier.earlier in
     let line = c.index-self-earlier.result in
     let low : k < length lines = omega (arith, c.loop-earlier-test.true, c.requires) in
-    let wanted = (subst (IsAnswer (IsWanted Both Paths (HeldMeans lines c.args.index) (SomeHeldMeans lines (k ∷ [])))) c.in-Text.is c.in_ok-compare.ensures).0 in
-    takes_some lines c.args.index k (get_or lines k line) _ (slice_get-get_or lines k line low) c.if-not-self-earlier.false c.loop-earlier-test.true wanted
+    let wanted =
+    (subst (IsAnswer (IsWanted Both Paths (HeldMeans lines c.args.index) (SomeHeldMeans lines (k ∷ []))))
+    c.in-Text.is c.in_ok-compare.ensures).0 in
+    takes_some lines c.args.index k (get_or lines k line) _ (slice_get-get_or lines k line low)
+    c.if-not-self-earlier.false c.loop-earlier-test.true wanted
 
 pub returns : goal.returns
 returns c =
     let lines = c.args.self.now.lines.now in
     let line = c.index-self-index.result in
-    takes_nothing lines c.args.index (get_or lines c.args.index line) (slice_get-get_or lines c.args.index line c.requires) c.if-self-index.false
+    takes_nothing lines c.args.index (get_or lines c.args.index line)
+    (slice_get-get_or lines c.args.index line c.requires) c.if-self-index.false
     (λ k s lt. c.loop-earlier.invariant k s (omega (arith, lt, c.loop-earlier-test.false)))

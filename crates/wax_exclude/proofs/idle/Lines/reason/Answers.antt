@@ -11,8 +11,10 @@ returns-in-Missing c =
     let lines = c.covering.new.self.lines.now in
     let known = c.in_ok-covering.ensures in
     let effect : HasEffect (HeldIgnores lines) (HeldMeans lines) index =
-    subst (λ b. MatchBool b (HasEffect (HeldIgnores lines) (HeldMeans lines) index) (TakesNothing (HeldIgnores lines) (HeldMeans lines) index)) c.if-not-has_effect.false
-    (subst (λ o. IfSome o (λ b. MatchBool b (HasEffect (HeldIgnores lines) (HeldMeans lines) index) (TakesNothing (HeldIgnores lines) (HeldMeans lines) index)))
+    subst (λ b. MatchBool b (HasEffect (HeldIgnores lines) (HeldMeans lines) index)
+    (TakesNothing (HeldIgnores lines) (HeldMeans lines) index)) c.if-not-has_effect.false
+    (subst (λ o. IfSome o (λ b. MatchBool b (HasEffect (HeldIgnores lines) (HeldMeans lines) index)
+    (TakesNothing (HeldIgnores lines) (HeldMeans lines) index)))
     c.in-Some.is c.in_ok-has_effect.ensures) in
     record {
       lines = known.lines;

@@ -8,9 +8,11 @@ returns-then-not-may_match c = λ lines knows number accepted.
     let numbered = c.args.self.now in
     let path = chars c.args.path.now in
     let rejected : c.may_match.result ≡ false = search rules in
-    let passes = matched_passes numbered.literals numbered.top 0 lines number path knows.literals ((knows.means number path).0 accepted) in
+    let passes = matched_passes numbered.literals numbered.top 0 lines number path knows.literals
+    ((knows.means number path).0 accepted) in
     true≢false (sym (c.may_match.ensures passes) ∙ rejected)
 
 pub returns : goal.returns
 returns c = λ lines knows.
-    subst (λ code. IfOk c.last_number.result (IsLastNumber code (chars c.args.path.now))) c.holder.ensures c.last_number.ensures
+    subst (λ code. IfOk c.last_number.result (IsLastNumber code (chars c.args.path.now))) c.holder.ensures
+    c.last_number.ensures

@@ -5,4 +5,5 @@ use Rattle.wax_exclude.proofs.numbers.NumberedLines.residue.Goals as goal
 
 pub returns-clause-says : goal.returns-clause-says
 returns-clause-says c = λ lines knows.
-    c.residue_by.ensures ∙ numbers_decide lines c.args.self.now (in_characters c.args.candidate) c.in_ok-last.last knows c.in_ok-last.ensures.last
+    c.residue_by.ensures ∙ numbers_decide lines c.args.self.now (in_characters c.args.candidate)
+    c.in_ok-last.last knows c.in_ok-last.ensures.last

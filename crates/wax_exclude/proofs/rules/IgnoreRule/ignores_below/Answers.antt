@@ -14,7 +14,8 @@ answers : (c : goal.After-is_tree) (lines : List (Line Span)) → HasLines c.arg
 answers c =
     let knows = subst (λ ls. KnowsLines ls c.self.inside.numbered) c.self.view_is c.self.invariant in
     let folder = c.folder_candidate in
-    answers_lines c.is_tree.result (mark_of c.in_ok-residue.residue) c.is_tree.ensures (in_characters folder.result)
+    answers_lines c.is_tree.result (mark_of c.in_ok-residue.residue) c.is_tree.ensures
+    (in_characters folder.result)
     (folder_at c.args.path.now) folder.ensures.text folder.ensures.named c.args.self.now
     (c.in_ok-residue.ensures c.args.self.now knows)
 
@@ -22,7 +23,8 @@ pub returns-clause-says : goal.returns-clause-says
 returns-clause-says c =
     let knows = subst (λ ls. KnowsLines ls c.self.inside.numbered) c.self.view_is c.self.invariant in
     let folder = c.folder_candidate in
-    answers_listed c.is_tree.result (mark_of c.in_ok-residue.residue) c.is_tree.ensures (in_characters folder.result)
+    answers_listed c.is_tree.result (mark_of c.in_ok-residue.residue) c.is_tree.ensures
+    (in_characters folder.result)
     (folder_at c.args.path.now) folder.ensures.text folder.ensures.named c.args.self.now
     (c.in_ok-residue.ensures c.args.self.now knows)
 

@@ -12,5 +12,6 @@ pub returns-clause-decides : goal.returns-clause-decides
 returns-clause-decides c = λ lines has.
     let knows = subst (λ ls. KnowsLines ls c.self.inside.numbered) c.self.view_is c.self.invariant in
     c.is_some.ensures
-    ∙ excluded_if_ignored c.args.self.now lines (in_characters c.path_candidate.result) c.in_ok-residue.residue has (c.in_ok-residue.ensures.says c.args.self.now knows)
+    ∙ excluded_if_ignored c.args.self.now lines (in_characters c.path_candidate.result)
+    c.in_ok-residue.residue has (c.in_ok-residue.ensures.says c.args.self.now knows)
     ∙ ap (λ s. is_ignored lines s) c.path_candidate.ensures

@@ -13,7 +13,8 @@ loop-token-init g c =
     let f = g.F.Fold.answers c.args.folder.now in
     let b = branch_of c.args.branch.now in
     record {
-      term = begun chosen f (branch_folded chosen f b) (λ o. folding f (open_branch o)) c.new-outer.result.items
+      term =
+          begun chosen f (branch_folded chosen f b) (λ o. folding f (open_branch o)) c.new-outer.result.items
           (open_branch c.in_ok-current.current) b c.new-outer.ensures.items c.in_ok-current.ensures;
       same = refl;
     }

@@ -13,7 +13,8 @@ invariant-loop-token g l =
     let f = g.F.Fold.answers l.fn.folder in
     record {
       term : closed_all (folded chosen f) (map (λ o. folding f (open_branch o)) l.outer.items)
-          (closed (folded chosen f) (folding f (open_branch l.current))) ≡ branch_folded chosen f (branch_of l.branch);
+          (closed (folded chosen f) (folding f (open_branch l.current)))
+          ≡ branch_folded chosen f (branch_of l.branch);
       same : g.F.Fold.answers l.folder ≡ f;
     }
 

@@ -22,7 +22,8 @@ loop-token-smaller-in-Branch g c =
     fewer_deeper f
     (map (λ o. mapping f (open_token o)) c.loop-token.outer.items)
     (map (λ o. mapping f (open_token o)) c.push.new.self.items)
-    (open_token c.loop-token.current) (open_token c.next_token.new.of) (open_token c.in_ok-inner-in-Branch.inner)
+    (open_token c.loop-token.current) (open_token c.next_token.new.of)
+    (open_token c.in_ok-inner-in-Branch.inner)
     c.into_parts-topology.result.0 c.in-Branch.branch c.in-Some.token c.into_parts-topology.result.1
     (mapped_last (λ o. mapping f (open_token o)) c.push.new.self.items c.loop-token.outer.items
     c.next_token.new.of c.in_ok-push-in-Branch.ensures.items)
@@ -36,7 +37,8 @@ loop-token-preserved-in-Branch g c =
           (map (λ o. mapping f (open_token o)) c.loop-token.outer.items)
           (map (λ o. mapping f (open_token o)) c.push.new.self.items)
           (open_token c.loop-token.current) (open_token c.next_token.new.of)
-          (open_token c.in_ok-inner-in-Branch.inner) c.in-Some.token c.in-Branch.branch c.into_parts-topology.result.1
+          (open_token c.in_ok-inner-in-Branch.inner) c.in-Some.token c.in-Branch.branch
+          c.into_parts-topology.result.1
           (mapped_last (λ o. mapping f (open_token o)) c.push.new.self.items c.loop-token.outer.items
           c.next_token.new.of c.in_ok-push-in-Branch.ensures.items)
           c.in-Some.ensures c.in_ok-inner-in-Branch.ensures
@@ -60,7 +62,8 @@ loop-token-preserved g c =
           c.in-Some-pop.around c.in-Some-pop.ensures.items)
           c.in-None.ensures c.loop-token.invariant.same c.in_ok-made-in-None.ensures.token
           c.in_ok-current-in-Some-pop.ensures c.loop-token.invariant.token;
-      same = ◌∙◌ {a = g.F.FoldMap.answers c.close.new.folder} c.close.ensures.same c.loop-token.invariant.same;
+      same =
+          ◌∙◌ {a = g.F.FoldMap.answers c.close.new.folder} c.close.ensures.same c.loop-token.invariant.same;
     }
 
 pub loop-token-smaller : goal.loop-token-smaller

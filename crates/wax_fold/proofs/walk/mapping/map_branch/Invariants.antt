@@ -11,7 +11,8 @@ invariant-loop-token g l =
     let f = g.F.FoldMap.answers l.fn.folder in
     record {
       token : closed_all (mapped f) (map (λ o. mapping f (open_token o)) l.outer.items)
-          (closed (mapped f) (mapping f (open_token l.current))) ≡ mapped f (branch_tree l.fn.branch l.fn.annotation);
+          (closed (mapped f) (mapping f (open_token l.current)))
+          ≡ mapped f (branch_tree l.fn.branch l.fn.annotation);
       same : g.F.FoldMap.answers l.folder ≡ f;
     }
 

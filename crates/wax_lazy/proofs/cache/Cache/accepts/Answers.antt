@@ -8,14 +8,16 @@ pub returns-in-Some-clause-accepts : goal.returns-in-Some-clause-accepts
 returns-in-Some-clause-accepts c =
     let code = c.args.program.now.0 in
     let s = c.state.result.now in
-    let known = subst (λ o. IfSome o (λ b. IsTrue b ↔ AnyAmong code s.places.items [])) c.in-Some.is (c.requires.here.cache.table.rows c.args.state s c.state.ensures).ends in
+    let known = subst (λ o. IfSome o (λ b. IsTrue b ↔ AnyAmong code s.places.items [])) c.in-Some.is
+    (c.requires.here.cache.table.rows c.args.state s c.state.ensures).ends in
     subst (λ z. IsTrue c.in-Some.accepts ↔ AnyAmong code z []) (sym (ap places_in c.state.ensures)) known
 
 pub returns-clause-kept : goal.returns-clause-kept
 returns-clause-kept c =
     let code = c.args.program.now.0 in
     let same = c.computed-accepts.ensures.table in
-    let settled = subst (λ z. IsSettled z.states.items c.settle.new.self.states.items c.args.state (λ _. Some c.computed-accepts.result) (λ s. s.numbers)) same c.settle.ensures.states in
+    let settled = subst (λ z. IsSettled z.states.items c.settle.new.self.states.items c.args.state
+    (λ _. Some c.computed-accepts.result) (λ s. s.numbers)) same c.settle.ensures.states in
     record {
       cache =
           cache_accepts code c.args.self.now
@@ -35,7 +37,10 @@ returns-clause-kept c =
             read = c.computed-accepts.new.self.read;
             gives_up = c.computed-accepts.new.self.gives_up;
           })
-          c.args.state c.computed-accepts.result c.requires.here.cache settled c.computed-accepts.ensures.accepts
-          c.computed-accepts.ensures.kept.cache.size c.computed-accepts.ensures.kept.start c.computed-accepts.ensures.first (c.settle.ensures.cells ∙ ap (λ z. z.cells) same) (c.settle.ensures.wide ∙ ap (λ z. z.wide_cells) same) c.computed-accepts.ensures.rows;
+          c.args.state c.computed-accepts.result c.requires.here.cache settled
+          c.computed-accepts.ensures.accepts
+          c.computed-accepts.ensures.kept.cache.size c.computed-accepts.ensures.kept.start
+          c.computed-accepts.ensures.first (c.settle.ensures.cells ∙ ap (λ z. z.cells) same)
+          (c.settle.ensures.wide ∙ ap (λ z. z.wide_cells) same) c.computed-accepts.ensures.rows;
       start = c.computed-accepts.ensures.kept.start;
     }

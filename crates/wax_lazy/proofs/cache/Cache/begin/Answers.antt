@@ -9,8 +9,22 @@ pub intern-requires-clause-cache : goal.intern-requires-clause-cache
 intern-requires-clause-cache c =
     let code = c.args.program.now.0 in
     let cleared = cache_cleared code _ c.clear.new.self
-    (record { size = c.requires.size; start = c.requires.start; table = c.requires.table; wide = c.requires.wide; rows = c.requires.rows; first = c.requires.first }) c.clear.ensures in
-    record { size = cleared.size; start = cleared.start; table = cleared.table; wide = cleared.wide; rows = cleared.rows; first = cleared.first }
+    (record {
+      size = c.requires.size;
+      start = c.requires.start;
+      table = c.requires.table;
+      wide = c.requires.wide;
+      rows = c.requires.rows;
+      first = c.requires.first;
+    }) c.clear.ensures in
+    record {
+      size = cleared.size;
+      start = cleared.start;
+      table = cleared.table;
+      wide = cleared.wide;
+      rows = cleared.rows;
+      first = cleared.first;
+    }
 
 pub returns-clause-kept : goal.returns-clause-kept
 returns-clause-kept c =
@@ -18,7 +32,8 @@ returns-clause-kept c =
     let states = c.intern.new.self.table.states.items in
     let made = c.in_ok-state.ensures in
     let held = c.intern.ensures.kept.cache in
-    let one : places_at states c.in_ok-state.state ≡ c.clear.new.self.start ∷ [] = made.interned.places_are ∙ search rules in
+    let one : places_at states c.in_ok-state.state ≡ c.clear.new.self.start ∷ [] =
+    made.interned.places_are ∙ search rules in
     let first = begun code states c.clear.new.self.start c.in_ok-state.state made.interned.known one in
     record {
       cache = record {
@@ -37,6 +52,7 @@ returns-clause-begins c =
     let code = c.args.program.now.0 in
     let states = c.intern.new.self.table.states.items in
     let made = c.in_ok-state.ensures in
-    let one : places_at states c.in_ok-state.state ≡ c.clear.new.self.start ∷ [] = made.interned.places_are ∙ search rules in
+    let one : places_at states c.in_ok-state.state ≡ c.clear.new.self.start ∷ [] =
+    made.interned.places_are ∙ search rules in
     let first = begun code states c.clear.new.self.start c.in_ok-state.state made.interned.known one in
     subst (λ n. BeginsTexts code states n c.in_ok-state.state) c.clear.ensures.maker.start first

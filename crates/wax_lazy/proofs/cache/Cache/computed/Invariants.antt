@@ -12,5 +12,6 @@ invariant-loop-part l = record {
   rows : l.self.rows ≡ l.fn.self.rows;
   first : l.self.first ≡ l.fn.self.first;
   has_state : HasState l.self.table.states.items l.here;
-  same : AnyAmong l.program.0 (places_at l.fn.self.table.states.items l.state) [] ↔ AnyAmong l.program.0 (places_at l.self.table.states.items l.here) [];
+  same : AnyAmong l.program.0 (places_at l.fn.self.table.states.items l.state) []
+      ↔ AnyAmong l.program.0 (places_at l.self.table.states.items l.here) [];
 }

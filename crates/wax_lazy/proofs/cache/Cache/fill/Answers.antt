@@ -8,7 +8,8 @@ pub follow-requires-clause-here : goal.follow-requires-clause-here
 follow-requires-clause-here c =
     let (s, is) = state_at c.args.self.now.table.states.items c.args.state c.requires.here.has_state in
     record {
-      cache = cache_restarted c.args.program.now.0 c.args.self.now c.restart.new.self c.requires.here.cache s (c.requires.here.cache.table.rows _ s is) (c.in_ok-restart.ensures.ok s is);
+      cache = cache_restarted c.args.program.now.0 c.args.self.now c.restart.new.self c.requires.here.cache s
+          (c.requires.here.cache.table.rows _ s is) (c.in_ok-restart.ensures.ok s is);
       has_state = restarted_place c.args.self.now c.restart.new.self s (c.in_ok-restart.ensures.ok s is);
     }
 
@@ -20,10 +21,15 @@ follow-requires-clause-few c =
 pub returns-then-is_full-clause-kept : goal.returns-then-is_full-clause-kept
 returns-then-is_full-clause-kept c =
     let (s, is) = state_at c.args.self.now.table.states.items c.args.state c.requires.here.has_state in
-    record { cache = c.follow.ensures.kept.cache; start = c.follow.ensures.kept.start ∙ (c.in_ok-restart.ensures.ok s is).maker.start }
+    record {
+      cache = c.follow.ensures.kept.cache;
+      start = c.follow.ensures.kept.start ∙ (c.in_ok-restart.ensures.ok s is).maker.start;
+    }
 
 pub returns-then-is_full-clause-leads : goal.returns-then-is_full-clause-leads
 returns-then-is_full-clause-leads c =
     let (s, is) = state_at c.args.self.now.table.states.items c.args.state c.requires.here.has_state in
-    let same = restarted_places c.args.self.now c.restart.new.self s (c.in_ok-restart.ensures.ok s is) c.args.state is in
-    subst (λ z. IfOk c.follow.result (LeadsNext c.args.program.now.0 c.follow.new.self.table.states.items z c.args.c)) same c.follow.ensures.leads
+    let same = restarted_places c.args.self.now c.restart.new.self s
+    (c.in_ok-restart.ensures.ok s is) c.args.state is in
+    subst (λ z. IfOk c.follow.result (LeadsNext c.args.program.now.0 c.follow.new.self.table.states.items z
+    c.args.c)) same c.follow.ensures.leads

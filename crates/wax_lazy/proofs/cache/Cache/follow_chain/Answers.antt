@@ -1,7 +1,9 @@
-use Rattle.std.proofs.Common.{◌≡◌, ◌+◌, ◌/◌, ◌↔◌, ◌⊎◌, ◌∷◌, ◌++◌, ◌<◌, ℕ, List, IfSome, true, drop, length, refl, sym, ◌∙◌, ap, subst, arith}
+use Rattle.std.proofs.Common.{◌≡◌, ◌+◌, ◌/◌, ◌↔◌, ◌⊎◌, ◌∷◌, ◌++◌, ◌<◌, ℕ, List, IfSome, true, drop, length}
+use Rattle.std.proofs.Common.{refl, sym, ◌∙◌, ap, subst, arith}
 use Rattle.wax_lazy.specs.inner.Cached.{DecidesLeft}
 use Rattle.wax_states.specs.States.{HasState, places_at, places_or_none}
-use Rattle.wax_lazy.proofs.Chains.{all_on, both_on, check_within, chain_begins, chain_ends, next_placed, failure_on}
+use Rattle.wax_lazy.proofs.Chains.{all_on, both_on, check_within, chain_begins, chain_ends, next_placed}
+use Rattle.wax_lazy.proofs.Chains.{failure_on}
 use Rattle.wax_lazy.proofs.Walking.{next_of}
 use Rattle.wax_program.specs.Checks.{IsCheckAt}
 use Rattle.wax_program.specs.Machine.{Accepts}
@@ -17,7 +19,8 @@ loop-next-init c = record {
   from = omega arith;
   within = c.requires.within;
   check = c.requires.check;
-  stays = λ places chain s. chain_begins c.args.program.now.0 c.args.self.now.table.states.items places c.args.chain (drop c.args.index c.args.text.now ++ s) chain;
+  stays = λ places chain s. chain_begins c.args.program.now.0 c.args.self.now.table.states.items places
+      c.args.chain (drop c.args.index c.args.text.now ++ s) chain;
 }
 
 pub returns-in-Everything-clause-decides : goal.returns-in-Everything-clause-decides
@@ -29,10 +32,12 @@ returns-in-Everything-clause-decides c = λ places chain.
     let new = c.follow_failure.new.self.table.states.items in
     let part = places_or_none l.self.table.states.items l.here.failure in
     let after : List ℕ = drop (l.end + 1) text in
-    let one : drop l.end text ≡ c.from.result ∷ after = next_of text l.end held.within ∙ ap (λ k. k ∷ after) (sym c.from.ensures) in
+    let one : drop l.end text ≡ c.from.result ∷ after =
+    next_of text l.end held.within ∙ ap (λ k. k ∷ after) (sym c.from.ensures) in
     let takes = rw c.in-Everything.is at c.in_ok-next.ensures.leads in
     subst (λ n. DecidesLeft code new places (drop c.args.index text) after n) (sym c.in-Everything.is)
-    (all_on code new places part (drop c.args.index text) (drop l.end text) after l.here.place c.from.result (held.stays places chain) one takes)
+    (all_on code new places part (drop c.args.index text) (drop l.end text) after l.here.place c.from.result
+    (held.stays places chain) one takes)
 
 pub overflow_add-here : goal.overflow_add-here
 overflow_add-here c =
@@ -49,20 +54,27 @@ loop-next-preserved c =
     let new = c.follow_failure.new.self.table.states.items in
     let part = places_or_none l.self.table.states.items l.here.failure in
     let after : List ℕ = drop (l.end + 1) text in
-    let one : drop l.end text ≡ c.from.result ∷ after = next_of text l.end held.within ∙ ap (λ k. k ∷ after) (sym c.from.ensures) in
+    let one : drop l.end text ≡ c.from.result ∷ after =
+    next_of text l.end held.within ∙ ap (λ k. k ∷ after) (sym c.from.ensures) in
     let check = subst (λ k. IsCheckAt code l.here.place k true) (sym c.from.ensures) held.check in
     let leads = c.in_ok-next.ensures.leads in
-    let further = subst (λ k. IsCheckAt code (l.here.place + 1) k true) c.from-c.ensures (subst (IsCheckAt code (l.here.place + 1) c.from-c.result) c.in-Some-true.field-0-test c.in-Some-true.ensures.check) in
+    let further = subst (λ k. IsCheckAt code (l.here.place + 1) k true) c.from-c.ensures (subst (IsCheckAt
+    code (l.here.place + 1) c.from-c.result) c.in-Some-true.field-0-test c.in-Some-true.ensures.check) in
     record {
       cache = c.follow_failure.ensures.kept.cache;
       start = c.follow_failure.ensures.kept.start ∙ held.start;
-      has_state = subst (λ o. IfSome o (HasState new)) (sym c.state.ensures) (next_placed code new part c.from.result c.in_ok-next.next leads);
+      has_state = subst (λ o. IfSome o (HasState new)) (sym c.state.ensures)
+          (next_placed code new part c.from.result c.in_ok-next.next leads);
       few = c.is_full.ensures c.if-is_full.false;
       from = omega (arith, held.from);
       within = omega (arith, c.if-end-text.false);
       check = further;
-      stays = λ places chain. subst (λ o. (s : List ℕ) → AnyAmong code places (drop c.args.index text ++ s) ↔ (AnyAmong code (places_or_none new o) (after ++ s) ⊎ Accepts code (l.here.place + 1) (after ++ s))) (sym c.state.ensures)
-          (both_on code new places part (drop c.args.index text) (drop l.end text) after l.here.place c.from.result (held.stays places chain) one c.in_ok-next.next check leads c.in_default.not-Everything);
+      stays = λ places chain. subst (λ o. (s : List ℕ) → AnyAmong code places (drop c.args.index text ++ s)
+          ↔ (AnyAmong code (places_or_none new o) (after ++ s)
+          ⊎ Accepts code (l.here.place + 1) (after ++ s))) (sym c.state.ensures)
+          (both_on code new places part (drop c.args.index text) (drop l.end text) after
+          l.here.place c.from.result (held.stays places chain) one c.in_ok-next.next check leads
+          c.in_default.not-Everything);
     }
 
 pub returns-in-Some-false : goal.returns-in-Some-false
@@ -76,22 +88,32 @@ returns-in-Some-false c =
     let part = places_or_none l.self.table.states.items l.here.failure in
     let after : List ℕ = drop (l.end + 1) text in
     let ends : List ℕ = drop (l.end + 1 + 1) text in
-    let one : drop l.end text ≡ c.from.result ∷ after = next_of text l.end held.within ∙ ap (λ k. k ∷ after) (sym c.from.ensures) in
+    let one : drop l.end text ≡ c.from.result ∷ after =
+    next_of text l.end held.within ∙ ap (λ k. k ∷ after) (sym c.from.ensures) in
     let within : l.end + 1 < length text = omega (arith, c.if-end-text.false) in
-    let two : after ≡ c.from-c.result ∷ ends = next_of text (l.end + 1) within ∙ ap (λ k. k ∷ ends) (sym c.from-c.ensures) in
+    let two : after ≡ c.from-c.result ∷ ends =
+    next_of text (l.end + 1) within ∙ ap (λ k. k ∷ ends) (sym c.from-c.ensures) in
     let check = subst (λ k. IsCheckAt code l.here.place k true) (sym c.from.ensures) held.check in
     let leads = c.in_ok-next.ensures.leads in
-    let misses = subst (IsCheckAt code (l.here.place + 1) c.from-c.result) c.in-Some-false.field-0-test c.in-Some-false.ensures.check in
+    let misses = subst (IsCheckAt code (l.here.place + 1) c.from-c.result) c.in-Some-false.field-0-test
+    c.in-Some-false.ensures.check in
     record {
       kept = record {
         cache = c.follow_failure-in-Some-false.ensures.kept.cache;
-        start = c.follow_failure-in-Some-false.ensures.kept.start ∙ c.follow_failure.ensures.kept.start ∙ held.start;
+        start = c.follow_failure-in-Some-false.ensures.kept.start
+            ∙ c.follow_failure.ensures.kept.start ∙ held.start;
       };
       further = (omega (arith, held.from), omega (arith, within));
       decides = λ places chain.
-          let stays = subst (λ o. (s : List ℕ) → AnyAmong code places (drop c.args.index text ++ s) ↔ (AnyAmong code (places_or_none new o) (after ++ s) ⊎ Accepts code (l.here.place + 1) (after ++ s))) (sym c.state.ensures)
-          (both_on code new places part (drop c.args.index text) (drop l.end text) after l.here.place c.from.result (held.stays places chain) one c.in_ok-next.next check leads c.in_default.not-Everything) in
-          failure_on code last places (places_or_none new c.state.result) (drop c.args.index text) after ends (l.here.place + 1) c.from-c.result stays two c.in_ok-next-in-Some-false.next misses c.in_ok-next-in-Some-false.ensures.leads;
+          let stays = subst (λ o. (s : List ℕ) → AnyAmong code places (drop c.args.index text ++ s)
+          ↔ (AnyAmong code (places_or_none new o) (after ++ s)
+          ⊎ Accepts code (l.here.place + 1) (after ++ s))) (sym c.state.ensures)
+          (both_on code new places part (drop c.args.index text) (drop l.end text) after
+          l.here.place c.from.result (held.stays places chain) one c.in_ok-next.next check leads
+          c.in_default.not-Everything) in
+          failure_on code last places (places_or_none new c.state.result) (drop c.args.index text) after ends
+          (l.here.place + 1) c.from-c.result stays two c.in_ok-next-in-Some-false.next misses
+          c.in_ok-next-in-Some-false.ensures.leads;
     }
 
 pub returns : goal.returns
@@ -104,7 +126,8 @@ returns c =
     let last = c.end_chain.new.self.table.states.items in
     let part = places_or_none l.self.table.states.items l.here.failure in
     let after : List ℕ = drop (l.end + 1) text in
-    let one : drop l.end text ≡ c.from.result ∷ after = next_of text l.end held.within ∙ ap (λ k. k ∷ after) (sym c.from.ensures) in
+    let one : drop l.end text ≡ c.from.result ∷ after =
+    next_of text l.end held.within ∙ ap (λ k. k ∷ after) (sym c.from.ensures) in
     let check = subst (λ k. IsCheckAt code l.here.place k true) (sym c.from.ensures) held.check in
     let leads = c.in_ok-next.ensures.leads in
     record {
@@ -114,7 +137,15 @@ returns c =
       };
       further = (omega (arith, held.from), omega (arith, held.within));
       decides = λ places chain.
-          let stays = subst (λ o. (s : List ℕ) → AnyAmong code places (drop c.args.index text ++ s) ↔ (AnyAmong code (places_or_none new o) (after ++ s) ⊎ Accepts code (l.here.place + 1) (after ++ s))) (sym c.state.ensures)
-          (both_on code new places part (drop c.args.index text) (drop l.end text) after l.here.place c.from.result (held.stays places chain) one c.in_ok-next.next check leads c.in_default.not-Everything) in
-          (c.in_ok-state.ensures.has_state, (λ s. chain_ends code places (places_at last c.in_ok-state.state) (places_or_none new c.state.result) (drop c.args.index text ++ s) (after ++ s) (l.here.place + 1) (stays s) c.in_ok-state.ensures.union));
+          let stays = subst (λ o. (s : List ℕ) → AnyAmong code places (drop c.args.index text ++ s)
+          ↔ (AnyAmong code (places_or_none new o) (after ++ s)
+          ⊎ Accepts code (l.here.place + 1) (after ++ s))) (sym c.state.ensures)
+          (both_on code new places part (drop c.args.index text) (drop l.end text) after
+          l.here.place c.from.result (held.stays places chain) one c.in_ok-next.next check leads
+          c.in_default.not-Everything) in (
+            c.in_ok-state.ensures.has_state,
+            (λ s. chain_ends code places (places_at last c.in_ok-state.state)
+                (places_or_none new c.state.result) (drop c.args.index text ++ s) (after ++ s)
+                (l.here.place + 1) (stays s) c.in_ok-state.ensures.union),
+          );
     }

@@ -17,7 +17,8 @@ invariant-loop-next l = record {
   check : IsCheckAt l.program.0 l.here.place (get_or l.text l.end 0) true;
   stays : (places : List ℕ) → IsChain l.program.0 l.fn.self.table.states.items places l.fn.chain
       → (s : List ℕ) → AnyAmong l.program.0 places (drop l.fn.index l.text ++ s)
-      ↔ (AnyAmong l.program.0 (places_or_none l.self.table.states.items l.here.failure) (drop l.end l.text ++ s) ⊎ Accepts l.program.0 l.here.place (drop l.end l.text ++ s));
+      ↔ (AnyAmong l.program.0 (places_or_none l.self.table.states.items l.here.failure)
+      (drop l.end l.text ++ s) ⊎ Accepts l.program.0 l.here.place (drop l.end l.text ++ s));
 }
 
 abbrev pub decreases-loop-next : goal.decreases-loop-next

@@ -1,6 +1,7 @@
 use Rattle.std.proofs.Common.{◌∙◌, arith}
 use Rattle.std.proofs.lemmas.Result.{IfOk-weaker}
-use Rattle.wax_lazy.proofs.Caches.{added_grows, added_places, added_room, added_within, cache_kept, state_parted}
+use Rattle.wax_lazy.proofs.Caches.{added_grows, added_places, added_room, added_within, cache_kept}
+use Rattle.wax_lazy.proofs.Caches.{state_parted}
 use Rattle.wax_lazy.proofs.Tables.{keeps_same}
 use Rattle.wax_lazy.proofs.cache.Cache.intern.Goals as goal
 
@@ -16,8 +17,10 @@ pub returns-clause-kept : goal.returns-clause-kept
 returns-clause-kept c =
     let code = c.args.program.now.0 in
     let same = c.in_ok-places.ensures.items ∙ c.deref-2.ensures.value in
-    let good = state_parted code c.args.self.now c.in_ok-places.places c.in_ok-own.own c.args.failure c.requires.failure same c.in_ok-own.ensures in
-    cache_kept code c.args.self.now c.keep.new.self c.requires.cache _ c.keep.result good c.keep.ensures.ok c.keep.ensures.err
+    let good = state_parted code c.args.self.now c.in_ok-places.places c.in_ok-own.own c.args.failure
+    c.requires.failure same c.in_ok-own.ensures in
+    cache_kept code c.args.self.now c.keep.new.self c.requires.cache _ c.keep.result good
+    c.keep.ensures.ok c.keep.ensures.err
 
 pub returns-clause-interned : goal.returns-clause-interned
 returns-clause-interned c =

@@ -17,13 +17,17 @@ intern-requires-2-clause-failure c =
     let here = made.places_are ∙ ap (λ z. z.items) c.swap.ensures.x_after in
     let all = ap (λ z. z.items) (c.swap-2.ensures.x_after ∙ lists.loops ∙ c.swap.ensures.y_after) in
     let others = ap (λ z. z.items) lists.others in
-    let parts = subst (λ z. AreParts z c.part_loops.new.loops.items c.part_loops.new.others.items) c.deref-2.ensures.value c.in_ok-part_loops.ensures.parts in
+    let parts = subst (λ z. AreParts z c.part_loops.new.loops.items c.part_loops.new.others.items)
+    c.deref-2.ensures.value c.in_ok-part_loops.ensures.parts in
     let union = union_of_parts code _ _ _ parts in
     record {
       has_state = made.known;
-      union = subst (λ z. IsJoinOf code z (places_at states loops) c.intern-loops.new.self.others.items) (sym all)
-          (subst (λ z. IsJoinOf code c.args.self.now.reached.items z c.intern-loops.new.self.others.items) (sym here)
-          (subst (λ z. IsJoinOf code c.args.self.now.reached.items c.part_loops.new.loops.items z) (sym others) union));
+      union =
+          subst (λ z. IsJoinOf code z (places_at states loops) c.intern-loops.new.self.others.items) (sym all)
+          (subst (λ z. IsJoinOf code c.args.self.now.reached.items z c.intern-loops.new.self.others.items)
+          (sym here)
+          (subst (λ z. IsJoinOf code c.args.self.now.reached.items c.part_loops.new.loops.items z)
+          (sym others) union));
     }
 
 pub returns-clause-interned : goal.returns-clause-interned
@@ -32,5 +36,6 @@ returns-clause-interned c =
     let all = ap (λ z. z.items) (c.swap-2.ensures.x_after ∙ lists.loops ∙ c.swap.ensures.y_after) in
     let first = c.in_ok-failure.ensures.interned.grows in
     IfOk-weaker c.intern-2.result _ _
-    (λ t made. interned_after c.args.self.now _ c.intern-loops.new.self _ c.intern-2.new.self c.args.self.now.reached.items t first refl refl made all)
+    (λ t made. interned_after c.args.self.now _ c.intern-loops.new.self _ c.intern-2.new.self
+    c.args.self.now.reached.items t first refl refl made all)
     c.intern-2.ensures.interned

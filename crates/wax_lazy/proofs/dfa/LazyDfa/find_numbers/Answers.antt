@@ -9,5 +9,6 @@ returns-clause-numbers c =
     let known = c.prepare.ensures.dfa in
     let reads_last = c.prepare.new.self.reads_last in
     let kept = subst (λ o. IfSome o (IsKeptFor code reads_last)) c.in-Some.is known.cache in
-    followed_numbers code reads_last c.in-Some.cache.start (chars c.args.text.now) (chars c.followed-text.result.now) (numbers_at c.find_numbers.new.cache c.in_ok-find_numbers-in-Some.field-0)
+    followed_numbers code reads_last c.in-Some.cache.start (chars c.args.text.now) (chars
+    c.followed-text.result.now) (numbers_at c.find_numbers.new.cache c.in_ok-find_numbers-in-Some.field-0)
     known.last kept.name kept.whole c.followed-text.ensures c.in_ok-find_numbers-in-Some.ensures.numbers

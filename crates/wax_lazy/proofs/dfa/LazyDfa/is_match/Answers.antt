@@ -10,5 +10,6 @@ returns-clause-decides c =
     let known = c.prepare.ensures.dfa in
     let reads_last = c.prepare.new.self.reads_last in
     let kept = subst (λ o. IfSome o (IsKeptFor code reads_last)) c.in-Some.is known.cache in
-    let whole = followed_text code reads_last c.in-Some.cache.start (chars c.args.text.now) (chars c.followed-text.result.now) known.last kept.name kept.whole c.followed-text.ensures in
+    let whole = followed_text code reads_last c.in-Some.cache.start (chars c.args.text.now)
+    (chars c.followed-text.result.now) known.last kept.name kept.whole c.followed-text.ensures in
     decides_by c.in_ok-accepts-in-Some.field-0 _ _ whole c.in_ok-accepts-in-Some.ensures.decides

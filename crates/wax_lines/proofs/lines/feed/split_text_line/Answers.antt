@@ -19,7 +19,8 @@ range-requires-clause-end_boundary c =
 pub range_from-requires : goal.range_from-requires
 range_from-requires c =
     let found = c.first_feed-at.ensures ∙ ap (position_or_len is_feed) c.as_bytes.ensures.value in
-    λ _. IsCharBoundary-after_ascii c.args.text.now _ c.utf8.text c.if-at-text.true (is_ascii_at c.args.text.now _ found c.if-at-text.true)
+    λ _. IsCharBoundary-after_ascii c.args.text.now _ c.utf8.text c.if-at-text.true
+    (is_ascii_at c.args.text.now _ found c.if-at-text.true)
 
 pub returns-then-at-text : goal.returns-then-at-text
 returns-then-at-text c =
@@ -30,4 +31,5 @@ returns-then-at-text c =
 
 pub returns-else-at-text : goal.returns-else-at-text
 returns-else-at-text c =
-    no_feed c.args.text.now _ (c.first_feed-at.ensures ∙ ap (position_or_len is_feed) c.as_bytes.ensures.value) c.if-at-text.false
+    no_feed c.args.text.now _ (c.first_feed-at.ensures
+    ∙ ap (position_or_len is_feed) c.as_bytes.ensures.value) c.if-at-text.false

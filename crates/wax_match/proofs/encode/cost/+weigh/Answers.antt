@@ -12,5 +12,6 @@ with_forks (t ∷ ts) = omega (arith, with_forks ts)
 pub weigh_branches-returns-clause-cost : goal.weigh_branches-returns-clause-cost
 weigh_branches-returns-clause-cost g t c =
     let ts = c.args.tokens.now in
-    let n : 1 + costs (trees ts) + 2 * length ts ≡ 1 + branches_cost (trees ts) = omega (arith, with_forks ts) in
+    let n : 1 + costs (trees ts) + 2 * length ts ≡ 1 + branches_cost (trees ts) =
+    omega (arith, with_forks ts) in
     c.with_forks.ensures.cost (costs (trees ts)) c.weigh_all.ensures.cost ∙ ap (λ z. min z longest) n

@@ -17,6 +17,8 @@ decreases-weigh_branches g l = 2 * trees_size (trees l.tokens.now) + 1
 abbrev pub invariant-weigh_all-loop-token : goal.invariant-weigh_all-loop-token
 invariant-weigh_all-loop-token g l = record {
   small : l.cost ≤ longest;
-  cost : min (l.cost + costs (trees (drop l.token-index l.tokens))) longest ≡ min (costs (trees l.tokens)) longest;
-  holds_tree : (l.holds_tree || some_holds_tree (trees (drop l.token-index l.tokens))) ≡ some_holds_tree (trees l.tokens);
+  cost : min (l.cost + costs (trees (drop l.token-index l.tokens))) longest
+      ≡ min (costs (trees l.tokens)) longest;
+  holds_tree : (l.holds_tree || some_holds_tree (trees (drop l.token-index l.tokens)))
+      ≡ some_holds_tree (trees l.tokens);
 }

@@ -12,13 +12,18 @@ pub returns-else-is_case_insensitive : goal.returns-else-is_case_insensitive
 returns-else-is_case_insensitive c =
     let t = c.args.token.now in
     let l = c.in-Literal.literal in
-    let is : t ≡ leaf (annotation_of t) (literal l.0 l.1) = c.in_ok-literal.ensures.some ∙ ap (λ z. leaf (annotation_of t) (leaf_of z)) c.in-Literal.is in
+    let is : t ≡ leaf (annotation_of t) (literal l.0 l.1) =
+    c.in_ok-literal.ensures.some ∙ ap (λ z. leaf (annotation_of t) (leaf_of z)) c.in-Literal.is in
     let plain : l.0 ≡ false = sym c.is_case_insensitive.ensures ∙ c.if-is_case_insensitive.false in
-    let same : t ≡ leaf (annotation_of t) (literal false l.1) = is ∙ ap (λ b. leaf (annotation_of t) (literal b l.1)) plain in
-    subst (λ z. AreSame (SpeltMeans c.text.result.now Nothing) (Means z c.args.sides.before c.args.sides.after)) (sym same) (spelt_literal c.text.result.now l.1 c.text.ensures)
+    let same : t ≡ leaf (annotation_of t) (literal false l.1) =
+    is ∙ ap (λ b. leaf (annotation_of t) (literal b l.1)) plain in
+    subst
+    (λ z. AreSame (SpeltMeans c.text.result.now Nothing) (Means z c.args.sides.before c.args.sides.after))
+    (sym same) (spelt_literal c.text.result.now l.1 c.text.ensures)
 
 pub returns-in-Separator : goal.returns-in-Separator
 returns-in-Separator c =
     let t = c.args.token.now in
     let is = c.in_ok-literal.ensures.some ∙ ap (λ z. leaf (annotation_of t) (leaf_of z)) c.in-Separator.is in
-    subst (λ z. AreSame (SpeltMeans (47 ∷ []) Nothing) (Means z c.args.sides.before c.args.sides.after)) (sym is) spelt_separator
+    subst (λ z. AreSame (SpeltMeans (47 ∷ []) Nothing) (Means z c.args.sides.before c.args.sides.after))
+    (sym is) spelt_separator

@@ -1,17 +1,21 @@
 use Rattle.std.proofs.Common.{ap, inl, inr}
 use Rattle.wax_match.proofs.Lefts.{spelt_alone, spelt_first, spelt_inner, spelt_last}
-use Rattle.wax_match.proofs.encode.left.spelt_tree.Goals.{then-has_root, else-has_root, then-has_root-2, else-has_root-2}
+use Rattle.wax_match.proofs.encode.left.spelt_tree.Goals.{then-has_root, else-has_root, then-has_root-2}
+use Rattle.wax_match.proofs.encode.left.spelt_tree.Goals.{else-has_root-2}
 use Rattle.wax_match.proofs.encode.left.spelt_tree.Goals as goal
 
 pub returns-in-true-true : goal.returns-in-true-true
-returns-in-true-true c = spelt_inner c.args.sides.before c.args.sides.after c.args.has_root c.in-true-true.is-0 c.in-true-true.is-1
+returns-in-true-true c =
+    spelt_inner c.args.sides.before c.args.sides.after c.args.has_root c.in-true-true.is-0 c.in-true-true.is-1
 
 pub returns-in-true-false : goal.returns-in-true-false
-returns-in-true-false c = spelt_last c.args.sides.before c.args.sides.after c.args.has_root c.in-true-false.is-0 c.in-true-false.is-1
+returns-in-true-false c = spelt_last c.args.sides.before c.args.sides.after c.args.has_root
+    c.in-true-false.is-0 c.in-true-false.is-1
 
 pub returns-after-has_root : goal.returns-after-has_root
 returns-after-has_root c =
-    spelt_first c.args.sides.before c.args.sides.after c.args.has_root c.if-has_root.result.now c.in-false-true.is-0 c.in-false-true.is-1
+    spelt_first c.args.sides.before c.args.sides.after c.args.has_root c.if-has_root.result.now
+    c.in-false-true.is-0 c.in-false-true.is-1
     (elim c.if-has_root.branch [
       | then-has_root w ↦ inl (w.if-has_root.true, ap (λ r. r.now) w.result-is)
       | else-has_root w ↦ inr (w.if-has_root.false, ap (λ r. r.now) w.result-is)
@@ -19,7 +23,8 @@ returns-after-has_root c =
 
 pub returns-after-has_root-2 : goal.returns-after-has_root-2
 returns-after-has_root-2 c =
-    spelt_alone c.args.sides.before c.args.sides.after c.args.has_root c.if-has_root-2.result.now c.in-false-false.is-0 c.in-false-false.is-1
+    spelt_alone c.args.sides.before c.args.sides.after c.args.has_root c.if-has_root-2.result.now
+    c.in-false-false.is-0 c.in-false-false.is-1
     (elim c.if-has_root-2.branch [
       | then-has_root-2 w ↦ inl (w.if-has_root-2.true, ap (λ r. r.now) w.result-is)
       | else-has_root-2 w ↦ inr (w.if-has_root-2.false, ap (λ r. r.now) w.result-is)

@@ -8,4 +8,5 @@ use Rattle.wax_match.proofs.encode.left.spelt_wildcard.Goals as goal
 
 pub returns-in-ZeroOrMore : goal.returns-in-ZeroOrMore
 returns-in-ZeroOrMore c =
-    subst (λ w. AreSame (SpeltMeans [] Star) (LeafMeans (wildcard_leaf w) c.args.sides.before c.args.sides.after)) (sym c.in-ZeroOrMore.is) (spelt_bare Star)
+    subst (λ w. AreSame (SpeltMeans [] Star) (LeafMeans (wildcard_leaf w) c.args.sides.before
+    c.args.sides.after)) (sym c.in-ZeroOrMore.is) (spelt_bare Star)

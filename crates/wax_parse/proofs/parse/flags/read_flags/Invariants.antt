@@ -6,7 +6,8 @@ use Rattle.wax_parse.proofs.parse.flags.read_flags.Given as goal
 
 abbrev pub invariant-loop-next : goal.invariant-loop-next
 invariant-loop-next l = shadow (Utf8 l.cursor.rest.now) × ((n : ℕ) × (length (chars l.cursor.rest.now) ≤ n)
-    × (flags_end (at l.from.is_case_insensitive (chars l.from.rest.now)) ≡ flags_run n (at l.cursor.is_case_insensitive (chars l.cursor.rest.now))))
+    × (flags_end (at l.from.is_case_insensitive (chars l.from.rest.now))
+    ≡ flags_run n (at l.cursor.is_case_insensitive (chars l.cursor.rest.now))))
 
 abbrev pub decreases-loop-next : goal.decreases-loop-next
 decreases-loop-next l = length (chars l.cursor.rest.now)

@@ -26,7 +26,8 @@ abbrev pub invariant-read_branches-loop-branches : goal.invariant-read_branches-
 invariant-read_branches-loop-branches l = shadow (Utf8 l.cursor.rest.now) × record {
   beyond : HasSuffix (chars l.from.rest.now) (chars l.cursor.rest.now);
   begun : Begun (BranchesFrom (utf8_len (chars l.scope.expression.now)) l.scope.depth (place l.from))
-      (BranchesFrom (utf8_len (chars l.scope.expression.now)) l.scope.depth (place l.cursor)) l.branches.items;
+      (BranchesFrom (utf8_len (chars l.scope.expression.now)) l.scope.depth (place l.cursor))
+      l.branches.items;
 }
 
 abbrev pub decreases-read_branches-loop-branches : goal.decreases-read_branches-loop-branches
@@ -35,8 +36,10 @@ decreases-read_branches-loop-branches l = length (chars l.cursor.rest.now)
 abbrev pub invariant-read_glob-loop-alloc : goal.invariant-read_glob-loop-alloc
 invariant-read_glob-loop-alloc l = shadow (Utf8 l.cursor.rest.now) × record {
   beyond : HasSuffix (chars l.from.rest.now) (chars l.cursor.rest.now);
-  begun : Begun (TokensFrom (utf8_len (chars l.scope.expression.now)) (around_of l.scope.around) l.scope.depth true (place l.from))
-      (TokensFrom (utf8_len (chars l.scope.expression.now)) (around_of l.scope.around) l.scope.depth (is_nil l.tokens.items) (place l.cursor)) l.tokens.items;
+  begun : Begun (TokensFrom (utf8_len (chars l.scope.expression.now))
+      (around_of l.scope.around) l.scope.depth true (place l.from))
+      (TokensFrom (utf8_len (chars l.scope.expression.now)) (around_of l.scope.around) l.scope.depth
+      (is_nil l.tokens.items) (place l.cursor)) l.tokens.items;
 }
 
 abbrev pub decreases-read_glob-loop-alloc : goal.decreases-read_glob-loop-alloc

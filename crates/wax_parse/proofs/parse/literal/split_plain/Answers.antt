@@ -10,9 +10,11 @@ loop-c-preserved c =
       (
         c.loop-c.invariant.1.0 ++ c.in-Some.c ∷ [],
         plain_more c.loop-c.invariant.1.0 c.in-Some.c c.loop-c.invariant.1.1 e,
-        shift_one (chars c.args.text.now) c.loop-c.invariant.1.0 (chars c.loop-c.rest.now) (chars c.in-Some.next.now) c.in-Some.c c.loop-c.invariant.1.2 c.in-Some.ensures,
+        shift_one (chars c.args.text.now) c.loop-c.invariant.1.0 (chars c.loop-c.rest.now)
+            (chars c.in-Some.next.now) c.in-Some.c c.loop-c.invariant.1.2 c.in-Some.ensures,
       ),
     )
 
 pub returns-clause-plain : goal.returns-clause-plain
-returns-clause-plain c = ap is_plain_text (c.before-2.ensures c.loop-c.invariant.1.0 c.loop-c.invariant.1.2) ∙ c.loop-c.invariant.1.1
+returns-clause-plain c = ap is_plain_text (c.before-2.ensures c.loop-c.invariant.1.0 c.loop-c.invariant.1.2)
+    ∙ c.loop-c.invariant.1.1

@@ -12,20 +12,26 @@ use Rattle.wax_partition.proofs.in_two.CheckedTokenizedExpressionMetadataPartiti
 pub returns-in_ok-checked_rest-in-Some : goal.returns-in_ok-checked_rest-in-Some
 returns-in_ok-checked_rest-in-Some c =
     let p = chars (string_bytes c.in_ok-prefix.prefix) in
-    let k : IsPartition (chars (cow_str_bytes c.release-tokenized.result.expression)) c.release-tokenized.result.token p (spelled_rest c.in_ok-prefix.rest) =
+    let k : IsPartition (chars (cow_str_bytes c.release-tokenized.result.expression))
+    c.release-tokenized.result.token p (spelled_rest c.in_ok-prefix.rest) =
     c.in_ok-prefix.ensures.parts in
     let same : c.in_ok-prefix.rest ≡ Some c.in_ok-checked_rest-in-Some.field-0 = search rules in
-    subst (λ o. IsPartition (chars (cow_str_bytes c.args.self.expression)) c.args.self.token p (spelled_rest o)) same
-    (subst (λ (w : Tokenized Span). IsPartition (chars (cow_str_bytes w.expression)) w.token p (spelled_rest c.in_ok-prefix.rest)) c.release-tokenized.ensures.same k)
+    subst (λ o. IsPartition (chars (cow_str_bytes c.args.self.expression)) c.args.self.token p
+    (spelled_rest o)) same
+    (subst (λ (w : Tokenized Span). IsPartition (chars (cow_str_bytes w.expression)) w.token p
+    (spelled_rest c.in_ok-prefix.rest)) c.release-tokenized.ensures.same k)
 
 pub returns-in-None : goal.returns-in-None
 returns-in-None c =
     let p = chars (string_bytes c.in_ok-prefix.prefix) in
-    let k : IsPartition (chars (cow_str_bytes c.release-tokenized.result.expression)) c.release-tokenized.result.token p (spelled_rest c.in_ok-prefix.rest) =
+    let k : IsPartition (chars (cow_str_bytes c.release-tokenized.result.expression))
+    c.release-tokenized.result.token p (spelled_rest c.in_ok-prefix.rest) =
     c.in_ok-prefix.ensures.parts in
     let same : c.in_ok-prefix.rest ≡ None = search rules in
-    subst (λ o. IsPartition (chars (cow_str_bytes c.args.self.expression)) c.args.self.token p (spelled_rest o)) same
-    (subst (λ (w : Tokenized Span). IsPartition (chars (cow_str_bytes w.expression)) w.token p (spelled_rest c.in_ok-prefix.rest)) c.release-tokenized.ensures.same k)
+    subst (λ o. IsPartition (chars (cow_str_bytes c.args.self.expression)) c.args.self.token p
+    (spelled_rest o)) same
+    (subst (λ (w : Tokenized Span). IsPartition (chars (cow_str_bytes w.expression)) w.token p
+    (spelled_rest c.in_ok-prefix.rest)) c.release-tokenized.ensures.same k)
 
 -- the rest of a flat glob keeps the rules
 pub checked_rest-requires : goal.checked_rest-requires

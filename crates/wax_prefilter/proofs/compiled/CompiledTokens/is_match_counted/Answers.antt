@@ -4,4 +4,10 @@ use Rattle.wax_prefilter.proofs.compiled.CompiledTokens.is_match_counted.Goals a
 
 pub returns-clause-below : goal.returns-clause-below
 returns-clause-below c accepted =
-    omega (arith, c.in_ok-answer.ensures.below accepted, chars_short c.args.text.now c.utf8.text, c.ticks.ensures, c.new-meter.ensures)
+    omega (
+      arith,
+      c.in_ok-answer.ensures.below accepted,
+      chars_short c.args.text.now c.utf8.text,
+      c.ticks.ensures,
+      c.new-meter.ensures,
+    )

@@ -8,8 +8,10 @@ pub returns-then-may_match_at_once : goal.returns-then-may_match_at_once
 returns-then-may_match_at_once c = λ accepted.
     let code = c.self.inside.program.0 in
     let same = ap (λ p. p.0) c.self.view_is in
-    let here : Accepts code 0 (chars c.args.text.now) = subst (λ z. Accepts z 0 (chars c.args.text.now)) (sym same) accepted in
+    let here : Accepts code 0 (chars c.args.text.now) =
+    subst (λ z. Accepts z 0 (chars c.args.text.now)) (sym same) accepted in
     let known : IsTrue c.self.inside.reads_last = search rules in
     let last : ReadsLast code = (c.self.invariant.1 known).0 in
-    let name = accepts_name code last (chars c.args.text.now) (chars c.last_name.result.now) c.last_name.ensures.name here in
+    let name = accepts_name code last (chars c.args.text.now) (chars c.last_name.result.now)
+    c.last_name.ensures.name here in
     c.may_match-then-may_match_at_once.ensures (c.self.invariant.0 (chars c.last_name.result.now) name)

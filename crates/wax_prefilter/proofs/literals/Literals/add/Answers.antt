@@ -11,5 +11,7 @@ returns-in_ok-append-in-Some-clause-adds c = λ text meant.
     let ts = trees c.concatenation.result.now in
     let needles = c.in-Some.needles.items in
     let known : EachContainsOne Anywhere needles (MeansEach ts) =
-    subst (λ o. IfSome o (λ v. EachContainsOne Anywhere v.items (MeansEach ts))) c.in-Some.is c.in_ok-needles.ensures in
-    c.in_ok-append-in-Some.ensures.adds text (members_hold c.args.pattern.now ts needles c.concatenation.ensures known text meant)
+    subst (λ o. IfSome o (λ v. EachContainsOne Anywhere v.items (MeansEach ts))) c.in-Some.is
+    c.in_ok-needles.ensures in
+    c.in_ok-append-in-Some.ensures.adds text
+    (members_hold c.args.pattern.now ts needles c.concatenation.ensures known text meant)

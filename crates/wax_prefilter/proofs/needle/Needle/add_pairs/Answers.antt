@@ -1,4 +1,5 @@
-use Rattle.std.proofs.Common.{◌≡◌, ◌<◌, ◌∙◌, true, [], ◌∷◌, ◌++◌, List, ℕ, take, drop, length, ap, subst, encode_utf8_all, chars, get_or, string_bytes, sym, append_assoc, arith}
+use Rattle.std.proofs.Common.{◌≡◌, ◌<◌, ◌∙◌, true, [], ◌∷◌, ◌++◌, List, ℕ, take, drop, length, ap, subst}
+use Rattle.std.proofs.Common.{encode_utf8_all, chars, get_or, string_bytes, sym, append_assoc, arith}
 use Rattle.std.proofs.lemmas.List.{get_or-take, length-take, take-append-drop}
 use Rattle.std.proofs.lemmas.Str.{IsUtf8-from_ascii, chars-IsAscii, chars-append}
 use Rattle.std.specs.Str.{IsAscii}
@@ -20,9 +21,11 @@ returns-then-not-self c = (
       let same : y ≡ held = plain_text c.args.self.now _ held y c.self.view_is c.if-not-self.true h in
       let bytes = c.as_bytes-bytes.result.now in
       let within : text ≡ encode_utf8_all x ++ (bytes ++ encode_utf8_all z) =
-      bytes_within text bytes x held z utf8 c.as_bytes-bytes.ensures.utf8 (ap chars (c.as_bytes-bytes.ensures.value ∙ c.as_str.ensures.value))
+      bytes_within text bytes x held z utf8 c.as_bytes-bytes.ensures.utf8
+      (ap chars (c.as_bytes-bytes.ensures.value ∙ c.as_str.ensures.value))
       (e ∙ ap (λ w. x ++ (w ++ z)) same) in
-      part_has _ text (encode_utf8_all x) bytes (encode_utf8_all z ++ 10 ∷ []) (part_of_line text (encode_utf8_all x) bytes (encode_utf8_all z) within)
+      part_has _ text (encode_utf8_all x) bytes (encode_utf8_all z ++ 10 ∷ [])
+      (part_of_line text (encode_utf8_all x) bytes (encode_utf8_all z) within)
       (_, c.in-Some.ensures),
 )
 
@@ -35,18 +38,23 @@ returns c = (
       let bytes = c.as_bytes-bytes.result.now in
       let len = c.ascii_forms_len.result in
       let front : List ℕ = take len bytes in
-      let long : length front ≡ len = omega (arith, length-take len bytes, c.ascii_forms_len.ensures.inside) in
+      let long : length front ≡ len =
+      omega (arith, length-take len bytes, c.ascii_forms_len.ensures.inside) in
       let each : (k : ℕ) → k < length front → HasAsciiForms (get_or front k 0) =
-      λ k lt. subst HasAsciiForms (sym (get_or-take len bytes k 0 (omega (arith, lt, long)))) (c.ascii_forms_len.ensures.forms k (omega (arith, lt, long))) in
+      λ k lt. subst HasAsciiForms (sym (get_or-take len bytes k 0 (omega (arith, lt, long))))
+      (c.ascii_forms_len.ensures.forms k (omega (arith, lt, long))) in
       let ascii : IsAscii front = held_ascii front each in
       let parted : chars bytes ≡ front ++ chars (drop len bytes) =
-      ap chars (sym (take-append-drop len bytes)) ∙ chars-append front (drop len bytes) (IsUtf8-from_ascii front ascii)
+      ap chars (sym (take-append-drop len bytes))
+      ∙ chars-append front (drop len bytes) (IsUtf8-from_ascii front ascii)
       ∙ ap (λ w. w ++ chars (drop len bytes)) (chars-IsAscii front ascii) in
       let seen : chars (string_bytes c.self.inside.text) ≡ front ++ chars (drop len bytes) =
       ap chars (sym (c.as_bytes-bytes.ensures.value ∙ c.as_str.ensures.value)) ∙ parted in
       let alike : SameText true (front ++ chars (drop len bytes)) y =
-      as_seen c.args.self.now.0 true c.args.self.now.1 _ y (sym (ap (λ v. v.0) c.self.view_is) ∙ c.if-not-self.false) (sym seen ∙ ap (λ v. v.1) c.self.view_is) h in
+      as_seen c.args.self.now.0 true c.args.self.now.1 _ y (sym (ap (λ v. v.0) c.self.view_is)
+      ∙ c.if-not-self.false) (sym seen ∙ ap (λ v. v.1) c.self.view_is) h in
       let (begins, rest, cut, same) = same_beginning front (chars (drop len bytes)) y alike in
       alike_has c.in-Some-rarest_of.pair front text x begins (rest ++ z) utf8
-      (e ∙ ap (λ w. x ++ w) (ap (λ w. w ++ z) cut ∙ append_assoc begins rest z)) same each (_, c.in-Some-rarest_of.ensures),
+      (e ∙ ap (λ w. x ++ w) (ap (λ w. w ++ z) cut ∙ append_assoc begins rest z)) same each
+      (_, c.in-Some-rarest_of.ensures),
 )

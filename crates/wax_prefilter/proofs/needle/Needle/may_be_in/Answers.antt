@@ -9,6 +9,11 @@ returns c = λ x y z e h.
     let within = c.as_str-held.result.now in
     let held : List ℕ = chars (string_bytes c.self.inside.text) in
     let same : y ≡ held = plain_text c.args.self.now _ held y c.self.view_is c.if-self.false h in
-    let found : c.contains.result ≡ true = (contains_text c.contains.result within c.args.text.now c.contains.ensures.cases).1
-    (encode_utf8_all x, encode_utf8_all z, bytes_within c.args.text.now within x held z c.utf8.text c.as_str-held.utf8 (ap chars c.as_str-held.ensures.value) (e ∙ ap (λ w. x ++ (w ++ z)) same)) in
+    let found : c.contains.result ≡ true =
+    (contains_text c.contains.result within c.args.text.now c.contains.ensures.cases).1 (
+      encode_utf8_all x,
+      encode_utf8_all z,
+      bytes_within c.args.text.now within x held z c.utf8.text c.as_str-held.utf8
+          (ap chars c.as_str-held.ensures.value) (e ∙ ap (λ w. x ++ (w ++ z)) same),
+    ) in
     search (rules, found)

@@ -11,9 +11,12 @@ returns-then-lane-lt-LANES-clause-before c =
     let bytes = c.args.bytes.now in
     let at = c.loop-at.at in
     let (_, _, rest, long) = c.in-Some.ensures.lookup.0 in
-    let marked : ZeroWhere pair (chunk at 32 bytes) (chunk at 32 (drop pair.distance bytes)) c.differences.result =
-    subst (λ r. ZeroWhere pair (chunk at 32 bytes) (chunk at 32 r) c.differences.result) (is_drop pair.distance bytes _ rest) c.differences.ensures.zero in
-    before_lane pair bytes at (omega (arith, long)) c.loop-at.invariant.1 c.differences.result c.first_zero-lane.result c.differences.ensures.lanes marked c.first_zero-lane.ensures
+    let marked : ZeroWhere pair (chunk at 32 bytes)
+    (chunk at 32 (drop pair.distance bytes)) c.differences.result =
+    subst (λ r. ZeroWhere pair (chunk at 32 bytes) (chunk at 32 r) c.differences.result)
+    (is_drop pair.distance bytes _ rest) c.differences.ensures.zero in
+    before_lane pair bytes at (omega (arith, long)) c.loop-at.invariant.1 c.differences.result
+    c.first_zero-lane.result c.differences.ensures.lanes marked c.first_zero-lane.ensures
 
 pub loop-at-preserved : goal.loop-at-preserved
 loop-at-preserved c =
@@ -21,8 +24,11 @@ loop-at-preserved c =
     let bytes = c.args.bytes.now in
     let at = c.loop-at.at in
     let (_, _, rest, long) = c.in-Some.ensures.lookup.0 in
-    let marked : ZeroWhere pair (chunk at 32 bytes) (chunk at 32 (drop pair.distance bytes)) c.differences.result =
-    subst (λ r. ZeroWhere pair (chunk at 32 bytes) (chunk at 32 r) c.differences.result) (is_drop pair.distance bytes _ rest) c.differences.ensures.zero in
+    let marked : ZeroWhere pair (chunk at 32 bytes)
+    (chunk at 32 (drop pair.distance bytes)) c.differences.result =
+    subst (λ r. ZeroWhere pair (chunk at 32 bytes) (chunk at 32 r) c.differences.result)
+    (is_drop pair.distance bytes _ rest) c.differences.ensures.zero in
     let before : NoPairBefore pair bytes (at + c.first_zero-lane.result) =
-    before_lane pair bytes at (omega (arith, long)) c.loop-at.invariant.1 c.differences.result c.first_zero-lane.result c.differences.ensures.lanes marked c.first_zero-lane.ensures in
+    before_lane pair bytes at (omega (arith, long)) c.loop-at.invariant.1 c.differences.result
+    c.first_zero-lane.result c.differences.ensures.lanes marked c.first_zero-lane.ensures in
     (omega arith, λ k below. before k (omega (arith, below, c.if-lane-lt-LANES.false)))

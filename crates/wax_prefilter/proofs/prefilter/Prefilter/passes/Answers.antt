@@ -9,10 +9,12 @@ returns-then-not-may_hold c = λ passes.
     let facts = c.args.self.now.1 in
     let i = c.loop-fact.fact-index in
     let fact = c.fact-item.result in
-    let same : c.deref-fact-items.result.now ≡ facts = c.deref-fact-items.ensures.value ∙ ap (λ p. p.1) c.self.view_is in
+    let same : c.deref-fact-items.result.now ≡ facts =
+    c.deref-fact-items.ensures.value ∙ ap (λ p. p.1) c.self.view_is in
     let below : i < length facts = subst (λ z. i < length z) same c.loop-fact-test.true in
     let is : fact ≡ get_or facts i fact = c.fact-item.is ∙ ap (λ z. get_or z i fact) same in
-    let held : ContainsOne fact.0 fact.1 text = subst (λ f. ContainsOne f.0 f.1 text) (sym is) (passes.1 i fact below) in
+    let held : ContainsOne fact.0 fact.1 text =
+    subst (λ f. ContainsOne f.0 f.1 text) (sym is) (passes.1 i fact below) in
     let k : IsTrue c.may_hold.result = c.may_hold.ensures held in
     absurd (search (rules, k))
 

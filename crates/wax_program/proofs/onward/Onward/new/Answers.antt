@@ -15,7 +15,8 @@ loop-init c =
     let marks = c.insert.ensures.marks in
     record {
       size = marks.size ∙ c.in_ok-onward.ensures.size;
-      sound = begins_soundly code c.in_ok-onward.onward c.insert.new.self c.size.result c.in_ok-onward.ensures.none marks c.size.ensures.size;
+      sound = begins_soundly code c.in_ok-onward.onward c.insert.new.self c.size.result
+          c.in_ok-onward.ensures.none marks c.size.ensures.size;
       end = subst (Holds c.insert.new.self Rest) c.size.ensures.size marks.has;
     }
 

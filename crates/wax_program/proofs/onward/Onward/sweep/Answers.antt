@@ -14,11 +14,13 @@ loop-at-preserved c =
     record {
       within = omega (arith, held.within);
       gains = gains_both code _ _ _ held.gains c.settle.ensures.gains;
-      more = λ t. subst (λ (f : PlaceFlags). flag_count c.args.self.now < flag_count f) (sym same) (held.more t);
+      more =
+          λ t. subst (λ (f : PlaceFlags). flag_count c.args.self.now < flag_count f) (sym same) (held.more t);
       few = λ t. subst (λ (f : PlaceFlags). flag_count f ≤ 3 * (f.size + 1)) (sym same) (held.few t);
       same = λ t. same ∙ held.same t;
       closed = λ t k le lt. elim (cases_eq k (at - 1)) [
-        | inl e ↦ subst (λ (f : PlaceFlags). IsClosedAt code f k) (held.same t) (subst (IsClosedAt code c.loop-at.self) (sym e) (c.settle.ensures.closed c.if-settle.false))
+        | inl e ↦ subst (λ (f : PlaceFlags). IsClosedAt code f k) (held.same t)
+            (subst (IsClosedAt code c.loop-at.self) (sym e) (c.settle.ensures.closed c.if-settle.false))
         | inr ne ↦ held.closed t k (omega (arith, le, ne, c.loop-at-test.true)) lt
       ];
     }

@@ -6,4 +6,5 @@ use Rattle.wax_rule.proofs.rule.Checked.into_alternatives.Goals as goal
 pub checked_each-requires : goal.checked_each-requires
 checked_each-requires g c =
     let kept : KeepsRules c.into_token.result = search rules in
-    λ t among. alternative c.into_token.result t kept (subst (λ ts. Contains ts t) c.in_ok-tokens.ensures.all among)
+    λ t among.
+    alternative c.into_token.result t kept (subst (λ ts. Contains ts t) c.in_ok-tokens.ensures.all among)

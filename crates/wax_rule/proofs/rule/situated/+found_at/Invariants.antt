@@ -13,6 +13,8 @@ decreases-found_at_any l = trees_size (trees l.tokens.now)
 
 abbrev pub invariant-found_at_any-loop-token : goal.invariant-found_at_any-loop-token
 invariant-found_at_any-loop-token l = record {
-  boundary : (l.found.boundary || is_found_at_some l.end is_boundary_leaf (trees (drop l.token-index l.tokens))) ≡ is_found_at_some l.end is_boundary_leaf (trees l.tokens);
-  zero_or_more : (l.found.zero_or_more || is_found_at_some l.end is_zero_or_more_leaf (trees (drop l.token-index l.tokens))) ≡ is_found_at_some l.end is_zero_or_more_leaf (trees l.tokens);
+  boundary : (l.found.boundary || is_found_at_some l.end is_boundary_leaf
+      (trees (drop l.token-index l.tokens))) ≡ is_found_at_some l.end is_boundary_leaf (trees l.tokens);
+  zero_or_more : (l.found.zero_or_more || is_found_at_some l.end is_zero_or_more_leaf
+      (trees (drop l.token-index l.tokens))) ≡ is_found_at_some l.end is_zero_or_more_leaf (trees l.tokens);
 }

@@ -8,7 +8,8 @@ abbrev pub invariant-loop-from : goal.invariant-loop-from
 invariant-loop-from l = record {
   within : l.from ≤ length l.row.items;
   branches : only_branches (drop l.from l.row.items) ≡ drop l.from l.row.items;
-  row : take l.from l.row.items ++ only_branches (listed (drop l.from l.row.items)) ≡ only_branches (breadth_first l.whole);
+  row : take l.from l.row.items ++ only_branches (listed (drop l.from l.row.items))
+      ≡ only_branches (breadth_first l.whole);
 }
 
 abbrev pub decreases-loop-from : goal.decreases-loop-from

@@ -5,4 +5,5 @@ use Rattle.wax_rule.proofs.rule.situated.push_level.Given as goal
 
 abbrev pub invariant-loop-index : goal.invariant-loop-index
 invariant-loop-index l =
-    l.row.items ≡ l.initial.row.items ++ only_branches (flat_map children (take (l.index - l.from) (drop l.from l.initial.row.items)))
+    l.row.items ≡ l.initial.row.items
+    ++ only_branches (flat_map children (take (l.index - l.from) (drop l.from l.initial.row.items)))

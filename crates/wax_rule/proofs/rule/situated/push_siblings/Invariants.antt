@@ -5,5 +5,7 @@ use Rattle.wax_rule.proofs.rule.situated.push_siblings.Given as goal
 
 abbrev pub invariant-loop-index : goal.invariant-loop-index
 invariant-loop-index l =
-    l.row.items ++ only_branches (siblings (neighbour_side l.before) (neighbour_side l.right) (trees (drop l.index l.tokens)))
-    ≡ l.initial.row.items ++ only_branches (siblings (neighbour_side l.fn.left) (neighbour_side l.right) (trees l.tokens))
+    l.row.items ++ only_branches
+    (siblings (neighbour_side l.before) (neighbour_side l.right) (trees (drop l.index l.tokens)))
+    ≡ l.initial.row.items ++ only_branches
+    (siblings (neighbour_side l.fn.left) (neighbour_side l.right) (trees l.tokens))

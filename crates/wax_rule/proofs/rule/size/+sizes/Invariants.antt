@@ -14,10 +14,12 @@ abbrev pub decreases-common_size : goal.decreases-common_size
 decreases-common_size g l = trees_size (trees l.tokens.now)
 
 abbrev pub invariant-total_size-loop-token : goal.invariant-total_size-loop-token
-invariant-total_size-loop-token g l = option_sum (Some l.total) (total_size (trees (drop l.token-index l.tokens))) ≡ total_size (trees l.tokens)
+invariant-total_size-loop-token g l =
+    option_sum (Some l.total) (total_size (trees (drop l.token-index l.tokens))) ≡ total_size (trees l.tokens)
 
 abbrev pub decreases-are_of_size : goal.decreases-are_of_size
 decreases-are_of_size g l = trees_size (trees l.tokens.now)
 
 abbrev pub invariant-are_of_size-loop-token : goal.invariant-are_of_size-loop-token
-invariant-are_of_size-loop-token g l = are_of_size l.size (trees (drop l.token-index l.tokens)) ≡ are_of_size l.size (trees l.tokens)
+invariant-are_of_size-loop-token g l =
+    are_of_size l.size (trees (drop l.token-index l.tokens)) ≡ are_of_size l.size (trees l.tokens)

@@ -1,4 +1,5 @@
-use Rattle.std.proofs.Common.{◌≡◌, ◌∙◌, ◌++◌, [], ap, sym, append-nil, chars, encode_utf8_all, map, string_bytes}
+use Rattle.std.proofs.Common.{◌≡◌, ◌∙◌, ◌++◌, [], ap, sym, append-nil, chars, encode_utf8_all, map}
+use Rattle.std.proofs.Common.{string_bytes}
 use Rattle.std.proofs.lemmas.List.{nil_from_length}
 use Rattle.std.proofs.lemmas.Str.{IsUtf8-past_char, chars-nil, chars_past_char}
 use Rattle.std.specs.Str.Iter.{chars_rest}
@@ -22,6 +23,7 @@ returns c =
     let written = string_bytes c.loop-character.picture in
     let end : chars (chars_rest c.loop-character.character-iterator) ≡ [] =
     ap chars (nil_from_length _ c.in-None.ensures.steps.0.0) ∙ chars-nil in
-    let none : written ++ encode_utf8_all (map drawn_character (chars (chars_rest c.loop-character.character-iterator)))
+    let none : written ++ encode_utf8_all
+    (map drawn_character (chars (chars_rest c.loop-character.character-iterator)))
     ≡ written = ap (λ z. written ++ encode_utf8_all (map drawn_character z)) end ∙ append-nil written in
     feed_pushed c.push-2.result written _ _ c.push-2.ensures.bytes (sym none ∙ c.loop-character.invariant.1)

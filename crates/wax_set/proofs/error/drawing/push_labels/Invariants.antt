@@ -6,4 +6,5 @@ use Rattle.wax_set.proofs.error.drawing.push_labels.Given as goal
 abbrev pub invariant-loop-label : goal.invariant-loop-label
 invariant-loop-label l =
     string_bytes l.picture
-    ≡ string_bytes l.initial.picture ++ label_lines (chars l.expression) (map seen (take l.label-index l.labels))
+    ≡ string_bytes l.initial.picture ++ label_lines (chars l.expression)
+    (map seen (take l.label-index l.labels))

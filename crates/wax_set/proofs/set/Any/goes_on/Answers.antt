@@ -5,5 +5,7 @@ use Rattle.wax_set.proofs.set.Any.goes_on.Goals as goal
 
 pub returns : goal.returns
 returns c =
-    let compiled = subst (λ t. IsCompiled t c.self.inside.compiled) c.self.view_is c.self.invariant.compiled in
-    answers_below c.args.self.now c.self.inside.compiled.0 compiled.accepts c.goes_on.result _ c.args.path.now c.as_str.ensures c.goes_on.ensures
+    let compiled =
+    subst (λ t. IsCompiled t c.self.inside.compiled) c.self.view_is c.self.invariant.compiled in
+    answers_below c.args.self.now c.self.inside.compiled.0 compiled.accepts c.goes_on.result _ c.args.path.now
+    c.as_str.ensures c.goes_on.ensures

@@ -13,13 +13,16 @@ returns-then-not-may_match_at_once-clause-means c =
     )
 
 pub invariant_of-self : goal.invariant_of-self
-invariant_of-self c = subst (IsCompiledAny c.self.inside.token c.self.inside.compiled) (sym c.last_number.ensures.same) c.self.invariant
+invariant_of-self c = subst (IsCompiledAny c.self.inside.token c.self.inside.compiled)
+    (sym c.last_number.ensures.same) c.self.invariant
 
 pub returns-clause-means : goal.returns-clause-means
 returns-clause-means c =
     let code = c.self.inside.numbered in
     let numbers = subst (λ t. IsNumbered t code) c.self.view_is c.self.invariant.numbers in
     let alternates = subst IsAlternation c.self.view_is c.self.invariant.alternates in
-    let last = subst (λ s. IsLastNumber code s c.in_ok-last.last) c.as_str.ensures c.in_ok-last.ensures.last in
-    let decided = last_decides c.args.self.now code c.args.path.now c.in_ok-last.last alternates numbers last in
+    let last =
+    subst (λ s. IsLastNumber code s c.in_ok-last.last) c.as_str.ensures c.in_ok-last.ensures.last in
+    let decided =
+    last_decides c.args.self.now code c.args.path.now c.in_ok-last.last alternates numbers last in
     subst (λ b. IsTrue b ↔ MeansText c.args.self.now c.args.path.now) (sym c.is_some.ensures) decided

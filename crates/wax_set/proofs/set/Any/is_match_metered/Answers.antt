@@ -12,15 +12,18 @@ pub returns-clause-means : goal.returns-clause-means
 returns-clause-means c =
     let r = c.is_match_metered.result in
     let t = c.args.self.now in
-    let here = answers_tree t _ (compiled_of c) r (chars c.as_str.result.now) c.is_match_metered.ensures.decides in
+    let here =
+    answers_tree t _ (compiled_of c) r (chars c.as_str.result.now) c.is_match_metered.ensures.decides in
     subst (λ s. IfOk r (λ answer. IsTrue answer ↔ MeansText t s)) c.as_str.ensures here
 
 pub returns-clause-above : goal.returns-clause-above
 returns-clause-above c =
     let old = c.args.meter.now in
-    let moved = subst (λ s. c.is_match_metered.new.meter ≤ old + c.self.inside.compiled.1 * (length s + 1)) c.as_str.ensures
+    let moved = subst
+    (λ s. c.is_match_metered.new.meter ≤ old + c.self.inside.compiled.1 * (length s + 1)) c.as_str.ensures
     c.is_match_metered.ensures.above in
-    subst (λ n. c.is_match_metered.new.meter ≤ old + n * (length c.args.path.now + 1)) (compiled_of c).len moved
+    subst (λ n. c.is_match_metered.new.meter ≤ old + n * (length c.args.path.now + 1))
+    (compiled_of c).len moved
 
 pub returns-clause-below : goal.returns-clause-below
 returns-clause-below c =

@@ -12,11 +12,14 @@ returns-then-not-may_match_at_once-clause-matches c =
     (λ m. true≢false (sym (c.may_match_at_once.ensures m) ∙ rejected))
 
 pub invariant_of-self : goal.invariant_of-self
-invariant_of-self c = subst (IsCompiledAny c.self.inside.token c.self.inside.compiled) (sym c.list_numbers.ensures.same) c.self.invariant
+invariant_of-self c = subst (IsCompiledAny c.self.inside.token c.self.inside.compiled)
+    (sym c.list_numbers.ensures.same) c.self.invariant
 
 pub returns-clause-matches : goal.returns-clause-matches
 returns-clause-matches c =
     let numbers = subst (λ t. IsNumbered t c.self.inside.numbered) c.self.view_is c.self.invariant.numbers in
     IfOk-weaker c.list_numbers.result _ _
-    (λ w are. are_matches c.args.self.now c.self.inside.numbered c.args.path.now c.list_numbers.new.numbers.items numbers
-    (subst (λ s. AreNumbers c.self.inside.numbered s c.list_numbers.new.numbers.items) c.as_str.ensures are)) c.list_numbers.ensures.numbers
+    (λ w are. are_matches c.args.self.now c.self.inside.numbered c.args.path.now
+    c.list_numbers.new.numbers.items numbers
+    (subst (λ s. AreNumbers c.self.inside.numbered s c.list_numbers.new.numbers.items) c.as_str.ensures are))
+    c.list_numbers.ensures.numbers

@@ -14,7 +14,8 @@ returns c =
           rw w.indexes-is
           (are_matches c.args.self.now code c.args.path.now w.list_numbers.new.numbers.items
           (subst (IsNumbered c.args.self.now) (sym w.holder.ensures) numbers)
-          (subst (λ s. AreNumbers code s w.list_numbers.new.numbers.items) w.as_str.ensures w.in_ok-list_numbers.ensures))
+          (subst (λ s. AreNumbers code s w.list_numbers.new.numbers.items) w.as_str.ensures
+          w.in_ok-list_numbers.ensures))
       | else-may_match w ↦
           rw w.indexes-is
           (no_matches c.args.self.now c.args.path.now c.new-indexes.result.items c.new-indexes.ensures.items

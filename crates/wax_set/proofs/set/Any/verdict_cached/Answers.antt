@@ -9,20 +9,25 @@ compiled c = subst (λ t. IsCompiled t c.self.inside.compiled) c.self.view_is c.
 
 pub invariant_of-self : goal.invariant_of-self
 invariant_of-self c =
-    subst (λ p. IsCompiledAny c.self.inside.token p c.self.inside.numbered) (sym c.verdict_cached.ensures.same) c.self.invariant
+    subst (λ p. IsCompiledAny c.self.inside.token p c.self.inside.numbered)
+    (sym c.verdict_cached.ensures.same) c.self.invariant
 
 pub returns-clause-means : goal.returns-clause-means
 returns-clause-means c =
-    verdict_means c.args.self.now c.self.inside.compiled.0 (compiled c).accepts c.verdict_cached.result _ c.args.path.now c.as_str.ensures c.verdict_cached.ensures.decides
+    verdict_means c.args.self.now c.self.inside.compiled.0 (compiled c).accepts c.verdict_cached.result _
+    c.args.path.now c.as_str.ensures c.verdict_cached.ensures.decides
 
 pub returns-clause-below : goal.returns-clause-below
 returns-clause-below c =
-    verdict_below c.args.self.now c.self.inside.compiled.0 (compiled c).accepts c.verdict_cached.result _ c.args.path.now c.as_str.ensures c.verdict_cached.ensures.decides
+    verdict_below c.args.self.now c.self.inside.compiled.0 (compiled c).accepts c.verdict_cached.result _
+    c.args.path.now c.as_str.ensures c.verdict_cached.ensures.decides
 
 pub returns-clause-decides : goal.returns-clause-decides
 returns-clause-decides c =
-    verdict_decides c.args.self.now c.self.inside.compiled.0 (compiled c).accepts c.verdict_cached.result _ c.args.path.now c.as_str.ensures c.verdict_cached.ensures.decides
+    verdict_decides c.args.self.now c.self.inside.compiled.0 (compiled c).accepts c.verdict_cached.result _
+    c.args.path.now c.as_str.ensures c.verdict_cached.ensures.decides
 
 pub returns-clause-onward : goal.returns-clause-onward
 returns-clause-onward c =
-    verdict_onward c.args.self.now c.self.inside.compiled.0 (compiled c).accepts c.verdict_cached.result _ c.args.path.now c.as_str.ensures c.verdict_cached.ensures.decides
+    verdict_onward c.args.self.now c.self.inside.compiled.0 (compiled c).accepts c.verdict_cached.result _
+    c.args.path.now c.as_str.ensures c.verdict_cached.ensures.decides

@@ -12,12 +12,14 @@ pub returns-clause-decides : goal.returns-clause-decides
 returns-clause-decides c =
     let r = c.is_match_counted.result in
     let t = c.args.self.now in
-    let here = decides_tree t _ (compiled_of c) r (chars c.as_str.result.now) c.is_match_counted.ensures.decides in
+    let here =
+    decides_tree t _ (compiled_of c) r (chars c.as_str.result.now) c.is_match_counted.ensures.decides in
     subst (λ s. IfOk r (λ answer. IsTrue answer.0 ↔ MeansText t s)) c.as_str.ensures here
 
 pub returns-clause-above : goal.returns-clause-above
 returns-clause-above c =
     let r = c.is_match_counted.result in
     let t = c.args.self.now in
-    let here = visits_tree t _ (compiled_of c) r (chars c.as_str.result.now) c.is_match_counted.ensures.above in
+    let here =
+    visits_tree t _ (compiled_of c) r (chars c.as_str.result.now) c.is_match_counted.ensures.above in
     subst (λ s. IfOk r (λ answer. answer.1 ≤ program_length t * (length s + 1))) c.as_str.ensures here

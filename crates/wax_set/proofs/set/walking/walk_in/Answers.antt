@@ -24,7 +24,8 @@ returns-clause-begins g c =
     let rooted = c.in_ok-prefix_names.prefix_names.is_rooted in
     let names = from_last c.in_ok-prefix_names.prefix_names.names.items in
     let meant : BeginsWith rooted any (map chars names) =
-    subst (λ t. BeginsWith rooted t (map chars names)) (sym tree) (c.in_ok-prefix_names.ensures.meant (0, 0)) in
+    subst (λ t. BeginsWith rooted t (map chars names)) (sym tree)
+    (c.in_ok-prefix_names.ensures.meant (0, 0)) in
     map_ok (λ walk seen. record {
       depth = depth;
       depth_is = c.depth.ensures.depth;
@@ -38,6 +39,7 @@ returns-clause-begins g c =
       can = λ filters plain.
           can_least (record { rooted = rooted; glob = any; filters = filters }) start asked depth names
           c.depth.ensures.greatest meant plain;
-      comes = set_begins any law c.args.directory start asked c.within-asked.result depth same rooted names _ _ seen
+      comes = set_begins any law c.args.directory start asked c.within-asked.result depth same
+          rooted names _ _ seen
           c.walk_along-walk.ensures.begins;
     }) c.uncaptured_of.result c.uncaptured_of.ensures.view

@@ -6,6 +6,7 @@ abbrev pub invariant-loop-place : goal.invariant-loop-place
 invariant-loop-place l = record {
   size : l.self.size ≡ l.fn.self.size;
   keeps : (k : ℕ) → HoldsPlace l.fn.self.next k → HoldsPlace l.self.next k;
-  only : (k : ℕ) → HoldsPlace l.self.next k → HoldsPlace l.fn.self.next k ⊎ ((j : ℕ) × (j < l.place-index) × (get_or l.places j k ≡ k));
+  only : (k : ℕ) → HoldsPlace l.self.next k → HoldsPlace l.fn.self.next k
+      ⊎ ((j : ℕ) × (j < l.place-index) × (get_or l.places j k ≡ k));
   all : (j k : ℕ) → j < l.place-index → get_or l.places j k ≡ k → k ≤ l.self.size → HoldsPlace l.self.next k;
 }

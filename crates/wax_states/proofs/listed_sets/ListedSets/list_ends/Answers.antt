@@ -10,4 +10,5 @@ returns c =
     let sized = subst (λ p. p.size ≡ length c.args.program.now.0) (sym c.self.view_is) c.requires.size in
     rw (← c.self.view_is) (IfOk-weaker c.list_ends_among.result _ _
     (λ w l. list_read c.args.program.now.0 s.size s.taken s.here s.next s.read c.self.invariant sized
-    (subst IsDone (sym c.self.view_is) c.requires.done) c.places.result.now c.places.ensures.all _ l) c.list_ends_among.ensures.ends)
+    (subst IsDone (sym c.self.view_is) c.requires.done) c.places.result.now c.places.ensures.all _ l)
+    c.list_ends_among.ensures.ends)

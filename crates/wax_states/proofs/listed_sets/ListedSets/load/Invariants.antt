@@ -8,5 +8,6 @@ invariant-loop-place l = record {
   read : IsEmpty l.self.read;
   next : IsEmpty l.self.next;
   only : (k : ℕ) → HoldsPlace l.self.pending k → (j : ℕ) × (j < l.place-index) × (get_or l.places j k ≡ k);
-  all : (j k : ℕ) → j < l.place-index → get_or l.places j k ≡ k → k ≤ l.self.size → HoldsPlace l.self.pending k;
+  all : (j k : ℕ) → j < l.place-index → get_or l.places j k ≡ k → k ≤ l.self.size
+      → HoldsPlace l.self.pending k;
 }

@@ -7,6 +7,7 @@ returns c =
     let s = c.self.inside in
     let held = unread_held s.here.flags s.read s.size in
     rw (← c.self.view_is) (
-      (λ t. held.1 (sym c.contains.ensures ∙ t, (λ h. absurd (omega (arith, c.self.invariant.read_within s.size h))))),
+      (λ t. held.1
+          (sym c.contains.ensures ∙ t, (λ h. absurd (omega (arith, c.self.invariant.read_within s.size h))))),
       (λ h. c.contains.ensures ∙ (held.0 h).0),
     )

@@ -8,7 +8,9 @@ use Rattle.wax_states.proofs.table.Table.has_places.Goals as goal
 pub returns : goal.returns
 returns c = λ h.
     let states = c.args.self.now.states.items in
-    let within : c.args.number < length states = omega (arith, c.if-number-len.false, c.len.ensures, c.args.self.now.states.ok.0) in
-    let here = slice_get_read states (length states) c.args.number c.index.result.now refl within c.index.ensures in
+    let within : c.args.number < length states =
+    omega (arith, c.if-number-len.false, c.len.ensures, c.args.self.now.states.ok.0) in
+    let here =
+    slice_get_read states (length states) c.args.number c.index.result.now refl within c.index.ensures in
     let same = (slice_eq-Decides Decides-eqb _ _ _ c.eq.ensures).0 h in
     (within, ap places_in here ∙ sym c.as_slice.ensures.value ∙ same)

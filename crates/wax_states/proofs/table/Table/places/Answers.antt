@@ -6,4 +6,5 @@ use Rattle.wax_states.proofs.table.Table.places.Goals as goal
 pub returns : goal.returns
 returns c =
     let states = c.args.self.now.states.items in
-    ap places_in (slice_get_read states (length states) _ c.index.result.now refl c.requires c.index.ensures) ∙ sym c.deref.ensures.value
+    ap places_in (slice_get_read states (length states) _ c.index.result.now refl c.requires c.index.ensures)
+    ∙ sym c.deref.ensures.value

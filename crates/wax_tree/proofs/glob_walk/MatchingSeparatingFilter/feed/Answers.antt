@@ -31,15 +31,18 @@ returns-clause-steps g c =
     let y = given_of glob_facts facts_of c.in-Ok.separation in
     let fed = g.met.I.FileIterator.feeding s.input c.feed.new.self (Some c.in_ok-separation.separation)
     c.in_ok-separation.ensures.steps in
-    let gives = subst (λ cs. y ≡ changed_by (of_candidate (leading_mark g.C.NameTest.decides cs g.P.Program.decides s.program.now)) x)
+    let gives = subst (λ cs. y ≡ changed_by
+    (of_candidate (leading_mark g.C.NameTest.decides cs g.P.Program.decides s.program.now)) x)
     c.deref.ensures.value c.in-Ok.ensures.gives in
-    let cuts = subst (λ cs. c.in-Ok.cuts ≡ cut_by (of_candidate (leading_mark g.C.NameTest.decides cs g.P.Program.decides s.program.now)) x)
+    let cuts = subst (λ cs. c.in-Ok.cuts
+    ≡ cut_by (of_candidate (leading_mark g.C.NameTest.decides cs g.P.Program.decides s.program.now)) x)
     c.deref.ensures.value c.in-Ok.ensures.cuts in
     elim c.if-cuts.branch [
       | then-cuts w ↦ rw w.self-is (
         ruled_cuts law rule (view s.input) (view c.feed.new.self) (view w.cancel_walk_tree.new.self)
             s.has_ended c.if-self.false x y (mark_by (of_candidate rule) x) fed refl gives
-            (sym w.if-cuts.true ∙ cuts) (g.met.I.FileIterator.cancelling c.feed.new.self w.cancel_walk_tree.new.self
+            (sym w.if-cuts.true
+            ∙ cuts) (g.met.I.FileIterator.cancelling c.feed.new.self w.cancel_walk_tree.new.self
             w.cancel_walk_tree.ensures),
         record { answer = c.in-Ok.ensures.matches; stays = λ e k. k },
       )

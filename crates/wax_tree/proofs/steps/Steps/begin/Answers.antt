@@ -11,7 +11,8 @@ use Rattle.wax_tree.specs.Walking.{scope_of, located, cursors_of, begins, names_
 use Rattle.wax_tree.proofs.Showing.{has_kind, begins_missing, begins_failing}
 use Rattle.wax_tree.proofs.Resting.{rest_moved, comes_rest}
 use Rattle.wax_tree.proofs.UsingAnswers.{counted_same, answer_used, failed_uses_answer, gives_uses_answer}
-use Rattle.wax_tree.proofs.UsingAnswers.{kind_no_listing, none_begins, stopped_uses_answer, stops_with, step_from}
+use Rattle.wax_tree.proofs.UsingAnswers.{kind_no_listing, none_begins, stopped_uses_answer, stops_with}
+use Rattle.wax_tree.proofs.UsingAnswers.{step_from}
 use Rattle.wax_tree.proofs.Stepping.{gives_fault}
 use Rattle.wax_tree.specs.Reaching.{OfAny, OnWay, ReachesFrom, no_folders}
 use Rattle.wax_tree.proofs.Reaching.{fault_places, leads_here, reaches_more, stopped_places, way_here}
@@ -79,10 +80,12 @@ returns-in-Err-Failed-clause-answers g c running none entered =
       names =
           names_left w + length c.args.place.names.items;
       made = 1;
-    }) w (open_lists w) 0 1 0 c.kind.new.self _ _ o.counted refl (omega arith) (λ n. refl) running none entered (λ n. refl)
+    }) w (open_lists w) 0 1 0 c.kind.new.self _ _ o.counted refl (omega arith)
+    (λ n. refl) running none entered (λ n. refl)
     (λ n. omega arith)
     (gives_uses_answer _ (record w { directory = c.kind.new.self })
-    (Err (Fault Listing c.into_string-path.result c.args.place.at.depth)) (counted_same _ 0) refl one (omega arith) (λ i. i)
+    (Err (Fault Listing c.into_string-path.result c.args.place.at.depth)) (counted_same _ 0) refl one
+    (omega arith) (λ i. i)
     (λ i. i) (omega arith))
 
 pub returns-in-Err-Failed-clause-continues : goal.returns-in-Err-Failed-clause-continues
@@ -113,7 +116,8 @@ returns-in-Err-Memory-clause-answers g c running none entered =
       names =
           names_left w + length c.args.place.names.items;
       made = 1;
-    }) w (open_lists w) 0 1 0 c.kind.new.self _ _ o.counted refl (omega arith) (λ n. refl) running none entered (λ n. refl)
+    }) w (open_lists w) 0 1 0 c.kind.new.self _ _ o.counted refl (omega arith)
+    (λ n. refl) running none entered (λ n. refl)
     (λ n. absurd (n tt))
     (failed_uses_answer _ (record w { directory = c.kind.new.self }) (counted_same _ 1) (omega arith)
     (omega arith)))
@@ -132,7 +136,8 @@ returns-in-Err-Failed-clause-places g c none =
     let w = record c.args.self.now { directory = c.kind.new.self } in
     let place = c.args.place in
     let of = ReachesFrom w (OnWay place) in
-    fault_places of of w.max w Listing c.into_string-path.result place.at.depth (place.at.depth + 1) (omega arith)
+    fault_places of of w.max w Listing c.into_string-path.result place.at.depth
+    (place.at.depth + 1) (omega arith)
     (subst (λ p. of p (place.at.depth + 1)) (sym c.into_string-path.ensures)
     (leads_here w.min (OfAny w (OnWay place)) _ _ (inl (way_here place _ _ (refl, refl))))) none
     (reaches_more w no_folders (OnWay place) (λ p n i. absurd i))
@@ -149,9 +154,11 @@ returns-in-Ok-Some-clause-answers g c running none entered =
       taken = 0;
       names = names_left w + length c.args.place.names.items;
       made = 1;
-    }) w (open_lists w) 0 1 0 c.kind.new.self c.follow.result c.follow.new.self o.counted no.items (omega arith)
+    }) w (open_lists w) 0 1 0 c.kind.new.self c.follow.result c.follow.new.self o.counted
+    no.items (omega arith)
     (λ n. omega arith) running none entered (λ n. no.opened)
-    (λ n. omega (arith, no.opened, no.ended, c.follow.ensures.lists n)) (c.follow.ensures.uses_answer running none)
+    (λ n. omega (arith, no.opened, no.ended, c.follow.ensures.lists n))
+    (c.follow.ensures.uses_answer running none)
 
 pub returns-in-Ok-Some-clause-course : goal.returns-in-Ok-Some-clause-course
 returns-in-Ok-Some-clause-course g c going first entered =
@@ -164,7 +171,8 @@ returns-in-Ok-Some-clause-course g c going first entered =
           ∙ (o.answered ∙ ap (λ p. g.D.Directory.law.answered w.directory ++ found p c.in-Ok-Some.kind ∷ [])
           c.as_str.ensures);
       uses = uses_more calls _ _ c.follow.result c.follow.new.self
-          (λ d h. (h.0, h.1, is_there c.in-Ok-Some.kind d h.2 refl)) (c.follow.ensures.course going first entered);
+          (λ d h. (h.0, h.1, is_there c.in-Ok-Some.kind d h.2 refl))
+          (c.follow.ensures.course going first entered);
     }
 
 pub returns-in-Ok-None-clause-course : goal.returns-in-Ok-None-clause-course
@@ -189,11 +197,14 @@ returns-in-Err-Failed-clause-course g c going first entered =
     let v = record w { directory = c.kind.new.self } in
     let calls = call path (unseen path) ∷ [] in record {
       calls = calls;
-      answered = o.answered ∙ ap (λ p. g.D.Directory.law.answered w.directory ++ unseen p ∷ []) c.as_str.ensures;
+      answered =
+          o.answered ∙ ap (λ p. g.D.Directory.law.answered w.directory ++ unseen p ∷ []) c.as_str.ensures;
       uses = fault_uses calls
-          (λ rest d. AlongComes (scope_of w) (from_last c.args.place.names.items) (located c.args.place.at) rest
+          (λ rest d.
+          AlongComes (scope_of w) (from_last c.args.place.names.items) (located c.args.place.at) rest
           (asking calls d)) v v _ (fault Listing path c.args.place.at.depth)
-          (ap (λ p. Some (fault Listing p c.args.place.at.depth)) c.into_string-path.ensures) going first entered refl
+          (ap (λ p. Some (fault Listing p c.args.place.at.depth)) c.into_string-path.ensures)
+          going first entered refl
           (λ rest. is_failing refl);
     }
 

@@ -69,7 +69,8 @@ returns-after-push-clause-places g c none =
     let of = ReachesFrom w (IsOf c.args.folder) in
     elim c.match-push.branch [
       | in-Ok-push v ↦ rw (v.self-is, v.result-is)
-          (silent_places of of w.max (record w { directory = c.open.new.self; levels = c.push.new.self }) _ refl
+          (silent_places of of w.max
+          (record w { directory = c.open.new.self; levels = c.push.new.self }) _ refl
           none (pushed_reaches w (record w { directory = c.open.new.self; levels = c.push.new.self })
           (record { folder = c.args.folder; cursor = c.in-Ok.cursor }) no_folders refl refl
           v.in-Ok-push.ensures.items (λ p n i. absurd i)))
@@ -81,7 +82,8 @@ pub returns-in-Err-Failed-clause-places : goal.returns-in-Err-Failed-clause-plac
 returns-in-Err-Failed-clause-places g c none =
     let w = record c.args.self.now { directory = c.open.new.self } in
     let of = ReachesFrom w (IsOf c.args.folder) in
-    fault_places of of w.max w Listing c.into_string-path.result c.saturating_sub-depth.result c.args.folder.depth
+    fault_places of of w.max w Listing c.into_string-path.result
+    c.saturating_sub-depth.result c.args.folder.depth
     c.saturating_sub-depth.ensures
     (subst (λ p. of p c.args.folder.depth) (sym c.into_string-path.ensures)
     (leads_here w.min (OfAny w (IsOf c.args.folder)) _ _ (inl (refl, refl)))) none
@@ -112,7 +114,8 @@ returns-after-push-clause-answers g c running first entered =
           (answer_used law asked w (open_lists w) 1 (begins w) 0 d GoesOn new o.counted refl (omega arith)
           (λ n. omega arith) running first entered (λ n. refl) (λ n. omega (arith, before, after, long))
           (silent_uses_answer asked (record w { directory = d }) new 0 0 (omega arith)
-          (λ a b e. none_enters new e) refl refl (omega arith) (omega arith) opening_counted (λ e. refl) (omega (arith, begun))))
+          (λ a b e. none_enters new e) refl refl (omega arith) (omega arith) opening_counted (λ e. refl)
+          (omega (arith, begun))))
       | in-Err v ↦
           let new = record w { directory = d; levels = c.push.new.self; has_ended = true } in
           rw (v.self-is, v.result-is, v.fail.ensures.memory, v.fail.ensures.ended)
@@ -136,7 +139,8 @@ returns-in-Err-Failed-clause-answers g c running first entered =
     }) w (open_lists w) 1 (begins w) 1 d _ _ o.counted refl (omega arith) (λ n. omega arith) running first
     entered (λ n. refl) (λ n. omega arith)
     (gives_uses_answer _ (record w { directory = d })
-    (Err (Fault Listing c.into_string-path.result c.saturating_sub-depth.result)) (failure_counted _ refl refl refl) refl refl
+    (Err (Fault Listing c.into_string-path.result c.saturating_sub-depth.result))
+    (failure_counted _ refl refl refl) refl refl
     (omega arith) (λ i. i) (λ i. i) (omega arith))
 
 pub returns-in-Err-Memory-clause-answers : goal.returns-in-Err-Memory-clause-answers
@@ -162,7 +166,8 @@ returns-after-push-clause-course g c going first entered =
     let law = g.D.Directory.law in
     let path = c.args.folder.path.path in
     let calls = call path (opened path) ∷ [] in
-    let answered = c.in-Ok.ensures.answered ∙ ap (λ p. law.answered w.directory ++ opened p ∷ []) c.as_str.ensures in
+    let answered = c.in-Ok.ensures.answered
+    ∙ ap (λ p. law.answered w.directory ++ opened p ∷ []) c.as_str.ensures in
     elim c.match-push.branch [
       | in-Ok-push v ↦ rw (v.self-is, v.result-is) (record {
         calls = calls;
@@ -191,7 +196,8 @@ returns-in-Err-Failed-clause-course g c going first entered =
       uses = fault_uses calls
           (λ rest d. FolderComes (scope_of w) (located c.args.folder) rest (asking calls d)) v v _
           (fault Listing path c.saturating_sub-depth.result)
-          (ap (λ p. Some (fault Listing p c.saturating_sub-depth.result)) c.into_string-path.ensures) going first
+          (ap (λ p. Some (fault Listing p c.saturating_sub-depth.result)) c.into_string-path.ensures) going
+          first
           entered refl
           (λ rest. (
             a_sealed,
@@ -207,7 +213,9 @@ returns-in-Err-Memory-clause-course g c going first entered =
     let w = c.args.self.now in
     let o = rw c.in-Err-Memory.field-0-is at c.in-Err-Memory.ensures in record {
       calls = [];
-      answered = ap (λ v. g.D.Directory.law.answered v.directory) c.fail-in-Err-Memory.ensures.ended ∙ o.answered;
-      uses = memory_uses [] _ c.fail-in-Err-Memory.result c.fail-in-Err-Memory.new.self (some_folder w c.args.folder)
+      answered =
+          ap (λ v. g.D.Directory.law.answered v.directory) c.fail-in-Err-Memory.ensures.ended ∙ o.answered;
+      uses = memory_uses [] _ c.fail-in-Err-Memory.result c.fail-in-Err-Memory.new.self
+          (some_folder w c.args.folder)
           c.fail-in-Err-Memory.ensures.memory (ap (λ v. v.has_ended) c.fail-in-Err-Memory.ensures.ended);
     }

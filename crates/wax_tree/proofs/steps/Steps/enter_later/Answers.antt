@@ -24,4 +24,5 @@ returns-in_ok-path-clause-enters g c =
     let is : (facts_of c.args.entry.now).kind ≡ Folder = search rules in
     remembered _ refl
     (folder_is (facts_of c.args.entry.now) c.in_ok-path.path c.depth-depth.result
-    (c.in_ok-path.ensures.cases ∙ c.walked_path.ensures) c.depth-depth.ensures) is (omega (arith, c.depth-depth.ensures, c.if-depth-self.true))
+    (c.in_ok-path.ensures.cases ∙ c.walked_path.ensures) c.depth-depth.ensures) is
+    (omega (arith, c.depth-depth.ensures, c.if-depth-self.true))

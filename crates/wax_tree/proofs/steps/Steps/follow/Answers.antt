@@ -25,7 +25,8 @@ use Rattle.wax_tree.proofs.Coursing as course
 use Rattle.wax_tree.proofs.steps.Steps.follow.Goals as goal
 use Rattle.std.proofs.Common.{cond}
 use Rattle.wax_tree.specs.Walking.{begins, names_left}
-use Rattle.wax_tree.proofs.UsingAnswers.{kind_counted, kind_uses_answer, memory_uses_answer, none_begins, none_either}
+use Rattle.wax_tree.proofs.UsingAnswers.{kind_counted, kind_uses_answer, memory_uses_answer, none_begins}
+use Rattle.wax_tree.proofs.UsingAnswers.{none_either}
 use Rattle.wax_tree.proofs.UsingAnswers.{silent_uses_answer}
 
 pub returns-in_default-clause-continues : goal.returns-in_default-clause-continues
@@ -109,7 +110,8 @@ returns-clause-places g c none =
     let next : StartPoint = record { at = c.in-Ok.at; names = c.pop.new.self } in
     let below = c.in-Ok.ensures in
     silent_places of of w.max (record w { first = Some next }) _ refl none
-    (next_reaches w place next c.in-Some.name c.in-Some.ensures.items (ap (λ v. v.path) below) (ap (λ v. v.depth) below))
+    (next_reaches w place next c.in-Some.name c.in-Some.ensures.items (ap (λ v. v.path) below)
+    (ap (λ v. v.depth) below))
 
 pub returns-in_default-clause-uses_answer : goal.returns-in_default-clause-uses_answer
 returns-in_default-clause-uses_answer g c running first =

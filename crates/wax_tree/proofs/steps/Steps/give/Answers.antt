@@ -27,7 +27,8 @@ returns-clause-continues g c s h k rest items r e =
     let f = facts_of c.args.entry in
     let i = c.in-Ok.ensures.entered s r.entered h k in
     let given : tree_given (Ok c.args.entry) ≡ plain_entry (entry_location f) f.kind = refl in
-    gives_entry g.D.Directory.law w c.enter_later.new.self c.enter_later.new.self.entered (entry_location f) f.kind s
+    gives_entry g.D.Directory.law w c.enter_later.new.self c.enter_later.new.self.entered
+    (entry_location f) f.kind s
     i.0 items rest (Ok c.args.entry) c.enter_later.ensures.rest
     (omega (arith, c.depth.ensures, c.if-depth-self.false)) given r i.2 i.1 e
 
@@ -67,7 +68,8 @@ returns-clause-uses_answer g c =
 pub returns-in_default-clause-course : goal.returns-in_default-clause-course
 returns-in_default-clause-course g c going first entered =
     let w = c.args.self.now in
-    memory_uses [] _ c.fail.result c.fail.new.self (some_entry w (facts_of c.args.entry)) c.fail.ensures.memory
+    memory_uses [] _ c.fail.result c.fail.new.self (some_entry w (facts_of c.args.entry))
+    c.fail.ensures.memory
     (ap (λ v. v.has_ended) c.fail.ensures.ended)
 
 pub returns-then-depth-self-clause-course : goal.returns-then-depth-self-clause-course
@@ -75,7 +77,8 @@ returns-then-depth-self-clause-course g c going first entered =
     let w = c.args.self.now in
     let rest = c.enter_later.ensures.rest in
     let min : c.enter_later.new.self.min ≡ w.min = ap (λ v. v.min) rest in
-    passes_uses w c.enter_later.new.self (facts_of c.args.entry) rest going first entered c.in-Ok.ensures.enters
+    passes_uses w c.enter_later.new.self (facts_of c.args.entry) rest going first entered
+    c.in-Ok.ensures.enters
     (omega (arith, c.depth.ensures, c.if-depth-self.true, min))
 
 pub returns-clause-course : goal.returns-clause-course
@@ -85,5 +88,6 @@ returns-clause-course g c going first entered =
     let rest = c.enter_later.ensures.rest in
     let min : c.enter_later.new.self.min ≡ w.min = ap (λ v. v.min) rest in
     let given : tree_given (Ok c.args.entry) ≡ plain_entry (entry_location f) f.kind = refl in
-    gives_uses w c.enter_later.new.self f rest going first entered c.in-Ok.ensures.enters (Ok c.args.entry) given
+    gives_uses w c.enter_later.new.self f rest going first entered c.in-Ok.ensures.enters
+    (Ok c.args.entry) given
     (omega (arith, c.depth.ensures, c.if-depth-self.false, min))

@@ -25,7 +25,8 @@ pub returns-in-Entry-clause-continues : goal.returns-in-Entry-clause-continues
 returns-in-Entry-clause-continues g c at x l f d h i rest items r e =
     let w = c.args.self.now in
     let found = rw c.in-Entry.is at f in
-    let t = found_entry (scope_of w) at (g.D.Directory.law.shows w.directory) x c.in-Entry.entry l rest.forest found
+    let t = found_entry (scope_of w) at (g.D.Directory.law.shows w.directory) x
+    c.in-Entry.entry l rest.forest found
     h i in
     let few : count_shown t.0 + rest.count ≤ items = omega (arith, e, t.3) in
     rw t.4 (c.give.ensures.continues t.0 t.1 t.2 rest items r few)
@@ -51,7 +52,8 @@ returns-in-Fault-clause-continues g c at x l f d h i rest items r e =
 pub returns-in-Entry-clause-places : goal.returns-in-Entry-clause-places
 returns-in-Entry-clause-places g c none at x f d =
     let w = c.args.self.now in
-    subst (λ depth. StepPlaces (ReachesFrom w (OneFolder at.path depth)) (ReachesFrom w (OneFolder at.path depth))
+    subst (λ depth.
+    StepPlaces (ReachesFrom w (OneFolder at.path depth)) (ReachesFrom w (OneFolder at.path depth))
     w.max c.give.result c.give.new.self) d
     (entry_places w at x c.in-Entry.entry c.give.result c.give.new.self (rw c.in-Entry.is at f)
     (c.give.ensures.places none))
@@ -76,6 +78,7 @@ returns-in-Fault-clause-course g c going first entered at x f d =
     let w = c.args.self.now in
     let depth : c.saturating_sub.result ≡ at.depth - 1 = omega (arith, d, c.saturating_sub.ensures) in
     fault_uses [] (ItemComes (scope_of w) at x) w w _
-    (fault c.in-Fault.kind (string_bytes c.in-Fault.path) c.saturating_sub.result) refl going first entered refl
+    (fault c.in-Fault.kind (string_bytes c.in-Fault.path) c.saturating_sub.result) refl
+    going first entered refl
     (λ rest. fault_item (scope_of w) at x c.in-Fault.kind c.in-Fault.path
     c.saturating_sub.result rest depth (rw c.in-Fault.is at f))

@@ -96,8 +96,10 @@ pub returns-in-Err-clause-course : goal.returns-in-Err-clause-course
 returns-in-Err-clause-course g c going first entered =
     let w = c.args.self.now in record {
       calls = [];
-      answered = ap (λ v. g.D.Directory.law.answered v.directory) c.fail.ensures.ended ∙ c.in-Err.ensures.answered;
-      uses = memory_uses [] _ c.fail.result c.fail.new.self (some_rest w c.args.level.folder) c.fail.ensures.memory
+      answered = ap (λ v. g.D.Directory.law.answered v.directory) c.fail.ensures.ended
+          ∙ c.in-Err.ensures.answered;
+      uses = memory_uses [] _ c.fail.result c.fail.new.self (some_rest w c.args.level.folder)
+          c.fail.ensures.memory
           (ap (λ v. v.has_ended) c.fail.ensures.ended);
     }
 
@@ -108,7 +110,8 @@ returns-in-Ok-None-clause-course g c going first entered =
     let o = rw c.in-Ok-None.field-0-is at c.in-Ok-None.ensures in record {
       calls = call path at_end ∷ [];
       answered = o.answered;
-      uses = closed_uses w (record w { directory = c.next.new.self }) c.args.level.folder refl refl going first
+      uses =
+          closed_uses w (record w { directory = c.next.new.self }) c.args.level.folder refl refl going first
           entered;
     }
 
@@ -120,7 +123,8 @@ returns-in-Ok-Some-clause-course g c going first entered =
     let o = rw c.in-Ok-Some.field-0-is at c.in-Ok-Some.ensures in
     let calls = call path (listed (listed_of x)) ∷ [] in record {
       calls = calls;
-      answered = ap g.D.Directory.law.answered (c.take_from.ensures.uses_answer going first).directory ∙ o.answered;
+      answered =
+          ap g.D.Directory.law.answered (c.take_from.ensures.uses_answer going first).directory ∙ o.answered;
       uses = uses_moved calls _ _ c.take_from.result c.take_from.new.self (λ d h. (
         h.0,
         h.1,

@@ -7,7 +7,8 @@ use Rattle.wax_tree.proofs.Listing.{accounts_none, accounts_on, accounts_run, st
 use Rattle.wax_tree.specs.Walking.{step_given, entering}
 use Rattle.wax_walk.specs.View.{opens_one, is_above}
 use Rattle.std.proofs.Common.{◌++◌}
-use Rattle.wax_tree.proofs.CourseRuns.{course_begun, course_on, run_answered, run_begins, run_follows, run_stops}
+use Rattle.wax_tree.proofs.CourseRuns.{course_begun, course_on, run_answered, run_begins, run_follows}
+use Rattle.wax_tree.proofs.CourseRuns.{run_stops}
 use Rattle.wax_tree.proofs.steps.Steps.run.Goals as goal
 
 pub loop-item-init : goal.loop-item-init
@@ -29,19 +30,23 @@ returns-in-Gives g c =
     let law = g.D.Directory.law in
     let i = c.loop-item.invariant in
     let st = c.in-Gives.ensures.is_step in
-    let T : ℕ → Type 0 = λ n. entering c.step.new.self ≡ opens_one (is_above n) (step_given (Gives c.in-Gives.item)) in
+    let T : ℕ → Type 0 =
+    λ n. entering c.step.new.self ≡ opens_one (is_above n) (step_given (Gives c.in-Gives.item)) in
     record {
       feeds = record {
         gives = λ p h. let q = i.leads p h in run_gives law c.args.self.now c.loop-item.self c.step.new.self p
             q.0 _ q.2 q.3 (c.in-Gives.ensures.step q.0 q.1);
         calls = i.course.calls ++ c.in-Gives.ensures.course.calls;
-        answered = run_answered law c.args.self.now c.loop-item.self c.step.new.self (Gives c.in-Gives.item) i.course
+        answered =
+            run_answered law c.args.self.now c.loop-item.self c.step.new.self (Gives c.in-Gives.item) i.course
             c.in-Gives.ensures.course;
-        begins = run_begins law c.args.self.now c.loop-item.self c.step.new.self (Gives c.in-Gives.item) i.course
+        begins =
+            run_begins law c.args.self.now c.loop-item.self c.step.new.self (Gives c.in-Gives.item) i.course
             c.in-Gives.ensures.course;
         follows = run_follows law c.args.self.now c.loop-item.self c.step.new.self c.in-Gives.item i.course
             c.in-Gives.ensures.course;
-        accounts = accounts_run law c.args.self.now c.loop-item.self c.step.new.self _ i.from i.above i.accounts st.accounts;
+        accounts = accounts_run law c.args.self.now c.loop-item.self c.step.new.self _ i.from i.above
+            i.accounts st.accounts;
         at_end = λ e. (cc);
         closed = λ e. (cc);
         begun = λ e. (cc);
@@ -73,9 +78,11 @@ returns-in-Ends g c =
             c.in-Ends.ensures.course;
         begins = run_begins law c.args.self.now c.loop-item.self c.step.new.self Ends i.course
             c.in-Ends.ensures.course;
-        follows = run_stops law c.args.self.now c.loop-item.self c.step.new.self i.course c.in-Ends.ensures.course
+        follows =
+            run_stops law c.args.self.now c.loop-item.self c.step.new.self i.course c.in-Ends.ensures.course
             (st.at_end refl);
-        accounts = accounts_run law c.args.self.now c.loop-item.self c.step.new.self _ i.from i.above i.accounts st.accounts;
+        accounts = accounts_run law c.args.self.now c.loop-item.self c.step.new.self _ i.from i.above
+            i.accounts st.accounts;
         at_end = λ e. st.at_end refl;
         closed = λ e. stopped_closed c.step.new.self (st.at_end refl);
         begun = λ e. stopped_begun c.step.new.self (st.at_end refl);
@@ -102,8 +109,10 @@ loop-item-preserved g c =
       stays = λ e. (st.stays (i.stays e)).1;
       idles = λ e. st.idles (i.stays e) ∙ i.idles e;
       names = omega (arith, st.names, i.names);
-      course = course_on law c.args.self.now c.loop-item.self c.step.new.self i.course c.in-GoesOn.ensures.course;
-      accounts = accounts_on law c.args.self.now c.loop-item.self c.step.new.self i.from i.above i.accounts st.accounts;
+      course =
+          course_on law c.args.self.now c.loop-item.self c.step.new.self i.course c.in-GoesOn.ensures.course;
+      accounts = accounts_on law c.args.self.now c.loop-item.self c.step.new.self i.from i.above
+          i.accounts st.accounts;
       above = st.above ∙ i.above;
       from = st.from ∙ i.from;
       reaches = run_reaches c.args.self.now c.loop-item.self c.step.new.self i.reaches

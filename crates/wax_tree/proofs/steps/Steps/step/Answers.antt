@@ -142,7 +142,8 @@ returns-in-Some-take-clause-is_step g c =
     let enters : entering w ≡ 1 = ap (λ b. cond b 0 (entering_after w.first w.entered)) going ∙ (ap
     (λ f. entering_after f w.entered) first ∙ ap (λ f. if_some f 1) some) in
     let names : names_left mid ≡ names_left w = ap names_of_first (none ∙ sym first) in
-    step_is law w mid c.enter.new.self (record (steps_view law mid) { to_open = 1 }) c.enter.result run refl refl
+    step_is law w mid c.enter.new.self (record (steps_view law mid) { to_open = 1 })
+    c.enter.result run refl refl
     refl refl refl begun enters refl refl (omega (arith, names))
     (c.enter.ensures.answers going none c.take-2.ensures.after) c.enter.ensures.remembers
 
@@ -169,9 +170,11 @@ returns-in-Some-pop-clause-is_step g c =
     let after : open_lists mid ≡ length c.pop.new.self.items =
     ap (λ b. cond b 0 (length c.pop.new.self.items)) going in
     step_is law w mid c.list_next.new.self
-    (record (steps_view law mid) { listings_open = open_lists mid + 1; to_open = 0 }) c.list_next.result run refl
+    (record (steps_view law mid) { listings_open = open_lists mid + 1; to_open = 0 })
+    c.list_next.result run refl
     refl refl refl refl begun enters refl (omega (arith, before, after, long))
-    (omega (arith, names)) (c.list_next.ensures.answers going none c.take-2.ensures.after) c.list_next.ensures.remembers
+    (omega (arith, names)) (c.list_next.ensures.answers going none c.take-2.ensures.after)
+    c.list_next.ensures.remembers
 
 pub returns-then-self-clause-course : goal.returns-then-self-clause-course
 returns-then-self-clause-course g c =

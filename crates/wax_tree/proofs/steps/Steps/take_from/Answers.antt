@@ -92,8 +92,10 @@ returns-clause-places g c none =
     let of = ReachesFrom w (IsOf folder) in
     let mid = record w { levels = c.push.new.self; budget = w.budget - 1 } in
     let one = OneFolder folder.path.path folder.depth in
-    let pushed = pushed_reaches w mid (record { folder = folder; cursor = c.args.cursor }) one refl refl c.in-Ok-push.ensures.items (λ p n i. i) in
-    places_more (ReachesFrom mid one) of (ReachesFrom mid one) of w.max c.give_found.result c.give_found.new.self pushed
+    let pushed = pushed_reaches w mid (record { folder = folder; cursor = c.args.cursor }) one refl refl
+    c.in-Ok-push.ensures.items (λ p n i. i) in
+    places_more (ReachesFrom mid one) of (ReachesFrom mid one) of w.max c.give_found.result
+    c.give_found.new.self pushed
     pushed (c.give_found.ensures.places none (located folder) c.args.item
     c.in-Ok.ensures refl)
 
@@ -105,7 +107,8 @@ returns-then-self-eq0-clause-uses_answer g c running first =
     let begun : begins w ≡ 0 = none_begins w first in
     stopped_uses_answer _ w c.stop.new.self c.stop.result
     (fault Budget c.args.folder.path.path c.saturating_sub-depth.result) c.stop.ensures.gives
-    c.stop.ensures.ended (item_lost c.args.item) tt (omega (arith, begun)) (omega (arith, none, allowed), refl)
+    c.stop.ensures.ended (item_lost c.args.item) tt (omega (arith, begun))
+    (omega (arith, none, allowed), refl)
     (λ i. absurd i) (omega arith)
 
 pub returns-in_default-clause-uses_answer : goal.returns-in_default-clause-uses_answer
@@ -158,7 +161,8 @@ returns-clause-course g c going first entered =
     let path = c.args.folder.path.path in
     uses_more (call path (listed (listed_of c.args.item)) ∷ []) _ _ c.give_found.result c.give_found.new.self
     (λ d h.
-    let p = levels_last (scope_of w) w.levels.items (record { folder = c.args.folder; cursor = c.args.cursor }) h.0
+    let p = levels_last (scope_of w) w.levels.items
+    (record { folder = c.args.folder; cursor = c.args.cursor }) h.0
     (subst (λ ls. LevelsCome (scope_of w) ls h.0) c.in-Ok-push.ensures.items h.1) in
     (p.0, p.1, (h.0, p.2, h.2)))
     (c.give_found.ensures.course going first entered (located c.args.folder) c.args.item

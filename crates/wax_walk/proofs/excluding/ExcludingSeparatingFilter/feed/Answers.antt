@@ -13,7 +13,8 @@ returns-in_err-separation-clause-steps g c =
     rw c.from_residual.ensures (
       ruled_ends g.I.Directory.Directory.law (g.P.Exclude.rule c.args.self.now.rule)
           (view c.args.self.now.input) (view c.feed.new.self) c.args.self.now.has_ended c.if-self.false fed,
-      g.met.I.FileIterator.keeping c.args.self.now.input c.feed.new.self None c.in_err-separation.ensures.steps,
+      g.met.I.FileIterator.keeping c.args.self.now.input c.feed.new.self None
+          c.in_err-separation.ensures.steps,
     )
 
 pub returns-clause-steps : goal.returns-clause-steps

@@ -13,7 +13,8 @@ returns-in_err-separation-clause-steps g c =
     c.in_err-separation.ensures.steps in
     rw c.from_residual.ensures (
       closure_ends g.I.Directory.Directory.law _ (view c.args.self.now.input) (view c.feed.new.self) f fed,
-      g.met.I.FileIterator.keeping c.args.self.now.input c.feed.new.self None c.in_err-separation.ensures.steps,
+      g.met.I.FileIterator.keeping c.args.self.now.input c.feed.new.self None
+          c.in_err-separation.ensures.steps,
     )
 
 pub returns-clause-steps : goal.returns-clause-steps

@@ -1,7 +1,8 @@
 use Rattle.std.proofs.Common.{sym, ◌∙◌}
 use Rattle.std.specs.Prelude.{Some, None}
 use Rattle.wax_walk.specs.Entries.{given_of}
-use Rattle.wax_walk.proofs.PrunedSteps.{selected_cuts, selected_ends, selected_lacks, selected_passes, selected_stays}
+use Rattle.wax_walk.proofs.PrunedSteps.{selected_cuts, selected_ends, selected_lacks, selected_passes}
+use Rattle.wax_walk.proofs.PrunedSteps.{selected_stays}
 use Rattle.wax_walk.proofs.Knowing.{keeps_passed, keeps_cut}
 use Rattle.wax_walk.proofs.selecting.SelectingSeparatingFilter.feed.Goals as goal
 use Rattle.wax_walk.proofs.selecting.SelectingSeparatingFilter.feed.Goals.{then-selected, else-selected}
@@ -13,7 +14,8 @@ returns-in_err-separation-clause-steps g c =
     let fed = g.met.I.FileIterator.feeding s.input c.feed.new.self None
     c.in_err-separation.ensures.steps in
     rw c.from_residual.ensures (
-      selected_ends g.I.Directory.Directory.law (g.S.Select.keeps s.selection) (g.S.Select.goes_on s.selection)
+      selected_ends g.I.Directory.Directory.law (g.S.Select.keeps s.selection)
+          (g.S.Select.goes_on s.selection)
           (view s.input) (view c.feed.new.self) s.has_ended c.if-self.false fed,
       g.met.I.FileIterator.keeping s.input c.feed.new.self None c.in_err-separation.ensures.steps,
     )

@@ -41,7 +41,8 @@ item_shared c =
           rw n (shared_name f.path f.root f.candidate name c.in-Within.start shared text
           (rw c.candidate.ensures at w.if-is_empty.ensures))
       | else-is_empty w ↦
-          rw w.candidate_start-is (shared_candidate f.path f.root f.candidate name c.in-Within.start shared text
+          rw w.candidate_start-is (shared_candidate f.path f.root f.candidate name
+          c.in-Within.start shared text
           (rw c.candidate.ensures at w.if-is_empty.ensures))
     ])
 
@@ -55,7 +56,8 @@ returns-after-is_empty c =
     let s = item_shared c in
     let begins = rw (folder_shared c).0 at s.begins in
     λ i. record {
-      path = (c.in_ok-path-in-Within.ensures ∙ ap (λ p. join p (string_bytes c.args.name)) c.as_str.ensures) i;
+      path =
+          (c.in_ok-path-in-Within.ensures ∙ ap (λ p. join p (string_bytes c.args.name)) c.as_str.ensures) i;
       root = begins i;
       candidate = s.ends i;
     }

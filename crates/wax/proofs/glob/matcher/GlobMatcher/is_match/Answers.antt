@@ -8,24 +8,32 @@ use Rattle.wax.proofs.glob.matcher.GlobMatcher.is_match.Goals as goal
 
 pub returns-then-self-clause-means : goal.returns-then-self-clause-means
 returns-then-self-clause-means c = (
-  λ _. subst (λ g. IsMeant g c.args.path.now) c.self.view_is (c.self.invariant.1 (search rules) c.args.path.now),
+  λ _. subst (λ g. IsMeant g c.args.path.now) c.self.view_is
+      (c.self.invariant.1 (search rules) c.args.path.now),
   λ _. refl,
 )
 
 pub returns-then-self-clause-decides : goal.returns-then-self-clause-decides
 returns-then-self-clause-decides c =
-    same_truth true _ (returns-then-self-clause-means c) (means_tested c.args.self.now.tree false false c.args.path.now)
+    same_truth true _ (returns-then-self-clause-means c)
+    (means_tested c.args.self.now.tree false false c.args.path.now)
 
 pub invariant_of-self : goal.invariant_of-self
-invariant_of-self c = (subst (λ code. AcceptsMeant code c.self.inside.glob.now) (sym c.is_match.ensures.same) c.self.invariant.0, c.self.invariant.1, c.self.invariant.2)
+invariant_of-self c = (
+  subst (λ code. AcceptsMeant code c.self.inside.glob.now) (sym c.is_match.ensures.same) c.self.invariant.0,
+  c.self.invariant.1,
+  c.self.invariant.2,
+)
 
 pub returns-clause-means : goal.returns-clause-means
 returns-clause-means c =
     let text = chars c.as_str-text.result.now in
     let here = same_answer c.is_match.result _ _ (c.self.invariant.0 text) c.is_match.ensures.decides in
     let there = subst (λ g. IfOk c.is_match.result (λ b. IsTrue b ↔ IsMeant g text)) c.self.view_is here in
-    subst (λ z. IfOk c.is_match.result (λ b. IsTrue b ↔ IsMeant c.args.self.now z)) c.as_str-text.ensures there
+    subst (λ z. IfOk c.is_match.result (λ b. IsTrue b ↔ IsMeant c.args.self.now z))
+    c.as_str-text.ensures there
 
 pub returns-clause-decides : goal.returns-clause-decides
 returns-clause-decides c =
-    decided_alike c.is_match.result _ (means_tested c.args.self.now.tree false false c.args.path.now) (returns-clause-means c)
+    decided_alike c.is_match.result _ (means_tested c.args.self.now.tree false false c.args.path.now)
+    (returns-clause-means c)

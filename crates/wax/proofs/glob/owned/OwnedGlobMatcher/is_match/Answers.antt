@@ -5,8 +5,10 @@ use Rattle.wax.proofs.glob.owned.OwnedGlobMatcher.is_match.Goals as goal
 
 pub returns-clause-means : goal.returns-clause-means
 returns-clause-means c =
-    subst (λ g. IfOk c.is_match_cached.result (λ b. IsTrue b ↔ IsMeant g c.args.path.now)) c.self.view_is c.is_match_cached.ensures.means
+    subst (λ g. IfOk c.is_match_cached.result (λ b. IsTrue b ↔ IsMeant g c.args.path.now)) c.self.view_is
+    c.is_match_cached.ensures.means
 
 pub returns-clause-decides : goal.returns-clause-decides
 returns-clause-decides c =
-    subst (λ g. IfOk c.is_match_cached.result (λ b. b ≡ means_test g.tree false false c.args.path.now)) c.self.view_is c.is_match_cached.ensures.decides
+    subst (λ g. IfOk c.is_match_cached.result (λ b. b ≡ means_test g.tree false false c.args.path.now))
+    c.self.view_is c.is_match_cached.ensures.decides

@@ -7,5 +7,14 @@ returns-clause-steps g c = (
   Some c.in_ok-separation.separation,
   c.feed.new.self,
   c.in_ok-separation.ensures.steps,
-  (c.separated_by.result, (c.said_of-said.result, c.said_of-said.ensures.says, c.separated_by.ensures.separates, rw c.new-cancellation.ensures.now at c.separated_by.ensures.cancels), refl),
+  (
+    c.separated_by.result,
+    (
+      c.said_of-said.result,
+      c.said_of-said.ensures.says,
+      c.separated_by.ensures.separates,
+      rw c.new-cancellation.ensures.now at c.separated_by.ensures.cancels,
+    ),
+    refl,
+  ),
 )

@@ -7,7 +7,9 @@ pub returns-in_ok-push_line-clause-ok : goal.returns-in_ok-push_line-clause-ok
 returns-in_ok-push_line-clause-ok g c =
     let path = c.from.ensures in (
       encode_utf8_all (chars c.args.line.now) ++ 10 ∷ [],
-      meant (subst (λ s. IsTrue (g.M.PathMatcher.decides c.args.self.now.matcher s)) path (search rules)) refl,
+      meant (subst (λ s. IsTrue (g.M.PathMatcher.decides c.args.self.now.matcher s)) path (search rules))
+          refl,
       c.in_ok-push_line.ensures.ok
-          ∙ ap (λ z. c.args.out.now.items ++ (z ++ 10 ∷ [])) (sym (encodes-chars c.args.line.now c.utf8.line)),
+          ∙ ap (λ z. c.args.out.now.items ++ (z ++ 10 ∷ []))
+          (sym (encodes-chars c.args.line.now c.utf8.line)),
     )

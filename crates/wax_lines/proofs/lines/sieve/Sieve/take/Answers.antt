@@ -23,7 +23,9 @@ returns-clause-err g c =
       (end ++ 10 ∷ []) ++ part,
       rest,
       cut ∙ ap (λ z. end ++ 10 ∷ z) parts ∙ simp append_assoc,
-      TakesIn-then (g.L.LineWriter.writes (g.L.LineWriter.view c.args.line_writer.now)) c.args.self.now c.take_line.new.self c.take_after.new.self
+      TakesIn-then (g.L.LineWriter.writes (g.L.LineWriter.view c.args.line_writer.now)) c.args.self.now
+          c.take_line.new.self c.take_after.new.self
           (end ++ 10 ∷ []) part c.in_ok-take_line.ensures.ok
-          (subst (λ v. TakesIn (g.L.LineWriter.writes v) part c.take_line.new.self c.take_after.new.self) c.take_line.ensures.same more),
+          (subst (λ v. TakesIn (g.L.LineWriter.writes v) part c.take_line.new.self c.take_after.new.self)
+          c.take_line.ensures.same more),
     )) c.take_after.ensures.err

@@ -24,7 +24,9 @@ returns-in_err-extend_from_slice-clause-err g c =
       c.in-Some.text.now ++ 10 ∷ [],
       c.in-Some.open.now,
       cut ∙ sym (append_assoc c.in-Some.text.now (10 ∷ []) c.in-Some.open.now),
-      TakesIn-still (g.L.LineWriter.writes (g.L.LineWriter.view c.args.line_writer.now)) c.args.self.now mid last (c.in-Some.text.now ++ 10 ∷ [])
+      TakesIn-still (g.L.LineWriter.writes (g.L.LineWriter.view c.args.line_writer.now)) c.args.self.now mid
+          last (c.in-Some.text.now ++ 10 ∷ [])
           c.in_ok-take_text.ensures.ok
-          (TakesIn-none (g.L.LineWriter.writes (g.L.LineWriter.view c.args.line_writer.now)) mid last c.in_err-extend_from_slice.ensures.items refl refl),
+          (TakesIn-none (g.L.LineWriter.writes (g.L.LineWriter.view c.args.line_writer.now)) mid last
+          c.in_err-extend_from_slice.ensures.items refl refl),
     )

@@ -12,8 +12,10 @@ returns-in_err-take_line-clause-err g c =
       front ++ part,
       rest ++ 10 ∷ c.in-Some.after.now,
       splits ∙ ap (λ z. front ++ z) (cut ∙ ap (λ z. z ++ 10 ∷ c.in-Some.after.now) parts) ∙ simp append_assoc,
-      TakesIn-then (g.L.LineWriter.writes (g.L.LineWriter.view c.args.line_writer.now)) c.args.self.now c.loop-line.self c.take_line.new.self front part taken
-          (subst (λ v. TakesIn (g.L.LineWriter.writes v) part c.loop-line.self c.take_line.new.self) same more),
+      TakesIn-then (g.L.LineWriter.writes (g.L.LineWriter.view c.args.line_writer.now)) c.args.self.now
+          c.loop-line.self c.take_line.new.self front part taken
+          (subst (λ v. TakesIn (g.L.LineWriter.writes v) part c.loop-line.self c.take_line.new.self) same
+          more),
     )
 
 pub loop-line-preserved : goal.loop-line-preserved
@@ -22,8 +24,10 @@ loop-line-preserved g c =
     let (cut, _) = c.in-Some.ensures in (
       front ++ (c.in-Some.line.now ++ 10 ∷ []),
       splits ∙ ap (λ z. front ++ z) cut ∙ simp append_assoc,
-      TakesIn-then (g.L.LineWriter.writes (g.L.LineWriter.view c.args.line_writer.now)) c.args.self.now c.loop-line.self c.take_line.new.self front (c.in-Some.line.now ++ 10 ∷ []) taken
-          (subst (λ v. TakesIn (g.L.LineWriter.writes v) (c.in-Some.line.now ++ 10 ∷ []) c.loop-line.self c.take_line.new.self) same c.in_ok-take_line.ensures.ok),
+      TakesIn-then (g.L.LineWriter.writes (g.L.LineWriter.view c.args.line_writer.now)) c.args.self.now
+          c.loop-line.self c.take_line.new.self front (c.in-Some.line.now ++ 10 ∷ []) taken
+          (subst (λ v. TakesIn (g.L.LineWriter.writes v) (c.in-Some.line.now ++ 10 ∷ []) c.loop-line.self
+          c.take_line.new.self) same c.in_ok-take_line.ensures.ok),
       c.take_line.ensures.same ∙ same,
     )
 

@@ -4,7 +4,8 @@ use Rattle.wax_lines.proofs.lines.sieve.Sieve.take_text.Given as goal
 
 -- a beginning of the text was taken in, and the writer of lines is seen as before
 abbrev pub invariant-loop-line : goal.invariant-loop-line
-invariant-loop-line g l = (front : List ℕ) × (l.text ≡ front ++ l.rest) × IsUtf8 l.rest × (l.self.carry.items ≡ [])
+invariant-loop-line g l = (front : List ℕ) × (l.text ≡ front ++ l.rest) × IsUtf8 l.rest
+    × (l.self.carry.items ≡ [])
     × TakesIn (g.L.LineWriter.writes (g.L.LineWriter.view l.initial.line_writer)) front l.initial.self l.self
     × (g.L.LineWriter.view l.line_writer ≡ g.L.LineWriter.view l.initial.line_writer)
 

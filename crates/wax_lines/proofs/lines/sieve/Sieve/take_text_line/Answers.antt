@@ -8,5 +8,9 @@ returns-clause-ok g c =
     let old = c.args.self.now in
     on_ok_weaker c.write_line.result (λ (out, writes, bytes).
     TakesIn-text (g.L.LineWriter.writes (g.L.LineWriter.view c.args.line_writer.now)) old
-    (record { carry = old.carry; kept = record { bytes = c.write_line.new.out; not_text = old.kept.not_text } })
-    c.args.line.now out c.requires.carry c.requires.line c.utf8.line writes c.requires.carry bytes refl) c.write_line.ensures.ok
+    (record {
+      carry = old.carry;
+      kept = record { bytes = c.write_line.new.out; not_text = old.kept.not_text };
+    })
+    c.args.line.now out c.requires.carry c.requires.line c.utf8.line writes c.requires.carry bytes refl)
+    c.write_line.ensures.ok

@@ -8,4 +8,5 @@ use Rattle.wax_match.proofs.encode.left.Left.after_gap.Goals as goal
 pub returns : goal.returns
 returns c =
     subst (λ g. IsAfter (Wild g) c.args.self.now c.new.result) (c.is_same.ensures c.if-not-is_same.false)
-    (after_wild c.args.self.now c.new.result (nil_from_length _ (search rules)) c.new.ensures.number c.new.ensures.means)
+    (after_wild c.args.self.now c.new.result (nil_from_length _ (search rules))
+    c.new.ensures.number c.new.ensures.means)

@@ -9,5 +9,7 @@ returns c =
     let n = length c.args.text.now in
     let same : c.in_ok-front.front.now ≡ c.args.text.now = search rules in
     let parts : text ≡ c.args.text.now ++ c.in_ok-front.rest.now =
-    sym (take-append-drop n text) ∙ ap (λ z. z ++ drop n text) (sym c.in_ok-front.ensures.front ∙ same) ∙ ap (λ z. c.args.text.now ++ z) (sym c.in_ok-front.ensures.back) in
-    after_letters c.args.self.now c.with_text.result c.args.text c.in_ok-front.rest c.utf8.text parts c.with_text.ensures.number c.with_text.ensures.means
+    sym (take-append-drop n text) ∙ ap (λ z. z ++ drop n text) (sym c.in_ok-front.ensures.front ∙ same)
+    ∙ ap (λ z. c.args.text.now ++ z) (sym c.in_ok-front.ensures.back) in
+    after_letters c.args.self.now c.with_text.result c.args.text c.in_ok-front.rest c.utf8.text parts
+    c.with_text.ensures.number c.with_text.ensures.means

@@ -4,8 +4,10 @@ use Rattle.wax_match.proofs.encode.left.Left.new.Goals as goal
 
 pub returns-in-Some-clause-means : goal.returns-in-Some-clause-means
 returns-in-Some-clause-means c =
-    left_spelt _ c.first-item.result c.args.tokens.now c.args.before (not c.is_empty.result) c.in-Some.ensures refl
-    (ap not c.is_empty.ensures) (head_rest c.args.tokens.now c.first-item.result c.in-len1-up.len_at_least c.first-item.is)
+    left_spelt _ c.first-item.result c.args.tokens.now c.args.before
+    (not c.is_empty.result) c.in-Some.ensures refl
+    (ap not c.is_empty.ensures)
+    (head_rest c.args.tokens.now c.first-item.result c.in-len1-up.len_at_least c.first-item.is)
 
 pub returns-clause-means : goal.returns-clause-means
 returns-clause-means c = left_plain _ refl refl

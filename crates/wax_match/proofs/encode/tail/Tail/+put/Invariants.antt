@@ -40,7 +40,8 @@ decreases-put_loop_of g l = 8 * tree_size l.body.now + 2
 abbrev pub invariant-put_sequence-loop-index : goal.invariant-put_sequence-loop-index
 invariant-put_sequence-loop-index g l = record {
   within : l.index ≤ length l.tokens;
-  written : l.self ≡ sequence_code (trees (drop l.index l.tokens)) (l.sides.before || ltb 0 l.index) l.sides.after ++ l.fn.self;
+  written : l.self ≡ sequence_code (trees (drop l.index l.tokens)) (l.sides.before || ltb 0 l.index)
+      l.sides.after ++ l.fn.self;
 }
 
 abbrev pub decreases-put_sequence-loop-index : goal.decreases-put_sequence-loop-index
@@ -49,14 +50,17 @@ decreases-put_sequence-loop-index g l = l.index
 abbrev pub invariant-put_branches-loop-index : goal.invariant-put_branches-loop-index
 invariant-put_branches-loop-index g l = record {
   within : l.index ≤ length l.tokens;
-  written : l.self ≡ branches_code (trees (drop l.index l.tokens)) l.fn.sides.before l.fn.sides.after ++ l.fn.self;
+  written : l.self
+      ≡ branches_code (trees (drop l.index l.tokens)) l.fn.sides.before l.fn.sides.after ++ l.fn.self;
 }
 
 abbrev pub decreases-put_branches-loop-index : goal.decreases-put_branches-loop-index
 decreases-put_branches-loop-index g l = l.index
 
 abbrev pub invariant-put_copies-loop-copy : goal.invariant-put_copies-loop-copy
-invariant-put_copies-loop-copy g l = l.self ≡ copies_code l._copy (instructions_of l.body l.sides.before l.sides.after) ++ l.fn.self
+invariant-put_copies-loop-copy g l =
+    l.self ≡ copies_code l._copy (instructions_of l.body l.sides.before l.sides.after) ++ l.fn.self
 
 abbrev pub invariant-put_up_to-loop-copy : goal.invariant-put_up_to-loop-copy
-invariant-put_up_to-loop-copy g l = l.self ≡ up_to_code l._copy (instructions_of l.body l.sides.before l.sides.after) ++ l.fn.self
+invariant-put_up_to-loop-copy g l =
+    l.self ≡ up_to_code l._copy (instructions_of l.body l.sides.before l.sides.after) ++ l.fn.self

@@ -10,4 +10,5 @@ returns c =
     let l = c.args.left.now in
     on_ok_weaker c.put_text.result
     (λ w. written_apart l c.args.self.now c.put_sequence.new.self c.put_gap.new.self c.put_text.new.self
-    (c.in_ok-put_sequence.ensures ∙ ap (λ z. sequence_code (trees l.tokens.now) l.before false ++ z) c.in_ok-put.ensures) c.in_ok-put_gap.ensures w) c.put_text.ensures
+    (c.in_ok-put_sequence.ensures ∙ ap (λ z. sequence_code (trees l.tokens.now) l.before false ++ z)
+    c.in_ok-put.ensures) c.in_ok-put_gap.ensures w) c.put_text.ensures

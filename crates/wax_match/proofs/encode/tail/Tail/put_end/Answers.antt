@@ -7,7 +7,8 @@ use Rattle.wax_match.proofs.encode.tail.Tail.put_end.Goals as goal
 
 pub returns-then-at-ends-clause-kept : goal.returns-then-at-ends-clause-kept
 returns-then-at-ends-clause-kept c =
-    on_ok_weaker c.put_new_end.result (λ w. written_stay c.args.self.now c.put_new_end.new.self c.args.ends.now w c.requires) c.put_new_end.ensures
+    on_ok_weaker c.put_new_end.result (λ w. written_stay c.args.self.now c.put_new_end.new.self
+    c.args.ends.now w c.requires) c.put_new_end.ensures
 
 pub returns-then-is_end_of-clause-written : goal.returns-then-is_end_of-clause-written
 returns-then-is_end_of-clause-written c =
@@ -15,13 +16,17 @@ returns-then-is_end_of-clause-written c =
     let lt : c.room_of-at.result < length c.args.ends.now = omega (arith, c.if-at-ends.false) in
     let none : WrittenEnd = record { number = 0; gap = Nothing; len = 0 } in
     on_ok_weaker c.put.result
-    (λ w. written_jump _ _ c.args.self.now c.put.new.self found.0 (ap (λ n. n - (get_or c.args.ends.now c.room_of-at.result none).len) c.len.ensures) w
-    (known_end c.args.self.now c.args.ends.now c.room_of-at.result none c.args.number c.args.gap c.requires lt found)) c.put.ensures
+    (λ w. written_jump _ _ c.args.self.now c.put.new.self found.0
+    (ap (λ n. n - (get_or c.args.ends.now c.room_of-at.result none).len) c.len.ensures) w
+    (known_end c.args.self.now c.args.ends.now c.room_of-at.result none c.args.number c.args.gap c.requires lt
+    found)) c.put.ensures
 
 pub returns-then-is_end_of-clause-kept : goal.returns-then-is_end_of-clause-kept
 returns-then-is_end_of-clause-kept c =
-    on_ok_weaker c.put.result (λ w. ends_stay c.args.self.now c.put.new.self (_ ∷ []) w c.args.ends.now c.requires) c.put.ensures
+    on_ok_weaker c.put.result
+    (λ w. ends_stay c.args.self.now c.put.new.self (_ ∷ []) w c.args.ends.now c.requires) c.put.ensures
 
 pub returns-clause-kept : goal.returns-clause-kept
 returns-clause-kept c =
-    end_kept c.args.self.now c.put_new_end-2.new.self c.args.ends.now c.room_of-at.result _ c.len-2.ensures c.in_ok-put_new_end.ensures c.requires
+    end_kept c.args.self.now c.put_new_end-2.new.self c.args.ends.now c.room_of-at.result _ c.len-2.ensures
+    c.in_ok-put_new_end.ensures c.requires

@@ -7,4 +7,5 @@ use Rattle.wax_match.proofs.encode.tail.Tail.put_new_end.Goals as goal
 pub returns : goal.returns
 returns c =
     on_ok_weaker c.put_gap.result
-    (λ w. written_end c.args.number c.args.gap c.args.self.now c.put_gap.new.self (w ∙ ap (λ z. gap_code c.args.gap ++ z) c.in_ok-put.ensures)) c.put_gap.ensures
+    (λ w. written_end c.args.number c.args.gap c.args.self.now c.put_gap.new.self
+    (w ∙ ap (λ z. gap_code c.args.gap ++ z) c.in_ok-put.ensures)) c.put_gap.ensures

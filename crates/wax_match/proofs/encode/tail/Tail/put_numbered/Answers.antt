@@ -7,16 +7,20 @@ use Rattle.wax_match.proofs.encode.tail.Tail.put_numbered.Goals as goal
 
 pub returns-then-is_empty : goal.returns-then-is_empty
 returns-then-is_empty c =
-    on_ok_weaker c.put.result (λ w. none_written c.args.patterns.now c.args.self.now c.put.new.self (nil_from_length _ (search rules)) w) c.put.ensures
+    on_ok_weaker c.put.result (λ w. none_written c.args.patterns.now c.args.self.now c.put.new.self
+    (nil_from_length _ (search rules)) w) c.put.ensures
 
 pub put_lefts-requires-clause-some : goal.put_lefts-requires-clause-some
 put_lefts-requires-clause-some c =
     let some : 0 < length c.args.patterns.now = search rules in
-    let same = length_permutation c.in_ok-all_of.field-0.items c.sorted-lefts.result.items c.sorted-lefts.ensures in
+    let same =
+    length_permutation c.in_ok-all_of.field-0.items c.sorted-lefts.result.items c.sorted-lefts.ensures in
     omega (arith, some, c.in_ok-all_of.ensures.len, same, ap length c.deref.ensures.value)
 
 pub returns : goal.returns
 returns c =
     on_ok_weaker c.put_lefts.result
-    (λ w. numbered_written c.args.patterns.now c.in_ok-all_of.field-0.items c.sorted-lefts.result.items c.args.self.now c.put_lefts.new.self
-    c.in_ok-all_of.ensures.means c.sorted-lefts.ensures (rw c.deref.ensures.value at w)) c.put_lefts.ensures.written
+    (λ w. numbered_written c.args.patterns.now c.in_ok-all_of.field-0.items c.sorted-lefts.result.items
+    c.args.self.now c.put_lefts.new.self
+    c.in_ok-all_of.ensures.means c.sorted-lefts.ensures (rw c.deref.ensures.value at w))
+    c.put_lefts.ensures.written

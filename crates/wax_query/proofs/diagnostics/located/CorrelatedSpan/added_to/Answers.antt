@@ -4,11 +4,13 @@ use Rattle.wax_query.specs.Labels.{seen}
 use Rattle.wax_query.specs.Spans.{Span}
 use Rattle.wax_query.proofs.diagnostics.located.CorrelatedSpan.added_to.Goals as goal
 
-one_more : (ls : List (Bor (List ℕ) × Span)) (l : Bor (List ℕ) × Span) → map seen (ls ++ l ∷ []) ≡ map seen ls ++ seen l ∷ []
+one_more : (ls : List (Bor (List ℕ) × Span)) (l : Bor (List ℕ) × Span)
+    → map seen (ls ++ l ∷ []) ≡ map seen ls ++ seen l ∷ []
 one_more [] l = refl
 one_more (m ∷ ls) l = ap (λ ms. seen m ∷ ms) (one_more ls l)
 
-two_more : (ls : List (Bor (List ℕ) × Span)) (l m : Bor (List ℕ) × Span) → map seen ((ls ++ l ∷ []) ++ m ∷ []) ≡ map seen ls ++ seen l ∷ seen m ∷ []
+two_more : (ls : List (Bor (List ℕ) × Span)) (l m : Bor (List ℕ) × Span)
+    → map seen ((ls ++ l ∷ []) ++ m ∷ []) ≡ map seen ls ++ seen l ∷ seen m ∷ []
 two_more [] l m = refl
 two_more (n ∷ ls) l m = ap (λ ms. seen n ∷ ms) (two_more ls l m)
 
@@ -18,4 +20,5 @@ returns-in_ok-push-in-Contiguous c =
 
 pub returns-in_ok-push-in-Split-2 : goal.returns-in_ok-push-in-Split-2
 returns-in_ok-push-in-Split-2 c =
-    rw (c.in_ok-push-in-Split-2.ensures.items, c.in_ok-push-in-Split.ensures.items, c.in-Split.is) (two_more c.args.labels.items _ _)
+    rw (c.in_ok-push-in-Split-2.ensures.items, c.in_ok-push-in-Split.ensures.items, c.in-Split.is)
+    (two_more c.args.labels.items _ _)

@@ -1,6 +1,7 @@
 use Rattle.std.proofs.Common.{rules, ◌≡◌, ◌*◌, ◌≤◌, ℕ, Option, Some, None, arith, subst, sym}
 use Rattle.std.proofs.lemmas.Nat.{mul-le}
-use Rattle.wax_query.specs.Ranges.{Bounds, AtMost, HoldsNumber, HoldsProducts, NaturalRange, bounds, of_both, ordered}
+use Rattle.wax_query.specs.Ranges.{Bounds, AtMost, HoldsNumber, HoldsProducts, NaturalRange, bounds, of_both}
+use Rattle.wax_query.specs.Ranges.{ordered}
 use Rattle.wax_query.proofs.query.range.NaturalRange.product.Goals as goal
 
 abbrev products : Bounds → Bounds → Bounds

@@ -7,7 +7,11 @@ use Rattle.wax_set.proofs.Matchers.{decided_alike}
 use Rattle.wax_set.proofs.set.matcher.AnyMatcher.is_match.Goals as goal
 
 pub invariant_of-self : goal.invariant_of-self
-invariant_of-self c = (subst (λ code. AcceptsText code c.self.inside.any.now) (sym c.is_match.ensures.same) c.self.invariant.0, c.self.invariant.1, c.self.invariant.2)
+invariant_of-self c = (
+  subst (λ code. AcceptsText code c.self.inside.any.now) (sym c.is_match.ensures.same) c.self.invariant.0,
+  c.self.invariant.1,
+  c.self.invariant.2,
+)
 
 pub returns-clause-means : goal.returns-clause-means
 returns-clause-means c =
@@ -18,8 +22,10 @@ returns-clause-means c =
 
 pub returns-clause-decides : goal.returns-clause-decides
 returns-clause-decides c =
-    decided_alike c.is_match.result _ (means_tested c.args.self.now false false c.args.path.now) (returns-clause-means c)
+    decided_alike c.is_match.result _ (means_tested c.args.self.now false false c.args.path.now)
+    (returns-clause-means c)
 
 pub returns-then-self-clause-decides : goal.returns-then-self-clause-decides
 returns-then-self-clause-decides c =
-    decided_alike c.is_match_by_numbers.result _ (means_tested c.args.self.now false false c.args.path.now) c.is_match_by_numbers.ensures.means
+    decided_alike c.is_match_by_numbers.result _ (means_tested c.args.self.now false false c.args.path.now)
+    c.is_match_by_numbers.ensures.means

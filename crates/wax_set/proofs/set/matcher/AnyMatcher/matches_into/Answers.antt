@@ -9,14 +9,21 @@ pub returns-then-not-may_match_at_once-clause-matches : goal.returns-then-not-ma
 returns-then-not-may_match_at_once-clause-matches c =
     let rejected : c.may_match_at_once.result ≡ false = search rules in
     no_matches c.args.self.now c.args.path.now c.clear.new.self.items c.clear.ensures.items
-    (λ m. true≢false (sym (c.may_match_at_once.ensures (subst (λ t. MeansText t c.args.path.now) (sym c.self.view_is) m)) ∙ rejected))
+    (λ m. true≢false (sym (c.may_match_at_once.ensures
+    (subst (λ t. MeansText t c.args.path.now) (sym c.self.view_is) m)) ∙ rejected))
 
 pub invariant_of-self : goal.invariant_of-self
-invariant_of-self c = (c.self.invariant.0, subst (IsNumbered c.self.inside.any.now) (sym c.list_numbers.ensures.same) c.self.invariant.1, c.self.invariant.2)
+invariant_of-self c = (
+  c.self.invariant.0,
+  subst (IsNumbered c.self.inside.any.now) (sym c.list_numbers.ensures.same) c.self.invariant.1,
+  c.self.invariant.2,
+)
 
 pub returns-clause-matches : goal.returns-clause-matches
 returns-clause-matches c =
     let numbers = subst (λ t. IsNumbered t c.self.inside.numbered) c.self.view_is c.self.invariant.1 in
     IfOk-weaker c.list_numbers.result _ _
-    (λ w are. are_matches c.args.self.now c.self.inside.numbered c.args.path.now c.list_numbers.new.numbers.items numbers
-    (subst (λ s. AreNumbers c.self.inside.numbered s c.list_numbers.new.numbers.items) c.as_str.ensures are)) c.list_numbers.ensures.numbers
+    (λ w are. are_matches c.args.self.now c.self.inside.numbered c.args.path.now
+    c.list_numbers.new.numbers.items numbers
+    (subst (λ s. AreNumbers c.self.inside.numbered s c.list_numbers.new.numbers.items) c.as_str.ensures are))
+    c.list_numbers.ensures.numbers

@@ -6,16 +6,20 @@ use Rattle.wax_set.proofs.set.owned.OwnedAnyMatcher.verdict.Goals as goal
 
 pub returns-clause-means : goal.returns-clause-means
 returns-clause-means c =
-    subst (λ v. IfOk c.verdict_cached.result (λ a. IsTrue a.is_match ↔ MeansText v c.args.path.now)) c.self.view_is c.verdict_cached.ensures.means
+    subst (λ v. IfOk c.verdict_cached.result (λ a. IsTrue a.is_match ↔ MeansText v c.args.path.now))
+    c.self.view_is c.verdict_cached.ensures.means
 
 pub returns-clause-below : goal.returns-clause-below
 returns-clause-below c =
-    subst (λ v. IfOk c.verdict_cached.result (λ a. IsTrue a.goes_on ↔ MeansBelow v c.args.path.now)) c.self.view_is c.verdict_cached.ensures.below
+    subst (λ v. IfOk c.verdict_cached.result (λ a. IsTrue a.goes_on ↔ MeansBelow v c.args.path.now))
+    c.self.view_is c.verdict_cached.ensures.below
 
 pub returns-clause-decides : goal.returns-clause-decides
 returns-clause-decides c =
-    subst (λ v. IfOk c.verdict_cached.result (λ a. a.is_match ≡ means_test v false false c.args.path.now)) c.self.view_is c.verdict_cached.ensures.decides
+    subst (λ v. IfOk c.verdict_cached.result (λ a. a.is_match ≡ means_test v false false c.args.path.now))
+    c.self.view_is c.verdict_cached.ensures.decides
 
 pub returns-clause-onward : goal.returns-clause-onward
 returns-clause-onward c =
-    subst (λ v. IfOk c.verdict_cached.result (λ a. a.goes_on ≡ goes_test v c.args.path.now)) c.self.view_is c.verdict_cached.ensures.onward
+    subst (λ v. IfOk c.verdict_cached.result (λ a. a.goes_on ≡ goes_test v c.args.path.now)) c.self.view_is
+    c.verdict_cached.ensures.onward

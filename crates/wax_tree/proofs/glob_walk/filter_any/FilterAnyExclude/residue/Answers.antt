@@ -17,18 +17,21 @@ loop-at-preserved g c =
     let rule = c.index_mut.result.now in
     let within : at < length rules = omega (arith, c.loop-at-test.true, c.loop-at.invariant.many) in
     record {
-      says = rw (drop-set-lt (at + 1) rules at c.residue.new.self (omega arith)) (elim c.match-branch-2.branch [
-        | in-None w ↦ rw w.is_excluded-is
-            (said_nothing g.R.Exclude.rule candidate rules at rule _ within c.index_mut.ensures.value
-            c.loop-at.is_excluded c.loop-at.invariant.says
-            (ap mark_of (sym w.in-None.is) ∙ c.in_ok-residue.ensures.says))
-        | in-Some-File w ↦ rw w.is_excluded-is
-            (said_alone g.R.Exclude.rule candidate rules at rule _ within c.index_mut.ensures.value
-            c.loop-at.is_excluded c.loop-at.invariant.says
-            (ap mark_of (sym (w.in-Some-File.is ∙ ap Some w.in-Some-File.field-0-is)) ∙ c.in_ok-residue.ensures.says))
-      ]);
+      says =
+          rw (drop-set-lt (at + 1) rules at c.residue.new.self (omega arith)) (elim c.match-branch-2.branch [
+            | in-None w ↦ rw w.is_excluded-is
+                (said_nothing g.R.Exclude.rule candidate rules at rule _ within c.index_mut.ensures.value
+                c.loop-at.is_excluded c.loop-at.invariant.says
+                (ap mark_of (sym w.in-None.is) ∙ c.in_ok-residue.ensures.says))
+            | in-Some-File w ↦ rw w.is_excluded-is
+                (said_alone g.R.Exclude.rule candidate rules at rule _ within c.index_mut.ensures.value
+                c.loop-at.is_excluded c.loop-at.invariant.says
+                (ap mark_of (sym (w.in-Some-File.is ∙ ap Some w.in-Some-File.field-0-is))
+                ∙ c.in_ok-residue.ensures.says))
+          ]);
       many = length-set rules at c.residue.new.self ∙ c.loop-at.invariant.many;
-      same = map-set_same g.R.Exclude.rule rules at c.residue.new.self rule (c.residue.ensures.same ∙ ap g.R.Exclude.rule c.index_mut.ensures.value) ∙ c.loop-at.invariant.same;
+      same = map-set_same g.R.Exclude.rule rules at c.residue.new.self rule
+          (c.residue.ensures.same ∙ ap g.R.Exclude.rule c.index_mut.ensures.value) ∙ c.loop-at.invariant.same;
     }
 
 pub returns-in_err-residue : goal.returns-in_err-residue
@@ -36,7 +39,9 @@ returns-in_err-residue g c =
     let rules = c.loop-at.self.rules.items in
     record {
       says = if_ok_of_err _ _ c.from_residual.result c.from_residual.ensures.1;
-      same = ap any_mark (map-set_same g.R.Exclude.rule rules c.loop-at.at c.residue.new.self c.index_mut.result.now (c.residue.ensures.same ∙ ap g.R.Exclude.rule c.index_mut.ensures.value) ∙ c.loop-at.invariant.same);
+      same = ap any_mark (map-set_same g.R.Exclude.rule rules c.loop-at.at c.residue.new.self
+          c.index_mut.result.now (c.residue.ensures.same ∙ ap g.R.Exclude.rule c.index_mut.ensures.value)
+          ∙ c.loop-at.invariant.same);
     }
 
 pub returns-in-Some-Tree : goal.returns-in-Some-Tree
@@ -44,7 +49,11 @@ returns-in-Some-Tree g c =
     let rules = c.loop-at.self.rules.items in
     record {
       says = said_with_tree g.R.Exclude.rule (in_characters c.args.candidate) rules
-          c.loop-at.at c.index_mut.result.now _ (omega (arith, c.loop-at-test.true, c.loop-at.invariant.many)) c.index_mut.ensures.value
-          c.loop-at.is_excluded c.loop-at.invariant.says (ap mark_of (sym (c.in-Some-Tree.is ∙ ap Some c.in-Some-Tree.field-0-is)) ∙ c.in_ok-residue.ensures.says);
-      same = ap any_mark (map-set_same g.R.Exclude.rule rules c.loop-at.at c.residue.new.self c.index_mut.result.now (c.residue.ensures.same ∙ ap g.R.Exclude.rule c.index_mut.ensures.value) ∙ c.loop-at.invariant.same);
+          c.loop-at.at c.index_mut.result.now _ (omega (arith, c.loop-at-test.true, c.loop-at.invariant.many))
+          c.index_mut.ensures.value
+          c.loop-at.is_excluded c.loop-at.invariant.says (ap mark_of
+          (sym (c.in-Some-Tree.is ∙ ap Some c.in-Some-Tree.field-0-is)) ∙ c.in_ok-residue.ensures.says);
+      same = ap any_mark (map-set_same g.R.Exclude.rule rules c.loop-at.at c.residue.new.self
+          c.index_mut.result.now (c.residue.ensures.same ∙ ap g.R.Exclude.rule c.index_mut.ensures.value)
+          ∙ c.loop-at.invariant.same);
     }

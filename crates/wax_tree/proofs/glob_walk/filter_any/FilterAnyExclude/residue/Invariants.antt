@@ -10,7 +10,8 @@ abbrev pub invariant-loop-at : goal.invariant-loop-at
 invariant-loop-at g l =
     let candidate = in_characters l.candidate in
     record {
-      says : combined_mark (so_far l.is_excluded) (any_mark (map g.R.Exclude.rule (drop l.at l.self.rules.items)) candidate)
+      says : combined_mark (so_far l.is_excluded)
+          (any_mark (map g.R.Exclude.rule (drop l.at l.self.rules.items)) candidate)
           ≡ any_mark (map g.R.Exclude.rule l.fn.self.rules.items) candidate;
       many : length l.self.rules.items ≡ length l.fn.self.rules.items;
       same : map g.R.Exclude.rule l.self.rules.items ≡ map g.R.Exclude.rule l.fn.self.rules.items;
