@@ -1,5 +1,5 @@
 //! Deciding many texts by one program.
-ghost use Rattle.std.specs.Prelude.{◌≡◌, ◌≤◌, ◌↔◌, IfOk, IsFalse, IsTrue, chars, is_some, length};
+ghost use Rattle.std.specs.Prelude.{◌≡◌, ◌≤◌, ◌↔◌, IfOk, IsFalse, IsTrue, List, chars, is_some, length};
 ghost use Rattle.wax_lazy.specs.Dfa.{IsDfaOf};
 ghost use Rattle.wax_lazy.specs.Numbers.{AreNumbers};
 ghost use Rattle.wax_lazy.specs.Verdict.{IsVerdict};
@@ -8,6 +8,7 @@ ghost use Rattle.wax_program.specs.Closed.{IsClosed};
 ghost use Rattle.wax_program.specs.Last.{ReadsLast};
 ghost use Rattle.wax_program.specs.Machine.{Accepts};
 ghost use Rattle.wax_program.specs.Onward.{AreFlagsOf};
+ghost use Rattle.wax_program.specs.declared.instruction.Instruction.{Instruction};
 
 use crate::cache::Cache;
 use crate::ends::{accepts, find_numbers, verdict_at};
@@ -70,6 +71,15 @@ impl LazyDfa {
             onward: None,
             meter,
         }
+    }
+
+    /// Returns true only if the program depends only on the last component of a text.
+    #[inline]
+    pub fn reads_last(&self) -> bool
+        ensures last { (code : List Instruction) → IsDfaOf code self.now → IsTrue result → ReadsLast code }
+        ensures long { (code : List Instruction) → IsDfaOf code self.now → IsTrue result → 2 ≤ length code }
+    {
+        self.reads_last
     }
 
     /// Creates the cache, unless there is one.

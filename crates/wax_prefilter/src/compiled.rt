@@ -29,9 +29,7 @@ use wax_token::token::{ExpressionMetadata, Sides, Token};
 pub struct CompiledTokens {
     program: CompiledProgram,
     prefilter: Prefilter,
-    /// True if the program is known to depend only on the last component of a text.
-    reads_last: bool,
-    /// What earlier texts led to, from the first one on.
+    /// What is known of the program, and what earlier texts led to.
     dfa: LazyDfa,
 }
 
@@ -41,7 +39,6 @@ impl Drop for CompiledTokens {
         let CompiledTokens {
             program: _,
             prefilter: _,
-            reads_last: _,
             dfa: _,
         } = self;
     }
@@ -52,7 +49,7 @@ impl Model for CompiledTokens {
     ghost use Rattle.wax_program.specs.contracts.instruction.Instruction as instruction;
     ghost use Rattle.wax_lazy.specs.Dfa.{IsDfaOf};
     ghost use Rattle.wax_prefilter.specs.Compiled.{Instructions};
-    ghost use Rattle.wax_prefilter.specs.inner.Passing.{AllPass, KnowsLast};
+    ghost use Rattle.wax_prefilter.specs.inner.Passing.{AllPass};
 
     ghost Value = { Instructions };
 
@@ -60,8 +57,7 @@ impl Model for CompiledTokens {
 
     ghost view = { λ c. c.program };
 
-    ghost invariant = { λ c. AllPass c.program.0 c.prefilter × KnowsLast c.reads_last c.program.0
-        × IsDfaOf c.program.0 c.dfa };
+    ghost invariant = { λ c. AllPass c.program.0 c.prefilter × IsDfaOf c.program.0 c.dfa };
 }
 
 impl CompiledTokens {
@@ -84,13 +80,10 @@ impl CompiledTokens {
     {
         let program = encode::compile(alloc, tokens, Sides::NONE)?;
         let prefilter = Prefilter::new(alloc, tokens)?;
-        let mut meter = Meter::new();
-        let reads_last = encode::reads_last(&program, &mut meter);
         let dfa = LazyDfa::of(&program);
         Ok(CompiledTokens {
             program,
             prefilter,
-            reads_last,
             dfa,
         })
     }
@@ -118,7 +111,7 @@ impl CompiledTokens {
     pub fn may_match(&self, text: &str) -> bool
         ensures { Accepts self.now.0 0 (chars text.now) → IsTrue result }
     {
-        if !self.reads_last {
+        if !self.dfa.reads_last() {
             return self.prefilter.may_match(text);
         }
         self.prefilter.may_match_at_once(text) && self.prefilter.may_match(encode::last_name(text))
@@ -141,7 +134,7 @@ impl CompiledTokens {
         if !self.may_match(text) {
             return Ok(false);
         }
-        if self.reads_last {
+        if self.dfa.reads_last() {
             return encode::run_last(alloc, &self.program, text, meter);
         }
         encode::run(alloc, &self.program, text, meter)

@@ -10,8 +10,8 @@ returns-then-may_match_at_once c = λ accepted.
     let same = ap (λ p. p.0) c.self.view_is in
     let here : Accepts code 0 (chars c.args.text.now) =
     subst (λ z. Accepts z 0 (chars c.args.text.now)) (sym same) accepted in
-    let known : IsTrue c.self.inside.reads_last = search rules in
-    let last : ReadsLast code = (c.self.invariant.1 known).0 in
+    let known : IsTrue c.reads_last.result = search rules in
+    let last : ReadsLast code = c.reads_last.ensures.last code c.self.invariant.1 known in
     let name = accepts_name code last (chars c.args.text.now) (chars c.last_name.result.now)
     c.last_name.ensures.name here in
     c.may_match-then-may_match_at_once.ensures (c.self.invariant.0 (chars c.last_name.result.now) name)
