@@ -75,8 +75,8 @@ pub use Rattle.wax_walk.specs.Candidates.{Candidate, candidate_of, candidate_wit
 pub use Rattle.wax_walk.specs.Candidates.{of_candidate}
 pub use Rattle.wax_walk.specs.Collected.{AreOfFolders, Yielded, HasFolder, IsCutShort, NoneLast, Took}
 pub use Rattle.wax_walk.specs.Collected.{count_to_open}
-pub use Rattle.wax_walk.specs.Entries.{answer_of, error_depth, error_kind, error_path, facts_of, given_of}
-pub use Rattle.wax_walk.specs.Entries.{given_outcome, kind_of_fault}
+pub use Rattle.wax_walk.specs.Entries.{answer_of, entry_texts, error_depth, error_kind, error_path, facts_of}
+pub use Rattle.wax_walk.specs.Entries.{given_of, given_outcome, kind_of_fault}
 pub use Rattle.wax_walk.specs.Forest.{Forest, Pending, filtered, filtered_pending, item, lists, nothing}
 pub use Rattle.wax_walk.specs.Forest.{preorder}
 pub use Rattle.wax_walk.specs.Given.{Facts, Given, Mark, alone, changed_by, combined_mark, cut_by, entry}

@@ -51,7 +51,8 @@ of_spec 𝓤 𝓛 𝓜 𝓡 wired =
     let Run : List Val → SProp 𝓤 = λ ws. WpFn 𝓤 𝓛.H 𝓣.C 𝓣.Λ code.function ws Post in
     qed 𝓛 ((‵ ftrue ⊛ ‵ (owns (L ∷ []) z.0.3 z.0.4)) ∷ ‵ ftrue ∷ []) ∵ split ! $ drop ! $ fsplit ! $
     loose_out R Z heap_laws.the_row_laws ghosts ! x z.0.4.0 (λ b o h e ws fits.
-    let d : handle.the_row.Denot = record { at = block_ptr b o; alloc = x.alloc; held = Some x.value.matcher } in
+    let d : handle.the_row.Denot =
+    record { at = block_ptr b o; alloc = x.alloc; held = Some x.value.matcher } in
     let w : Val = both (vptr b o) h in let typed = loose_good R Z heap_laws.the_row_laws ghosts b o h fits in
     suffices ! (Run (w ∷ [])) (subst (λ (us : List Val). ent 𝓤 (Run (w ∷ [])) (Run us))
     (sym (λ i. ws i ++ [])) (id⊢ 𝓤 (Run (w ∷ [])))) $
