@@ -1,15 +1,24 @@
 """Tests of `wax`. Expected results are those of the pages LANGUAGE, ERRORS, GUIDE, IGNORE, QUERIES and WALKS in docs/, of the
-manual page of `globs`, of `re`, or of `pathlib`. The examples in the module are run, too. tests/walking has more tests of walks."""
+manual page of `globs`, of `re`, or of `pathlib`. The examples in the module are run, too. tests/python runs all of this with the
+extension and without it. tests/walking has more tests of walks."""
 
+import contextlib
+import copy
 import ctypes
 import doctest
 import gc
 import importlib
+import inspect
 import os
 import pathlib
+import pickle
 import re
+import resource
+import sys
 import tempfile
+import threading
 import unittest
+import weakref
 from unittest import mock
 
 import wax
@@ -182,6 +191,17 @@ class Sets(unittest.TestCase):
         patterns = wax.GlobSet(f"**/{number}*" for number in range(100))
         self.assertEqual(patterns.matches("a/17b"), [1, 17])
         self.assertEqual(wax.GlobSet(["a"] * 70).matches("a"), list(range(70)))
+
+    def test_filter(self):
+        paths = ["src/a.rs", "README", "docs/a\nb", "é", "src/main.rs"]
+        patterns = wax.GlobSet(["src/**", "docs/**", "?"])
+        self.assertEqual(list(patterns.filter(paths)), ["src/a.rs", "docs/a\nb", "é", "src/main.rs"])
+        kept = patterns.filter(iter(paths))
+        self.assertEqual((next(kept), list(kept)), ("src/a.rs", ["docs/a\nb", "é", "src/main.rs"]))
+        self.assertEqual(list(patterns.filter([])), [])
+        with self.assertRaises(wax.Error) as raised:
+            list(patterns.filter(["a", "\ud800"]))
+        self.assertEqual(raised.exception.number, 20)
 
     def test_none(self):
         patterns = wax.GlobSet([])
@@ -424,6 +444,245 @@ class Walking(unittest.TestCase):
             with self.subTest(pattern):
                 wanted = sorted(str(it) for it in pathlib.Path(self.root).glob(pattern))
                 self.assertEqual(sorted(it.path for it in wax.walk(self.root, pattern)), wanted)
+
+
+def kinds():
+    """Returns each type with a handle, with what builds an object, and with what doesn't."""
+    sets = (wax.GlobSet, ["src/**", "a"], ["a//b"])
+    return [(wax.Glob, "src/**", "a//b"), sets, (wax.IgnoreList, "src/**\n", "a//b\n")]
+
+
+def deciding(it):
+    """Returns the calls of an object that decide something about a path: with the extension, its own ones."""
+    return [it.is_ignored, it.excludes_below] if isinstance(it, wax.IgnoreList) else [it.is_match, it.goes_on]
+
+
+def using(it):
+    """Returns calls for everything that uses the handle of an object."""
+    calls = [*deciding(it), lambda path: list(it.filter([path]))]
+    if isinstance(it, wax.Glob):
+        queries = ["depth", "text", "has_root", "is_exhaustive"]
+        calls += [it.matched, lambda _: it.partition(), *(lambda _, name=name: getattr(it, name) for name in queries)]
+    return calls + ([it.matches] if isinstance(it, wax.GlobSet) else [])
+
+
+def resident():
+    """Returns how many bytes of this process are in memory, or how many were at most if there is no /proc."""
+    gc.collect()
+    try:
+        with open("/proc/self/statm", encoding="ascii") as file:
+            return int(file.read().split()[1]) * resource.getpagesize()
+    except FileNotFoundError:
+        return resource.getrusage(resource.RUSAGE_SELF).ru_maxrss * 1_024
+
+
+class Objects(unittest.TestCase):
+    """Whatever is done to an object, no handle is used that isn't built or is freed, and nothing leaks."""
+
+    def test_not_built(self):
+        for kind, given, wrong in kinds():
+
+            class Failing(kind):
+                def __init__(self, wrong):
+                    with contextlib.suppress(wax.Error):
+                        super().__init__(wrong)
+
+            for it in (kind.__new__(kind), object.__new__(kind), Failing(wrong), Failing("\ud800")):
+                self.assertTrue(repr(it))
+                for call in using(it):
+                    with self.subTest(call), self.assertRaises(ValueError) as raised:
+                        call("src/a")
+                    self.assertIs(type(raised.exception), ValueError)
+            it = kind.__new__(kind)
+            it.__init__(given)
+            self.assertTrue(deciding(it)[0]("src/a"))
+
+    def test_built_once(self):
+        for kind, given, wrong in kinds():
+            it = kind(given)
+            before = dict(vars(it))
+            for other in (given, wrong):
+                with self.subTest(kind), self.assertRaises(ValueError):
+                    it.__init__(other)
+            self.assertEqual([deciding(it)[0](path) for path in ("src/a", "b")], [True, False])
+            self.assertEqual(vars(it), before)
+
+    def test_no_copies(self):
+        for kind, given, _ in kinds():
+            it = kind(given)
+            for copied in (copy.copy, copy.deepcopy, pickle.dumps):
+                with self.subTest(kind), self.assertRaises(TypeError):
+                    copied(it)
+            self.assertTrue(deciding(it)[0]("src/a"))
+
+    def test_bound_methods(self):
+        for kind, given, _ in kinds():
+            it = kind(given)
+            calls, rests = deciding(it), [kind(given) for _ in range(100)]
+            del it, rests
+            gc.collect()
+            self.assertEqual([call("src/a") for call in calls], [True, True])
+        rest = wax.Glob("src/*.rs").partition()[1]
+        gc.collect()
+        self.assertTrue(rest.is_match("a.rs"))
+        paths = wax.Glob("src/**").filter(["src/a"] * 5_000)
+        gc.collect()
+        self.assertEqual(len(list(paths)), 5_000)
+
+    def test_arguments(self):
+        for kind, given, _ in kinds():
+            it = kind(given)
+            for name, call in zip(("path", "folder"), deciding(it)):
+                with self.subTest(call):
+                    self.assertIs(call(**{name: "src/a"}), True)
+                    for wrong in (b"src/a", None, 1, ["src/a"], pathlib.Path("src/a"), it, str):
+                        with self.assertRaises(TypeError):
+                            call(wrong)
+                    for words, named in [("", {}), ("aa", {}), ("a", {name: "a"}), ("", {"text": "a"}), ("", {name: 1})]:
+                        with self.assertRaises(TypeError):
+                            call(*words, **named)
+                    for text in ("\ud800", "src/\udcff", "\udfff" * 1_000):
+                        with self.assertRaises(wax.Error) as raised:
+                            call(text)
+                        self.assertEqual((raised.exception.number, str(raised.exception)), (20, "a text isn't UTF-8"))
+                    for text in ("src/a", "src/é", "src/銀", "src/\U0001f600", "src/a\0b", "src/" + "é" * 1_000):
+                        self.assertIs(call(text), True)
+            with self.subTest(kind), self.assertRaises(TypeError):
+                kind(b"a" if kind is not wax.GlobSet else [b"a"])
+
+    def test_subclasses(self):
+        class Path(str):
+            pass
+
+        class Counting(wax.Glob):
+            def __init__(self, expression, wanted):
+                super().__init__(expression)
+                self.wanted, self.calls = wanted, 0
+
+            def is_match(self, path):
+                self.calls += 1
+                return super().is_match(path) is self.wanted
+
+        inverted = Counting("src/**", False)
+        self.assertEqual([inverted.is_match(Path(it)) for it in ("src/a", "b")], [False, True])
+        self.assertEqual((inverted.calls, list(inverted.filter(["src/a", "b"]))), (2, ["src/a"]))
+        inverted.itself = inverted
+        seen = weakref.ref(inverted)
+        del inverted
+        gc.collect()
+        self.assertIsNone(seen())
+
+    def test_references(self):
+        types = {it for kind, *_ in kinds() for it in kind.__mro__}
+        gc.collect()
+        before = {it: sys.getrefcount(it) for it in types}
+        for _ in range(100):
+            for kind, given, wrong in kinds():
+                kind(given)
+                kind.__new__(kind)
+                with contextlib.suppress(wax.Error):
+                    kind(wrong)
+        gc.collect()
+        for it in types:
+            self.assertLess(abs(sys.getrefcount(it) - before[it]), 50, it)
+
+    def test_leaks(self):
+        """A million calls, 20,000 that raise an error, and 10,000 objects take no more memory."""
+        made = [kind(given) for kind, given, _ in kinds()]
+        calls = [call for it in made for call in deciding(it)]
+
+        def use(rounds, errors, objects):
+            for number in range(rounds):
+                path, other = f"src/{number}", f"é/{number}"
+                for call in calls:
+                    call(path)
+                    call(other)
+            for _ in range(errors):
+                for wrong in ("\ud800", b"a", None):
+                    for call in calls[::2]:
+                        with contextlib.suppress(wax.Error, TypeError):
+                            call(wrong)
+            for _ in range(objects):
+                for kind, given, wrong in kinds():
+                    deciding(kind(given))[0]("src/a")
+                    with contextlib.suppress(wax.Error):
+                        kind(wrong)
+
+        use(2_000, 200, 200)
+        before = resident()
+        use(84_000, 2_250, 1_700)
+        self.assertLess(resident() - before, 2_000_000)
+
+    def test_threads(self):
+        made = [kind(given) for kind, given, _ in kinds()]
+        paths = [f"{'src' if number % 3 else 'é'}/{number}" for number in range(5_000)]
+        answers = []
+
+        def use():
+            answers.append([[call(path) for path in paths] for it in made for call in deciding(it)])
+            answers.append([len(list(it.filter(paths))) for it in made])
+
+        threads = [threading.Thread(target=use) for _ in range(4)]
+        for it in threads:
+            it.start()
+        for it in threads:
+            it.join()
+        first = [number % 3 != 0 for number in range(5_000)]
+        for answer in answers:
+            self.assertIn(answer, ([first] * 6, [sum(first), sum(first), 5_000 - sum(first)]))
+        self.assertEqual(len(answers), 8)
+
+
+@unittest.skipUnless(wax._extension, "the extension isn't here")
+class Extension(unittest.TestCase):
+    """The types of python/_wax.c, by themselves. All other tests are run with it, too."""
+
+    def setUp(self):
+        self.pairs = [(wax._Matcher, ("is_match", "goes_on")), (wax._IgnoreMatcher, ("is_ignored", "excludes_below"))]
+
+    def test_in_use(self):
+        for kind, base in [(wax.Glob, "Matcher"), (wax.GlobSet, "Matcher"), (wax.IgnoreList, "IgnoreMatcher")]:
+            self.assertEqual(kind.__mro__[1:], (getattr(wax._extension, base), object))
+
+    def test_documents(self):
+        for kind, names in self.pairs:
+            base = getattr(wax._extension, kind.__name__[1:])
+            for name in names:
+                with self.subTest(name):
+                    ours, theirs = getattr(kind, name), getattr(base, name)
+                    self.assertEqual(inspect.getdoc(theirs), inspect.getdoc(ours))
+                    self.assertEqual(list(inspect.signature(theirs).parameters), list(inspect.signature(ours).parameters))
+
+    def test_bases(self):
+        for kind, names in self.pairs:
+            base = getattr(wax._extension, kind.__name__[1:])
+            for name in names:
+                call = getattr(base, name)
+                with self.subTest(name):
+                    for it in (None, "a", object(), base, [wax.Glob("a"), wax.IgnoreList("a")][kind is wax._Matcher]):
+                        with self.assertRaises(TypeError):
+                            call(it, "a")
+                    with self.assertRaises(ValueError):
+                        call(base(), "a")
+            with self.assertRaises(ValueError):
+                base()._handle
+            with self.assertRaises(AttributeError):
+                base()._handle = 1
+            for wrong in [(), (1, 2, 3), ("a", 2, 3, 4), (1, 2, 3, None), (1 << 64, 1, 1, 1)]:
+                with self.subTest(wrong), self.assertRaises((TypeError, OverflowError)):
+                    base()._hold(*wrong)
+
+    def test_what_raises_errors(self):
+        class Silent(wax.Glob):
+            _refused = staticmethod(lambda number: number)
+
+        with self.assertRaises(SystemError):
+            Silent("a").is_match("\ud800")
+        glob = wax.Glob("a*")
+        self.assertIsInstance(glob._handle, int)
+        with mock.patch.object(wax.Glob, "_refused", side_effect=KeyError(20)) as refused:
+            self.assertRaises(KeyError, glob.goes_on, "\ud800")
+        refused.assert_called_once_with(20)
 
 
 @unittest.skipUnless("WAX_REFUSING" in os.environ, "tests/python builds the library for it")

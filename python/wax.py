@@ -12,19 +12,22 @@
 `walk` yields the files and folders that a glob matches.
 
 The library is loaded from the path in the environment variable `WAX_LIBRARY`. If that isn't set, it is `libwax.so` in
-the folder of this file or, if there is none, the system's `libwax.so.0`. The script `library` of the repository builds
-it. `crates/wax_c/README.md` says what is proved.
+the folder of this file or, if there is none, the system's `libwax.so.0`. The calls `is_match`, `goes_on`, `is_ignored`
+and `excludes_below` are methods of the extension `_wax` if that is in this package, or where Python looks for modules.
+Otherwise they are made by `ctypes` and take longer. The script `library` of the repository builds the library and the
+extension. `crates/wax_c/README.md` says what is proved.
 """
 
 from __future__ import annotations
 
 import ctypes
 import errno
+import importlib
 import itertools
 import os
 import stat
-import threading
-from typing import Any, Callable, Iterable, Iterator, List, NoReturn, Optional, Sequence, Tuple, Union
+import types
+from typing import TYPE_CHECKING, Any, Callable, Iterable, Iterator, List, NoReturn, Optional, Sequence, Tuple, Union
 
 __all__ = [
     "BuildError",
@@ -127,7 +130,7 @@ def _path_of_library() -> str:
 
 
 def _loaded(library: ctypes.CDLL, keeps_lock: bool) -> ctypes.CDLL:
-    """Declares the calls that convert their arguments: those that use a handle of a glob or of a set, or the others."""
+    """Declares the calls that convert their arguments: those that use a handle, or the others."""
     text, size, number = ctypes.c_char_p, ctypes.c_size_t, ctypes.c_int32
     handle, sizes = ctypes.c_void_p, ctypes.POINTER(ctypes.c_size_t)
     handles, spans, facts = ctypes.POINTER(handle), ctypes.POINTER(_Span), ctypes.POINTER(_Facts)
@@ -136,12 +139,8 @@ def _loaded(library: ctypes.CDLL, keeps_lock: bool) -> ctypes.CDLL:
         ("wax_escape", number, [text, size, *output]),
         ("wax_picture", number, [text, size, *output]),
         ("wax_glob_new", number, [text, size, handles, spans]),
-        ("wax_glob_free", None, [handle]),
         ("wax_set_new", number, [text, size, sizes, size, handles, sizes, spans]),
-        ("wax_set_free", None, [handle]),
         ("wax_ignore_new", number, [text, size, handles, sizes]),
-        ("wax_ignore_filter", number, [handle, text, size, *output]),
-        ("wax_ignore_free", None, [handle]),
     ]
     of_handles: List[Tuple[str, Any, List[Any]]] = [
         ("wax_glob_filter", number, [handle, text, size, *output]),
@@ -149,7 +148,11 @@ def _loaded(library: ctypes.CDLL, keeps_lock: bool) -> ctypes.CDLL:
         ("wax_glob_facts", number, [handle, facts]),
         ("wax_glob_text", number, [handle, *output]),
         ("wax_glob_partition", number, [handle, *output, handles]),
+        ("wax_glob_free", None, [handle]),
         ("wax_set_matches", number, [handle, text, size, sizes, size, sizes]),
+        ("wax_set_free", None, [handle]),
+        ("wax_ignore_filter", number, [handle, text, size, *output]),
+        ("wax_ignore_free", None, [handle]),
     ]
     for name, result, arguments in of_handles if keeps_lock else calls:
         function = getattr(library, name)
@@ -159,48 +162,15 @@ def _loaded(library: ctypes.CDLL, keeps_lock: bool) -> ctypes.CDLL:
 
 _library = _loaded(ctypes.CDLL(_path_of_library()), keeps_lock=False)
 
-# The calls that use a handle of a glob or of a set, which keeps what they learn, so one at a time may use it. By PyDLL they
-# keep the lock of the interpreter. Those that decide something about a path have no argtypes, so that nothing converts their
-# arguments, which are bytes and numbers of ctypes: so an empty call takes a third of the time.
+# The calls that use a handle, which keeps what they learn, so one at a time may use it. By PyDLL they keep the lock of
+# the interpreter. Those that decide something about a path return an int, and ctypes need know no more of them.
 _using = _loaded(ctypes.PyDLL(_path_of_library()), keeps_lock=True)
-_glob_is_match = _using.wax_glob_is_match
-_glob_goes_on = _using.wax_glob_goes_on
-_set_is_match = _using.wax_set_is_match
-_set_goes_on = _using.wax_set_goes_on
-_ignore_is_ignored = _using.wax_ignore_is_ignored
-_ignore_excludes_below = _using.wax_ignore_excludes_below
-for _function in (
-    _glob_is_match,
-    _glob_goes_on,
-    _set_is_match,
-    _set_goes_on,
-    _ignore_is_ignored,
-    _ignore_excludes_below,
-):
-    _function.restype = ctypes.c_int32
-
-# the lengths of most paths, since to make one takes half as long as a call
-_SHORT = 512
-_LENGTHS = [ctypes.c_size_t(length) for length in range(_SHORT)]
-
-
-def _decided(function: Any, handle: ctypes.c_void_p, path: str) -> bool:
-    """Returns what a call decides about a path, or raises its error. The call takes no expression."""
-    try:
-        text = path.encode()
-    except UnicodeEncodeError:
-        raise Error(20) from None
-    length = len(text)
-    status = function(handle, text, _LENGTHS[length] if length < _SHORT else ctypes.c_size_t(length))
-    if status < 0:
-        _raise(-status)
-    return bool(status)
 
 
 def _bytes(text: str) -> bytes:
     """Returns a text as UTF-8. Raises `Error` 20 if it can't be converted, as half of a surrogate pair can't."""
     try:
-        return text.encode()
+        return str.encode(text)
     except UnicodeEncodeError:
         raise Error(20) from None
 
@@ -238,7 +208,7 @@ def _written(function: Any, *arguments: Any, room: int, out: Sequence[Any] = ())
     return status, ctypes.string_at(output, written.value).decode()
 
 
-def _filtered(function: Any, handle: ctypes.c_void_p, keeps: Callable[[str], bool], paths: List[str]) -> List[str]:
+def _filtered(function: Any, handle: Any, keeps: Callable[[str], bool], paths: List[str]) -> List[str]:
     """Returns the paths that a call keeps of lines, or `keeps` of single paths if one of them contains a line feed."""
     text = "\n".join(paths) + "\n"
     if text.count("\n") != len(paths):
@@ -281,19 +251,126 @@ def escape(text: str) -> str:
     return _written(_library.wax_escape, encoded, len(encoded), room=2 * len(encoded))[1]
 
 
-class _Held:
-    """An object with a handle of the library, which is freed with the object."""
+# the lengths of most paths, since to make one takes half as long as a call
+_SHORT = 512
+_LENGTHS = [ctypes.c_size_t(length) for length in range(_SHORT)]
 
-    _free = ""
 
-    def __init__(self) -> None:
-        self._handle = ctypes.c_void_p()
+class _Handle(ctypes.c_void_p):
+    """A handle of the library, which is freed with this object."""
+
+    release: Callable[[_Handle], None]
 
     def __del__(self) -> None:
-        handle = getattr(self, "_handle", None)
-        if handle:
-            self._handle = ctypes.c_void_p()
-            getattr(_library, self._free)(handle)
+        self.release(self)
+
+
+class _Held:
+    """An object that owns a handle, with two calls that decide something about a path. The extension has its own."""
+
+    _owned: Optional[_Handle] = None
+    _first: Any = None
+    _second: Any = None
+
+    def _hold(self, handle: Optional[int], first: Any, second: Any, release: Any) -> None:
+        owned = _Handle(handle)
+        owned.release = release
+        if self._owned is not None:
+            raise ValueError("the object is already built")
+        self._owned, self._first, self._second = owned, first, second
+
+    @property
+    def _handle(self) -> Any:
+        if self._owned is None:
+            raise ValueError("the object isn't built: `__init__` wasn't called, or failed")
+        return self._owned
+
+    def _decided(self, function: Any, path: str) -> bool:
+        """Returns what a call decides about a path, or raises its error. The call has no argtypes, so nothing converts
+        its arguments, which are bytes and numbers of ctypes: so an empty call takes a third of the time."""
+        handle = self._owned or self._handle  # (the second raises an error)
+        try:
+            text = str.encode(path)
+        except UnicodeEncodeError:
+            raise Error(20) from None
+        length = len(text)
+        status: int = function(handle, text, _LENGTHS[length] if length < _SHORT else ctypes.c_size_t(length))
+        if status < 0:
+            _raise(-status)
+        return bool(status)
+
+    def __reduce__(self) -> NoReturn:
+        raise TypeError(f"cannot pickle {type(self).__name__!r} object")
+
+
+class _Matcher(_Held):
+    def is_match(self, path: str) -> bool:
+        """Returns whether the glob, or one of a set, matches the path.
+
+        Raises `MemoryError` if an allocation fails.
+        """
+        return self._decided(self._first, path)
+
+    def goes_on(self, folder: str) -> bool:
+        """Returns whether the glob, or one of a set, matches the path of something below the folder with this path.
+
+        So a walk needs to open a folder only if this is true. The empty path is the folder where paths begin.
+
+        Raises `MemoryError` if an allocation fails.
+
+            >>> glob = Glob("src/*/tests/*.rs")
+            >>> glob.goes_on("src/net"), glob.goes_on("doc")
+            (True, False)
+        """
+        return self._decided(self._second, folder)
+
+
+class _IgnoreMatcher(_Held):
+    def is_ignored(self, path: str) -> bool:
+        """Returns whether the list ignores the path, and keeps what it learns from it for the next ones.
+
+        Raises `MemoryError` if an allocation fails.
+        """
+        return self._decided(self._first, path)
+
+    def excludes_below(self, folder: str) -> bool:
+        """Returns True if the list ignores everything below the folder with this path, so that a walk needn't open it,
+        and False if something below it might not be ignored. The path has no `/` at its end.
+
+        Raises `MemoryError` if an allocation fails.
+
+            >>> ignored = IgnoreList("target/**\\n")
+            >>> ignored.excludes_below("target/debug"), ignored.excludes_below("src")
+            (True, False)
+        """
+        return self._decided(self._second, folder)
+
+
+def _found_extension() -> Optional[types.ModuleType]:
+    """Returns the extension: that in the package of this file or, if this is in none, one where Python looks for
+    modules. Returns None if there is none."""
+    try:
+        return importlib.import_module("._wax" if __package__ else "_wax", __package__)
+    except ImportError:
+        return None
+
+
+_extension = _found_extension()
+_MatcherBase = _Matcher
+_IgnoreBase = _IgnoreMatcher
+if not TYPE_CHECKING and _extension:
+    _MatcherBase, _IgnoreBase = _extension.Matcher, _extension.IgnoreMatcher
+
+
+def _calls_of(*names: str) -> List[Any]:
+    """Returns calls that use a handle as `_hold` takes them: functions, or their addresses for the extension."""
+    found = [getattr(_using, name) for name in names]
+    return [ctypes.cast(it, ctypes.c_void_p).value for it in found] if _extension else found
+
+
+_GLOB_CALLS = _calls_of("wax_glob_is_match", "wax_glob_goes_on", "wax_glob_free")
+_SET_CALLS = _calls_of("wax_set_is_match", "wax_set_goes_on", "wax_set_free")
+_IGNORE_CALLS = _calls_of("wax_ignore_is_ignored", "wax_ignore_excludes_below", "wax_ignore_free")
 
 
 class Matched:
@@ -319,7 +396,7 @@ class Matched:
         return f"Matched({self.text!r}, {self.captures!r})"
 
 
-class Glob(_Held):
+class Glob(_MatcherBase):
     """A glob, built from an expression.
 
     `expression` is this expression. It is None for the rest that `partition` returns.
@@ -327,41 +404,20 @@ class Glob(_Held):
     Raises `BuildError` if the expression can't be built, `MemoryError` if an allocation fails.
     """
 
-    _free = "wax_glob_free"
+    expression: Optional[str] = None
+    _most_captures = 0
+    _refused = staticmethod(_raise)  # (the extension calls it)
 
     def __init__(self, expression: str) -> None:
-        super().__init__()
-        self.expression: Optional[str] = expression
-        text, span = _bytes(expression), _Span()
-        self._most_captures = len(text)
-        status = _library.wax_glob_new(text, len(text), ctypes.byref(self._handle), ctypes.byref(span))
+        text, handle, span = _bytes(expression), ctypes.c_void_p(), _Span()
+        status = _library.wax_glob_new(text, len(text), ctypes.byref(handle), ctypes.byref(span))
         if status:
             _raise_built(-status, expression, span)
+        self._hold(handle.value, *_GLOB_CALLS)
+        self.expression, self._most_captures = expression, len(text)
 
     def __repr__(self) -> str:
         return f"Glob({self.expression!r})"
-
-    def is_match(self, path: str) -> bool:
-        """Returns whether the glob matches the path.
-
-        For many paths `filter` is faster.
-
-        Raises `MemoryError` if an allocation fails.
-        """
-        return _decided(_glob_is_match, self._handle, path)
-
-    def goes_on(self, folder: str) -> bool:
-        """Returns whether the glob matches the path of something below the folder with this path.
-
-        So a walk needs to open a folder only if this is true. The empty path is the folder where paths begin.
-
-        Raises `MemoryError` if an allocation fails.
-
-            >>> glob = Glob("src/*/tests/*.rs")
-            >>> glob.goes_on("src/net"), glob.goes_on("doc")
-            (True, False)
-        """
-        return _decided(_glob_goes_on, self._handle, folder)
 
     def matched(self, path: str) -> Optional[Matched]:
         """Returns what the glob captures of the path, or None if it doesn't match the path.
@@ -392,8 +448,7 @@ class Glob(_Held):
         """Yields the paths that the glob matches, in order.
 
         Paths are passed to the library 4,096 at a time; if one of these contains a line feed, they are passed one by
-        one. For 100,000 paths and four patterns this took 0.3 to 0.9 of the time that `re` took, and a quarter to 0.3
-        of that of `is_match` in a loop.
+        one. For 100,000 paths and four patterns this took 0.3 to 0.9 of the time that `re` took.
 
         Raises `MemoryError` if an allocation fails.
         """
@@ -460,12 +515,15 @@ class Glob(_Held):
             >>> prefix, rest.is_match("b.rs")
             ('src/a/', True)
         """
-        rest = Glob.__new__(Glob)
-        _Held.__init__(rest)
-        rest.expression, rest._most_captures = None, self._most_captures
-        out = [ctypes.byref(rest._handle)]
+        handle = ctypes.c_void_p()
+        out = [ctypes.byref(handle)]
         _, prefix = _written(_using.wax_glob_partition, self._handle, room=self._most_captures, out=out)
-        return prefix, rest if rest._handle else None
+        if not handle:
+            return prefix, None
+        rest = Glob.__new__(Glob)
+        rest._hold(handle.value, *_GLOB_CALLS)
+        rest._most_captures = self._most_captures
+        return prefix, rest
 
     def _expressions(self) -> Sequence[Optional[str]]:
         return [self.expression]
@@ -474,7 +532,7 @@ class Glob(_Held):
         return [self.partition()[0]]
 
 
-class GlobSet(_Held):
+class GlobSet(_MatcherBase):
     """A set of globs, built from expressions. `expressions` are these.
 
     Raises `BuildError` for the first expression that can't be built, `Error` 9 if the set is too large, `MemoryError`
@@ -485,32 +543,27 @@ class GlobSet(_Held):
         (True, [0, 2])
     """
 
-    _free = "wax_set_free"
+    expressions: Tuple[str, ...] = ()
+    _refused = staticmethod(_raise)
 
     def __init__(self, expressions: Iterable[str]) -> None:
-        super().__init__()
-        self.expressions = tuple(expressions)
-        texts = [_bytes(expression) for expression in self.expressions]
+        expressions = tuple(expressions)
+        texts = [_bytes(expression) for expression in expressions]
         joined, count = b"".join(texts), len(texts)
         lengths = (ctypes.c_size_t * count)(*map(len, texts))
-        which, span = ctypes.c_size_t(), _Span()
+        handle, which, span = ctypes.c_void_p(), ctypes.c_size_t(), _Span()
         status = _library.wax_set_new(
-            joined, len(joined), lengths, count, ctypes.byref(self._handle), ctypes.byref(which), ctypes.byref(span)
+            joined, len(joined), lengths, count, ctypes.byref(handle), ctypes.byref(which), ctypes.byref(span)
         )
         if status and which.value < count:
-            _raise_built(-status, self.expressions[which.value], span)
+            _raise_built(-status, expressions[which.value], span)
         if status:
             _raise(-status)
+        self._hold(handle.value, *_SET_CALLS)
+        self.expressions = expressions
 
     def __repr__(self) -> str:
         return f"GlobSet({list(self.expressions)!r})"
-
-    def is_match(self, path: str) -> bool:
-        """Returns whether one of the expressions matches the path.
-
-        Raises `MemoryError` if an allocation fails.
-        """
-        return _decided(_set_is_match, self._handle, path)
 
     def matches(self, path: str) -> List[int]:
         """Returns the indexes of all expressions that match the path, ascending.
@@ -524,12 +577,15 @@ class GlobSet(_Held):
             _raise(-status)
         return which[: count.value]
 
-    def goes_on(self, folder: str) -> bool:
-        """Returns whether one of the expressions matches the path of something below the folder with this path.
+    def filter(self, paths: Iterable[str]) -> Iterator[str]:
+        """Returns an iterator over the paths that one of the expressions matches, in order, each by `is_match`.
 
         Raises `MemoryError` if an allocation fails.
+
+            >>> list(GlobSet(["src/**", "*.md"]).filter(["src/lib.rs", "LICENSE", "README.md"]))
+            ['src/lib.rs', 'README.md']
         """
-        return _decided(_set_goes_on, self._handle, folder)
+        return filter(self.is_match, paths)
 
     def _expressions(self) -> Sequence[Optional[str]]:
         return self.expressions
@@ -538,45 +594,23 @@ class GlobSet(_Held):
         return [Glob(expression).partition()[0] for expression in self.expressions]
 
 
-class IgnoreList(_Held):
+class IgnoreList(_IgnoreBase):
     """An ignore list, with a glob on each line: paths that it matches are ignored or, after a `!`, aren't. The last
     line that matches a path decides. Lines that are empty or begin with `#` are skipped.
 
     Raises `LineError` if the glob of a line has an error, `MemoryError` if an allocation fails.
     """
 
-    _free = "wax_ignore_free"
+    _refused = staticmethod(_raise)
 
     def __init__(self, text: str) -> None:
-        super().__init__()
-        self._lock = threading.Lock()  # (a call keeps what it learns in the list, so one at a time may use it)
-        lines, line = _bytes(text), ctypes.c_size_t()
-        status = _library.wax_ignore_new(lines, len(lines), ctypes.byref(self._handle), ctypes.byref(line))
+        lines, handle, line = _bytes(text), ctypes.c_void_p(), ctypes.c_size_t()
+        status = _library.wax_ignore_new(lines, len(lines), ctypes.byref(handle), ctypes.byref(line))
         if status and line.value:
             raise LineError(-status, line.value)
         if status:
             _raise(-status)
-
-    def is_ignored(self, path: str) -> bool:
-        """Returns whether the list ignores the path, and keeps what it learns from it for the next ones.
-
-        Raises `MemoryError` if an allocation fails.
-        """
-        with self._lock:
-            return _decided(_ignore_is_ignored, self._handle, path)
-
-    def excludes_below(self, folder: str) -> bool:
-        """Returns True if the list ignores everything below the folder with this path, so that a walk needn't open it,
-        and False if something below it might not be ignored. The path has no `/` at its end.
-
-        Raises `MemoryError` if an allocation fails.
-
-            >>> ignored = IgnoreList("target/**\\n")
-            >>> ignored.excludes_below("target/debug"), ignored.excludes_below("src")
-            (True, False)
-        """
-        with self._lock:
-            return _decided(_ignore_excludes_below, self._handle, folder)
+        self._hold(handle.value, *_IGNORE_CALLS)
 
     def filter(self, paths: Iterable[str]) -> Iterator[str]:
         """Yields the paths that the list doesn't ignore, in order, as `Glob.filter` does for those that match.
@@ -587,12 +621,10 @@ class IgnoreList(_Held):
             ['src/lib.rs', 'keep.log']
         """
         for chunk in _chunks(paths):
-            with self._lock:
-                kept = _filtered(_library.wax_ignore_filter, self._handle, self._keeps, chunk)
-            yield from kept
+            yield from _filtered(_using.wax_ignore_filter, self._handle, self._keeps, chunk)
 
     def _keeps(self, path: str) -> bool:
-        return not _decided(_ignore_is_ignored, self._handle, path)
+        return not self.is_ignored(path)
 
 
 class Entry:
