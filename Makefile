@@ -3,7 +3,8 @@
 # make globs:     proves `globs` and each library that it uses, and builds ./globs
 # make prove:     proves everything, tests what was proved, and tries the wrong bodies
 # make explain:   proves and builds ./globs_explain, which explains an expression
-# make library:   builds the C library in target/library; `make globs` or `make prove` has to run before
+# make library:   builds the C library and the extension of the Python module in target/library; `make globs` or `make prove` has to
+#                 run before
 # make bench:     measures matches beside grep and rg, and walks beside find and fd (bench/README.md)
 # make install:   installs what was built, with its manual pages and completions, below PREFIX (packaging/README.md)
 # make uninstall: removes it

@@ -262,7 +262,8 @@ class _Handle(ctypes.c_void_p):
     release: Callable[[_Handle], None]
 
     def __del__(self) -> None:
-        self.release(self)
+        if self:
+            self.release(self)
 
 
 class _Held:
