@@ -1,4 +1,4 @@
-/* The calls that decide something about a path, as methods of the types that `Glob`, `GlobSet` and `IgnoreList` of wax.py extend.
+/* The calls that decide something about a path, as methods of types that `Glob`, `GlobSet` and `IgnoreList` of wax.py extend.
  * Without this extension, wax.py makes these calls by ctypes, and each takes several times as long.
  *
  * An object owns a handle of the C library, and knows the functions that use it. wax.py passes their addresses, so the library
