@@ -566,28 +566,29 @@ class Objects(unittest.TestCase):
         inverted = Counting("src/**", False)
         self.assertEqual([inverted.is_match(Path(it)) for it in ("src/a", "b")], [False, True])
         self.assertEqual((inverted.calls, list(inverted.filter(["src/a", "b"]))), (2, ["src/a"]))
-        inverted.itself = inverted
-        seen = weakref.ref(inverted)
-        del inverted
+        inverted.itself = Counting.kept = inverted
+        seen = weakref.ref(inverted), weakref.ref(Counting)
+        del inverted, Counting
         gc.collect()
-        self.assertIsNone(seen())
+        self.assertEqual([it() for it in seen], [None, None])
 
     def test_references(self):
-        types = {it for kind, *_ in kinds() for it in kind.__mro__}
+        counted = [*{it for kind, *_ in kinds() for it in kind.__mro__}, True, False, None]
         gc.collect()
-        before = {it: sys.getrefcount(it) for it in types}
+        before = [sys.getrefcount(it) for it in counted]
         for _ in range(100):
             for kind, given, wrong in kinds():
-                kind(given)
+                it = kind(given)
+                self.assertEqual([deciding(it)[0](path) for path in ("src/a", "b")], [True, False])
                 kind.__new__(kind)
                 with contextlib.suppress(wax.Error):
                     kind(wrong)
         gc.collect()
-        for it in types:
-            self.assertLess(abs(sys.getrefcount(it) - before[it]), 50, it)
+        for it, count in zip(counted, before):
+            self.assertLess(abs(sys.getrefcount(it) - count), 50, it)
 
     def test_leaks(self):
-        """A million calls, 20,000 that raise an error, and 10,000 objects take no more memory."""
+        """A million calls, 20,000 that raise an error, and 5,000 objects that can't be built again take no more memory."""
         made = [kind(given) for kind, given, _ in kinds()]
         calls = [call for it in made for call in deciding(it)]
 
@@ -604,9 +605,11 @@ class Objects(unittest.TestCase):
                             call(wrong)
             for _ in range(objects):
                 for kind, given, wrong in kinds():
-                    deciding(kind(given))[0]("src/a")
-                    with contextlib.suppress(wax.Error):
-                        kind(wrong)
+                    it = kind(given)
+                    deciding(it)[0]("src/a")
+                    for again in (given, wrong):
+                        with contextlib.suppress(ValueError):
+                            it.__init__(again)
 
         use(2_000, 200, 200)
         before = resident()
