@@ -84,9 +84,6 @@ reads_place old mid new more left n at le h g =
     ap (λ z. more * z) b ∙ mul-add more (n * at) n in
     omega (arith, h, g, a, d)
 
-pub reads_part : (old new more at n : ℕ) → at ≤ n → new ≤ old + more * (n * at) → new ≤ old + more * (n * n)
-reads_part old new more at n le h = omega (arith, h, mul-le-mul_left more (mul-le-mul_left n le))
-
 pub reads_step : (ps : List Piece) (i j : ℕ) (p : Piece) → j ≡ i + 1 → i < length ps → p ≡ get_or ps i p
     → (old mid new n : ℕ) →
     mid ≤ old + all_sizes (drop j ps) * n → new ≤ mid + size_of (forms_of p.ways) * n
@@ -131,17 +128,6 @@ pub reads_next : (ps : List Piece) (i : ℕ) (p : Piece) → i < length ps → p
     left ≤ all_sizes ps * n → new ≤ mid + left + size_of (forms_of p.ways) * n
     → new ≤ old + limit + 2 * (all_sizes ps * n)
 reads_next ps i p lt e old mid new left limit n h few g = omega (arith, h, few, g, reads_piece ps i p lt e n)
-
--- one choice more, over what is left of the text
-pub reads_choice : (ps : List Piece) (i : ℕ) (p : Piece) → i < length ps → p ≡ get_or ps i p
-    → (old mid new left n : ℕ) → left ≤ n →
-    mid ≤ old + all_sizes (take i ps) * n → new ≤ mid + size_of (forms_of p.ways) * left
-    → new ≤ old + all_sizes (take (i + 1) ps) * n
-reads_choice ps i p lt e old mid new left n le h g =
-    let a : size_of (forms_of p.ways) * left ≤ size_of (forms_of p.ways) * n =
-    mul-le-mul_left (size_of (forms_of p.ways)) le in
-    rw (all_taken ps i p lt e)
-    (reads_more old mid new (all_sizes (take i ps)) (size_of (forms_of p.ways)) n h (omega (arith, g, a)))
 
 -- a row of the text is in its square
 pub row_square : (all m : ℕ) → all * (m + 1) ≤ all * ((m + 1) * (m + 1))

@@ -6,12 +6,11 @@ use Rattle.unicode.specs.CaseFolding.{simple_fold}
 use Rattle.wax_query.specs.Outcome.{MatchBuild}
 use Rattle.wax_query.specs.declared.diagnostics.Refusal.{Refusal}
 use Rattle.wax_query.specs.declared.diagnostics.Refusal.TheVariants.{Refused, Memory}
-use Rattle.wax_token.specs.Cost.{cost}
 use Rattle.wax_token.specs.Meaning.{Means, SameFold, SameText, TreeMeans}
 use Rattle.wax_token.specs.Syntax.{literal, class, separator, one, zero_or_more, tree, Tree, leaf}
 use Rattle.wax_token.specs.Syntax.{alternation, concatenation, repetition}
 use Rattle.wax_capture.specs.Captures.{First, LeafWay, MeansByWay, tree_capture}
-use Rattle.wax_capture.specs.inner.Ways.{IsTreeToken, is_single}
+use Rattle.wax_capture.specs.inner.Ways.{is_single}
 use Rattle.wax_capture.specs.Pieces.{WayIn}
 use Rattle.wax_lengths.specs.Forms.{SpelledBy, TakenBy}
 use Rattle.wax_lengths.specs.declared.form.Form.{Form}
@@ -65,20 +64,6 @@ tree_two_ways rooted before after p q f g zero x = (
 )
 tree_two_ways rooted before after p q f g (suc k) x = first_way q (TreeMeans before after rooted) g k x
 
-pub tree_token_ways : {A : Type 0} (t : Tree A) (rooted before after : Bool) (forms : List Form) → IsTreeToken
-    t rooted → ((k : ℕ) (x : List ℕ) → LeafWay (tree rooted) k before after x ↔ WayIn forms k x) →
-    (k : ℕ) (x : List ℕ) → MeansByWay t k before after x ↔ WayIn forms k x
-tree_token_ways (leaf a (tree r)) rooted before after forms is f k x =
-    subst (λ z. LeafWay (tree z) k before after x ↔ WayIn forms k x) (sym is) (f k x)
-tree_token_ways (leaf a (literal i t)) rooted before after forms is f k x = absurd is
-tree_token_ways (leaf a (class n xs)) rooted before after forms is f k x = absurd is
-tree_token_ways (leaf a separator) rooted before after forms is f k x = absurd is
-tree_token_ways (leaf a one) rooted before after forms is f k x = absurd is
-tree_token_ways (leaf a (zero_or_more e)) rooted before after forms is f k x = absurd is
-tree_token_ways (alternation a ts) rooted before after forms is f k x = absurd is
-tree_token_ways (concatenation a ts) rooted before after forms is f k x = absurd is
-tree_token_ways (repetition a t low high) rooted before after forms is f k x = absurd is
-
 same_first : (M : Type 0) (k : ℕ) → First M k ↔ First M k
 same_first M k = ((λ h. h), (λ h. h))
 
@@ -94,17 +79,6 @@ single_way (leaf a (zero_or_more ev)) e k before after x = same_first _ k
 single_way (alternation a ts) e k before after x = absurd (true≢false (sym e))
 single_way (concatenation a ts) e k before after x = same_first _ k
 single_way (repetition a t low high) e k before after x = same_first _ k
-
-pub tree_cost : {A : Type 0} (t : Tree A) (rooted : Bool) → IsTreeToken t rooted → cost t ≡ 6
-tree_cost (leaf a (tree r)) rooted is = refl
-tree_cost (leaf a (literal i t)) rooted is = absurd is
-tree_cost (leaf a (class n xs)) rooted is = absurd is
-tree_cost (leaf a separator) rooted is = absurd is
-tree_cost (leaf a one) rooted is = absurd is
-tree_cost (leaf a (zero_or_more e)) rooted is = absurd is
-tree_cost (alternation a ts) rooted is = absurd is
-tree_cost (concatenation a ts) rooted is = absurd is
-tree_cost (repetition a t low high) rooted is = absurd is
 
 pub both_ways : {P Q R : Type 0} → (P ↔ Q) → (Q ↔ R) → P ↔ R
 both_ways f g = ((λ h. g.0 (f.0 h)), (λ h. f.1 (g.1 h)))

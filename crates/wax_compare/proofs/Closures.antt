@@ -17,14 +17,6 @@ use Rattle.wax_compare.specs.inner.Distinctions.{Extends, GoesOnIn, GoesTo, IsCl
 use Rattle.wax_compare.proofs.Replaced.{marked}
 
 -- ---- lists that grow
-pub extends_same : (xs : List ℕ) → Extends xs xs
-extends_same xs = ([], sym (append-nil xs))
-
-pub extends_push : (xs ys : List ℕ) (y : ℕ) → ys ≡ xs ++ y ∷ [] → Extends xs ys
-extends_push xs ys y e = (y ∷ [], e)
-
-pub extends_on : (xs ys zs : List ℕ) → Extends xs ys → Extends ys zs → Extends xs zs
-extends_on xs ys zs f g = (f.0 ++ g.0, g.1 ∙ ap (λ l. l ++ g.0) f.1 ∙ append_assoc xs f.0 g.0)
 
 pub extends_kept : (xs ys : List ℕ) → Extends xs ys → AreKept xs ys
 extends_kept xs ys f k h = subst (λ l. Contains l k) (sym f.1) (Contains-append_left xs f.0 k h)
@@ -46,13 +38,6 @@ module _ (code : List Instruction) (old new : List ℕ) (kept : AreKept old new)
   goes_kept k (Back n) h = in_closure_kept (k - n) h
   goes_kept k (End low high) h = tt
 
-pub closing_begins : (code : List Instruction) (places listed : List ℕ) (n : ℕ) → n ≡ length code
-    → ((k : ℕ) → Contains places k → k < n → Contains listed k) → IsClosing code places listed 0
-closing_begins code places listed n e h = record {
-  begins = λ k has lt. h k has (omega (arith, lt, e));
-  closed = λ j lt. (let no : ⊥ = omega (arith, lt) in absurd no);
-}
-
 pub closing_more : (code : List Instruction) (places old new : List ℕ) (done : ℕ) → done < length old
     → Extends old new → IsClosing code places old done → GoesOnIn code new (slice_index old done)
     → IsClosing code places new (done + 1)
@@ -66,11 +51,6 @@ closing_more code places old new done within f h next = record {
         ∙ ap (slice_index old) (sym same))) next)
   ];
 }
-
-pub closing_done : (code : List Instruction) (places listed : List ℕ) (done : ℕ) → length listed ≤ done
-    → IsClosing code places listed done → IsClosure code places listed
-closing_done code places listed done le h =
-    record { begins = h.begins; closed = λ j lt. h.closed j (omega (arith, lt, le)) }
 
 -- ---- two characters by which each listed instruction does the same
 module _ (code : List Instruction) (listed : List ℕ) (c d : ℕ)

@@ -11,10 +11,9 @@ use Rattle.wax_program.specs.declared.instruction.Instruction.{Instruction}
 use Rattle.wax_program.specs.declared.instruction.Instruction.TheVariants.{Check, Repeat, Components, Fork}
 use Rattle.wax_program.specs.declared.instruction.Instruction.TheVariants.{Jump, Back, End}
 use Rattle.wax_program.specs.Steady.{Alike}
-use Rattle.wax_program.specs.Threads.{AnyAmong}
 use Rattle.wax_compare.specs.declared.distinctions.Exceptions.{Exceptions}
 use Rattle.wax_compare.specs.inner.Distinctions.{AreExceptions, AreExceptionsOf, AreExceptionsUpTo}
-use Rattle.wax_compare.specs.inner.Distinctions.{AreMarkedAt, IsClosure, IsUnmarked, KeepsMarks, LeadAlike}
+use Rattle.wax_compare.specs.inner.Distinctions.{AreMarkedAt, IsClosure, IsUnmarked, KeepsMarks}
 use Rattle.wax_compare.specs.inner.Distinctions.{MarksOthers, TakesCharacter}
 use Rattle.wax_compare.proofs.Blocks.{no_mark}
 use Rattle.wax_compare.proofs.Closures.{closed_at, replaced_among}
@@ -80,26 +79,11 @@ pub all_marked : (n : ℕ) (marked : List Bool) (b : Bool) → b ≡ true → ma
 all_marked n marked b set is k h = let e : b ≡ false =
     get_replicate n b k false (subst (λ l. slice_get l k ≡ Some false) is h) in cc
 
-set_true : (xs : List Bool) (j k : ℕ) → slice_get (set xs j true) k ≡ Some false
-    → (j ≢ k) × (slice_get xs k ≡ Some false)
-set_true [] j k e = cc
-set_true (x ∷ xs) zero zero e = let no : true ≡ false = some_bools e in cc
-set_true (x ∷ xs) zero (suc k) e = ((λ z. cc), e)
-set_true (x ∷ xs) (suc j) zero e = ((λ z. cc), e)
-set_true (x ∷ xs) (suc j) (suc k) e = let h = set_true xs j k e in
-    ((λ z. h.0 (let same : j ≡ k = omega (arith, z) in same)), h.1)
-
 pub keeps_marks_same : (xs : List Bool) → KeepsMarks xs xs
 keeps_marks_same xs n h = h
 
 pub keeps_marks_on : (xs ys zs : List Bool) → KeepsMarks xs ys → KeepsMarks ys zs → KeepsMarks xs zs
 keeps_marks_on xs ys zs f g n h = f n (g n h)
-
-pub keeps_set : (xs ys : List Bool) (j : ℕ) → ys ≡ set xs j true → KeepsMarks xs ys
-keeps_set xs ys j e n h = (set_true xs j n (subst (λ l. slice_get l n ≡ Some false) e h)).1
-
-pub marked_set : (xs ys : List Bool) (j : ℕ) → ys ≡ set xs j true → IsUnmarked ys j → ⊥
-marked_set xs ys j e h = (set_true xs j j (subst (λ l. slice_get l j ≡ Some false) e h)).0 refl
 
 pub marked_kept : (rows : List Exceptions) (old new : List Bool) (k : ℕ) → KeepsMarks old new
     → AreMarkedAt rows old k → AreMarkedAt rows new k
@@ -108,32 +92,6 @@ marked_kept rows old new k keeps h e n is has un = h e n is has (keeps n un)
 -- ---- the first letters of a row are marked
 abbrev pub MarkedUpTo : List ℕ → List Bool → ℕ → Type 0
 MarkedUpTo letters marked end = (j : ℕ) → j < end → IsUnmarked marked (slice_index letters j) → ⊥
-
-pub marked_more : (letters : List ℕ) (old new : List Bool) (end at : ℕ) → at ≡ slice_index letters end
-    → KeepsMarks old new → MarkedUpTo letters old end → (IsUnmarked new at → ⊥)
-    → MarkedUpTo letters new (end + 1)
-marked_more letters old new end at is keeps before now j lt h = elim (cases_lt j end) [
-  | inl less ↦ before j less (keeps (slice_index letters j) h)
-  | inr past ↦ (let same : j ≡ end = omega (arith, lt, past) in
-      now (subst (IsUnmarked new) (ap (slice_index letters) same ∙ sym is) h))
-]
-
-pub marked_all : (rows : List Exceptions) (row : Exceptions) (marked : List Bool) (k end : ℕ)
-    → slice_get rows k ≡ Some row → length row.letters.items ≤ end → MarkedUpTo row.letters.items marked end
-    → AreMarkedAt rows marked k
-marked_all rows row marked k end at le h e n is has un =
-    let same : row ≡ e = some_row (sym at ∙ is) in
-    let has' : Contains row.letters.items n = subst (λ r. Contains r.letters.items n) (sym same) has in
-    h has'.0 (omega (arith, has'.1, le))
-    (subst (IsUnmarked marked) (sym (get_or_default row.letters.items has'.0 0 n has'.1 ∙ has'.2)) un)
-  where
-    some_row : {a b : Exceptions} → Some a ≡ Some b → a ≡ b
-    some_row e = cc
-
--- a letter that no row can mark, since there are fewer
-pub past_marks : (marked : List Bool) (n : ℕ) → length marked ≤ n → IsUnmarked marked n → ⊥
-past_marks marked n le h = let lt : n < length marked = slice_get_within marked n false h in
-    omega (arith, lt, le)
 
 -- ---- what one instruction takes
 pub upto_more : (letters : List ℕ) (i : Instruction) (takes_others : Bool) (old new : List ℕ) (end : ℕ)

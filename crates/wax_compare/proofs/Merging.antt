@@ -14,7 +14,7 @@ use Rattle.wax_program.specs.Steady.{Alike}
 use Rattle.wax_program.specs.Tests.{test_of}
 use Rattle.wax_compare.specs.Cuts.{AreAlike, AreLetters, HasStandIn, StandsFor}
 use Rattle.wax_compare.specs.inner.Cutting.{AreKept}
-use Rattle.wax_compare.specs.inner.Merging.{AgreeAt, AgreeBefore, AreMerged}
+use Rattle.wax_compare.specs.inner.Merging.{AgreeBefore, AreMerged}
 use Rattle.wax_compare.proofs.Blocks.{no_mark}
 use Rattle.wax_compare.proofs.Steps.{same_alike}
 
@@ -64,13 +64,6 @@ agree_stands code other c letter small low slash f g = record {
   second = all_alike other c letter small low slash g;
   slash = slash;
 }
-
-pub agree_more : (code : List Instruction) (at c d : ℕ) → AgreeBefore code at c d → AgreeAt code at c d
-    → AgreeBefore code (at + 1) c d
-agree_more code at c d before now k lt = elim (cases_lt k at) [
-  | inl less ↦ before k less
-  | inr past ↦ (let same : at ≡ k = omega (arith, lt, past) in subst (λ n. AgreeAt code n c d) same now)
-]
 
 -- ---- letters that are kept
 pub itself : (code other : List Instruction) (letters : List ℕ) (c : ℕ) → Contains letters c

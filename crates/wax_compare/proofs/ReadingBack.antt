@@ -76,10 +76,3 @@ pub same_wanted : (old new : Search) (code other : List Instruction) (t : List �
 same_wanted old new code other t same h =
     subst (λ w. IsWanted w new.texts (Accepts code 0) (Accepts other 0) t) (sym same.wanted)
     (subst (λ k. IsWanted old.wanted k (Accepts code 0) (Accepts other 0) t) (sym same.texts) h)
-
-pub wanted_back : (old new : Search) (code other : List Instruction) (t : List ℕ)
-    → IsSameSearch old new → IsWanted new.wanted new.texts (Accepts code 0) (Accepts other 0) t
-    → IsWanted old.wanted old.texts (Accepts code 0) (Accepts other 0) t
-wanted_back old new code other t same h =
-    subst (λ w. IsWanted w old.texts (Accepts code 0) (Accepts other 0) t) same.wanted
-    (subst (λ k. IsWanted new.wanted k (Accepts code 0) (Accepts other 0) t) same.texts h)

@@ -10,7 +10,7 @@ use Rattle.wax_compare.specs.inner.Going.{Goes, IsAllowed, begun_after}
 use Rattle.wax_compare.specs.inner.Automata.{LeadsToState, StatesStay, state_places}
 use Rattle.wax_compare.specs.inner.Reaching.{Readings}
 use Rattle.wax_compare.specs.inner.Searching.{GoesFrom, IsNextOrNone, IsNextPair}
-use Rattle.wax_compare.proofs.Steps.{allowed, dead_second, none_among, onward, same_alike, same_slash}
+use Rattle.wax_compare.proofs.Steps.{dead_second, none_among, onward, same_alike, same_slash}
 use Rattle.wax_compare.proofs.Steps.{stepped, stepped_back}
 
 module _ (r : Readings) (letter : ℕ) (from : StatePair) (to other : ℕ)
@@ -55,12 +55,6 @@ module _ (r : Readings) (letter : ℕ) (from : StatePair) (to other : ℕ)
       dead_second r.task (state_places r.firsts to) (begun_after r.task.texts from.may_end letter) s w
       (subst (λ z. Goes r.task (state_places r.firsts to) z (begun_after r.task.texts from.may_end letter) s)
       e (on c s stands h).1)
-
--- a letter that may not come next
-pub next_refused : (r : Readings) (letter : ℕ) (from : StatePair)
-    → (IsAllowed r.task.texts from.may_end letter → ⊥) → IsNextOrNone r letter from None
-next_refused r letter from refused c s stands h = refused
-    (allowed r.task.texts from.may_end c letter s stands.slash (same_slash c letter stands.slash) h.among)
 
 -- a step that an automaton took, where its states stayed
 pub step_here : (code : List Instruction) (old new : List ProgramState) (letters given : List ℕ)

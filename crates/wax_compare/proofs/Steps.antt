@@ -89,10 +89,6 @@ module _ (t : Task) (r : ℕ) (places others reached besides : List ℕ)
     among = goes_back t.texts begun r s may h.among;
   }
 
--- nothing goes on where the first program has no places, or the second one none and both are to accept
-pub dead_first : (t : Task) (others : List ℕ) (begun : Bool) (s : List ℕ) → Goes t [] others begun s → ⊥
-dead_first t others begun s h = none_among t.code s h.first
-
 pub dead_second : (t : Task) (places : List ℕ) (begun : Bool) (s : List ℕ) → t.wanted ≡ Both
     → Goes t places [] begun s → ⊥
 dead_second t places begun s e h = none_among t.other s (let a : AsWanted Both (AnyAmong t.other [] s) =

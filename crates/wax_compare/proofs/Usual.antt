@@ -5,7 +5,6 @@ use Rattle.std.proofs.lemmas.Bool.{cases_lt}
 use Rattle.std.proofs.lemmas.Option.{slice_get_cases}
 use Rattle.wax_program.specs.declared.instruction.Instruction.{Instruction}
 use Rattle.wax_compare.specs.declared.automaton.Automaton.{Automaton}
-use Rattle.wax_compare.specs.declared.automaton.ProgramState.{ProgramState}
 use Rattle.wax_compare.specs.declared.pairs.StatePair.{StatePair}
 use Rattle.wax_compare.specs.declared.pairs.Reached.{Reached}
 use Rattle.wax_compare.specs.declared.search.Search.{Search}
@@ -16,17 +15,9 @@ use Rattle.wax_compare.specs.inner.Distinctions.{IsUnmarked, MarksOthers}
 use Rattle.wax_compare.specs.inner.Reaching.{GoesAt, Readings}
 use Rattle.wax_compare.specs.inner.Searching.{AreAutomataOf, GoesFrom, IsUsual, readings}
 use Rattle.wax_compare.specs.inner.Visiting.{IsSameSearch, IsVisited, KeepsBoth}
-use Rattle.wax_compare.proofs.Automata.{keeps_more}
 use Rattle.wax_compare.proofs.Replaced.{alike_turned, replaced}
 use Rattle.wax_compare.proofs.Steps.{goes_replaced, same_alike}
 use Rattle.wax_compare.proofs.Visiting.{some_same}
-
-pub keeps_both_on : (old mid new : Search) → KeepsBoth old mid → KeepsBoth mid new → KeepsBoth old new
-keeps_both_on old mid new f g = record {
-  firsts = keeps_more old.first.states.items mid.first.states.items new.first.states.items f.firsts g.firsts;
-  seconds =
-      keeps_more old.second.states.items mid.second.states.items new.second.states.items f.seconds g.seconds;
-}
 
 -- what the marks of a state say
 marks_at : (code : List Instruction) (letters : List ℕ) (r : Automaton) (t : ℕ)

@@ -34,9 +34,6 @@ pub record Later (r r' : Readings) : Type 0 where
   pub firsts : StatesStay r.firsts r'.firsts
   pub seconds : StatesStay r.seconds r'.seconds
 
-pub later_same : (r : Readings) → Later r r
-later_same r = record { task = refl; firsts = λ t lt. (lt, refl, refl); seconds = λ t lt. (lt, refl, refl) }
-
 module _ (r r' : Readings) (later : Later r r') where
   module _ (p : StatePair) (first : p.first < length r.firsts)
       (second : p.second < length r.seconds) (s : List ℕ) where

@@ -8,7 +8,7 @@ use Rattle.std.proofs.lemmas.List.{take_more, take_all}
 use Rattle.wax_directory.specs.declared.tree.Node.{Node}
 use Rattle.wax_directory.specs.declared.tree.TreeItem.{TreeItem}
 use Rattle.wax_directory.specs.declared.tree.TreeItem.TheVariants as T
-use Rattle.wax_directory.specs.declared.tree.Node.TheOpen.{Node-F, TreeItem-F}
+use Rattle.wax_directory.specs.declared.tree.Node.TheOpen.{TreeItem-F}
 use Rattle.wax_directory.specs.declared.tree.Node.TheOpen as O
 use Rattle.wax_directory.specs.declared.tree.Node.TheViews as V
 use Rattle.wax_directory.specs.declared.tree.Node.TheViews.{out-Node, out-TreeItem, the_lemmas}
@@ -19,12 +19,6 @@ use Rattle.wax_directory.specs.Nodes.{named_before, named_in, below_layer, onwar
 use Rattle.wax_directory.specs.inner.Reaching.{layer_shown, shown_layer, item_layer_shown, item_layer}
 use Rattle.wax_directory.specs.Copies.{names_at, IsCopy}
 use Rattle.wax_directory.proofs.Finding.{out_entry, out_folder, folder_held}
-
-pub same_copy : (n copy : Node) → n ≡ copy → IsCopy n copy
-same_copy n copy e = record {
-  shows = λ names. ap (λ k. shown_reached (reached names k)) (sym e);
-  names = λ places. ap (names_at places) (sym e);
-}
 
 -- ---- item by item
 

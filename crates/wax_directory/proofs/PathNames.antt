@@ -52,15 +52,3 @@ distinct_twice (y ∷ names) x more h = elim (or_cases (bytes_eq x y) (list_any 
   | inr e ↦ and_right (not (list_any (bytes_eq y) (names ++ x ∷ more))) (are_distinct (names ++ x ∷ more))
       (distinct_twice names x more e)
 ]
-
-open_last : (xs : List ℕ) (c k : ℕ) → length xs ≡ suc k → Some c ≡ slice_get xs k → nat_eq c 47 ≡ ends_open xs
-open_last [] c k l h = cc
-open_last (d ∷ []) c zero l h = let e : c ≡ d = cc in ap (λ v. nat_eq v 47) e
-open_last (d ∷ []) c (suc k) l h = cc
-open_last (d ∷ e ∷ xs) c zero l h = absurd (omega (arith, l))
-open_last (d ∷ e ∷ xs) c (suc k) l h = open_last (e ∷ xs) c k (omega (arith, l)) h
-
--- whether a text ends with `/`, by its last byte
-pub open_some : (xs : List ℕ) (c : ℕ) → Some c ≡ slice_get xs (length xs - 1) → nat_eq c 47 ≡ ends_open xs
-open_some [] c h = cc
-open_some (d ∷ xs) c h = open_last (d ∷ xs) c (length (d ∷ xs) - 1) (omega arith) h

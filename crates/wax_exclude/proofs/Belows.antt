@@ -125,14 +125,6 @@ walk_follows start a_sealed plain = (no_names, refl, tt)
 walk_follows start missing plain = tt
 walk_follows start failing plain = tt
 
--- what follows the first items
-follows_after : (last : List (List ℕ)) (before xs : List Given) → Follows last (before ++ xs)
-    → (later : List (List ℕ)) × Follows later xs
-follows_after last [] xs h = (last, h)
-follows_after last (entry m f ∷ before) xs h = follows_after (names_of f) before xs h.2
-follows_after last (fault kind path depth ∷ before) xs h = follows_after last before xs h
-follows_after last (no_memory ∷ before) xs h = follows_after last before xs h
-
 -- what is deeper than a folder, with all between, has its names
 deeper_names : (d : ℕ) (names last : List (List ℕ)) (between after : List Given) (m : Mark) (f : Facts)
     → take d last ≡ names → Follows last (between ++ entry m f ∷ after)

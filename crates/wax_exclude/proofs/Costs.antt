@@ -36,9 +36,6 @@ part_fits t part fits h =
     ap (λ ts. costs (trees ts)) h.2 ∙ costs_append h.0 (part ++ h.1) in
     omega (arith, fits, whole, front, costs_append part h.1)
 
-pub tree_fits : {A : Type 0} (t : Tree A) → cost t < 1048576 → costs (members t) < 1048576
-tree_fits t h = omega (arith, h, members_costs t)
-
 -- ---- alternatives
 
 one_copy : (low : ℕ) (high : Option ℕ) → is_exactly_one low high ≡ true → (b : Bool) (c : ℕ)
@@ -124,9 +121,3 @@ pub alternatives_fit : {A : Type 0} (t : Tree A) → program_length t ≤ 104857
 alternatives_fit t fits =
     All-weaker (λ u. cost u ≤ cost t) (λ u. cost u < 1048576) (λ u k. omega (arith, fits, k)) (alternatives t)
     (joined_cheap (cost t) (levels t) (levels_cheap t))
-
-pub pattern_fits : {A : Type 0} (t : Tree A) (ts : Trees A) (n : ℕ) → ts ≡ members t → n ≡ costs ts + 1
-    → n ≤ 1048576 → program_length t ≤ 1048576
-pattern_fits t ts n e f fits =
-    let c : costs ts ≡ cost t = ap costs e ∙ members_costs t in
-    omega (arith, c, f, fits)

@@ -15,7 +15,8 @@ use Rattle.wax_walk.specs.Forest.{Forest, nothing, item, lists, listings, filter
 use Rattle.wax_walk.specs.Given.{Facts, Mark, Given, changed_by, cut_by}
 use Rattle.wax_walk.specs.Pruned.{is_closed, pruned}
 use Rattle.wax_exclude.proofs.Closed.{plain_later, loses_shut}
-use Rattle.wax_exclude.proofs.Names.{closed_name, names_bytes, names_chars, names_in_joined, open_append}
+use Rattle.wax_exclude.proofs.Names.{names_bytes, names_chars, names_in_joined}
+use Rattle.wax_query.proofs.Ends.{closed_name, open_append}
 use Rattle.wax_exclude.proofs.Opened.{opens_few}
 use Rattle.wax_exclude.proofs.Staying.{Each, each_more, each_filtered, all_listed}
 use Rattle.wax_query.specs.Below.{AreNames, joined_names, slashed, ends_open}

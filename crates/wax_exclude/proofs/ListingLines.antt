@@ -8,7 +8,7 @@ use Rattle.wax_token.specs.Decided.{means_test}
 use Rattle.wax_token.specs.Reads.{Span}
 use Rattle.wax_walk.specs.Candidates.{Candidate}
 use Rattle.wax_exclude.specs.Covers.{covers_test}
-use Rattle.wax_exclude.specs.Ignored.{Line, all_ignore, below_test, ignored_after, ignore_mark, is_ignored}
+use Rattle.wax_exclude.specs.Ignored.{Line, all_ignore, below_test, ignored_after, ignore_mark}
 use Rattle.wax_exclude.specs.Marks.{covered_mark}
 use Rattle.wax_exclude.specs.Held.{HasLines, line_of}
 use Rattle.wax_exclude.specs.declared.rules.IgnoreLine.{IgnoreLine}
@@ -44,8 +44,3 @@ held_mark lines c =
 pub says_lines : (held : List IgnoreLine) (lines : List (Line Span)) → HasLines held lines
     → (λ c. listed_mark held c) ≡ ignore_mark lines
 says_lines held lines h = λ i c. (ap (λ ls. listed_mark ls c) h ∙ held_mark lines c) i
-
--- which texts they ignore
-pub ignores_lines : (held : List IgnoreLine) (lines : List (Line Span)) (s : List ℕ) → HasLines held lines
-    → ignored_by false held s ≡ is_ignored lines s
-ignores_lines held lines s h = ap (λ ls. ignored_by false ls s) h ∙ ignored_held lines false s

@@ -16,6 +16,7 @@ use Rattle.wax_token.specs.Meaning.{HasNoSlash}
 use Rattle.wax_tree.specs.Plain.{Location}
 use Rattle.wax_tree.specs.Prefix.{ArePlain}
 use Rattle.wax_walk.specs.Candidates.{Candidate}
+use Rattle.wax_query.proofs.Ends.{closed_name, not_same, open_append}
 use Rattle.wax_query.specs.Below.{slashed, joined_names, AreNames, ends_open}
 use Rattle.wax_exclude.specs.Candidates.{base, text_at}
 use Rattle.wax_exclude.specs.Candidates.{candidate_at}
@@ -28,9 +29,6 @@ candidate_from names text depth = record { names = names; text = text; depth = d
 abbrev pub seen_at : Location → Candidate
 seen_at at = candidate_from (map chars (names_in_path at.candidate)) (chars at.candidate) at.depth
 
-differ : (c d : ℕ) → c ≢ d → nat_eq c d ≡ false
-differ c d n = elim (cases_Bool (nat_eq c d)) [ inl e ↦ absurd (n (eqb-true c d e)) | inr e ↦ e ]
-
 pub no_slash_in : (x : List ℕ) → ¬ (Contains x 47) → HasNoSlash x
 no_slash_in [] h = tt
 no_slash_in (c ∷ x) h = (
@@ -40,16 +38,6 @@ no_slash_in (c ∷ x) h = (
 )
 
 -- ---- paths that no name may follow at once
-
-pub open_append : (xs : List ℕ) (y : ℕ) (ys : List ℕ) → ends_open (xs ++ y ∷ ys) ≡ ends_open (y ∷ ys)
-open_append [] y ys = refl
-open_append (x ∷ []) y ys = refl
-open_append (x ∷ z ∷ xs) y ys = open_append (z ∷ xs) y ys
-
-pub closed_name : (n : List ℕ) → ¬ (n ≡ []) → HasNoSlash n → ends_open n ≡ false
-closed_name [] h k = absurd (h refl)
-closed_name (c ∷ []) h k = differ c 47 k.0
-closed_name (c ∷ d ∷ n) h k = closed_name (d ∷ n) (λ e. (cc)) k.1
 
 closed_names : (n : List ℕ) (names : List (List ℕ)) → AreNames (n ∷ names)
     → ends_open (n ++ slashed names) ≡ false
@@ -61,10 +49,6 @@ closed_names n (m ∷ names) h = open_append n 47 (m ++ slashed names)
           → ends_open (47 ∷ (m ++ slashed names)) ≡ false
       after [] names h e = absurd (h.0 refl)
       after (c ∷ m) names h e = e
-
-base_open : (rooted : Bool) → ends_open (base rooted) ≡ true
-base_open true = refl
-base_open false = refl
 
 pub closed_after : (rooted : Bool) (n : List ℕ) (names : List (List ℕ)) → AreNames (n ∷ names)
     → ends_open (base rooted ++ (n ++ slashed names)) ≡ false
@@ -191,7 +175,7 @@ parts_after : (names : List (List ℕ)) → slice_split (λ c. c == 47) (slashed
     → HasNoSlash n → slice_split (λ c. c == 47) (n ++ slashed names) ≡ n ∷ names
 parts_after names e [] h = e
 parts_after names e (c ∷ n) h = ap (λ b. cond b ([] ∷ slice_split (λ c. c == 47) (n ++ slashed names))
-    (onto_first c (slice_split (λ c. c == 47) (n ++ slashed names)))) (differ c 47 h.0)
+    (onto_first c (slice_split (λ c. c == 47) (n ++ slashed names)))) (not_same c 47 h.0)
     ∙ ap (onto_first c) (parts_after names e n h.1)
 
 parts_slashed : (names : List (List ℕ)) → AreNames names

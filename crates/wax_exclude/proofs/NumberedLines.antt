@@ -147,16 +147,6 @@ settled_after lines settled at line within e here out h = record {
     cases : (i : ℕ) → (settled ≤ i) ⊎ (i < settled)
     cases i = elim (cases_lt i settled) [ inl lt ↦ inr lt | inr le ↦ inl le ]
 
--- one line before, which ignores
-pub settled_earlier : (lines : List IgnoreLine) (settled at : ℕ) (line : IgnoreLine) → settled ≤ length lines
-    → settled ≡ at + 1 → line ≡ get_or lines at line → line.ignores ≡ true
-    → none_reincludes (drop settled lines) ≡ true → none_reincludes (drop at lines) ≡ true
-settled_earlier lines settled at line within e here ignores h =
-    let split : drop at lines ≡ line ∷ drop (at + 1) lines =
-    drop_more lines at line (omega (arith, within, e)) ∙ ap (λ l. l ∷ drop (at + 1) lines) (sym here) in
-    ap none_reincludes split ∙ and_from line.ignores (none_reincludes (drop (at + 1) lines)) ignores
-    (ap (λ n. none_reincludes (drop n lines)) (sym e) ∙ h)
-
 -- ---- what covers everything
 abbrev pub Everything : IgnoreLine → Bool
 Everything line = some_everything line.alternatives

@@ -3,8 +3,7 @@ use Rattle.std.proofs.Common.{◌≡◌, Bool, true, false, ◌||◌, cond, List
 use Rattle.std.specs.Prelude.{filter, ⊤}
 use Rattle.std.proofs.lemmas.List.Elements.{filter-append}
 use Rattle.wax_walk.specs.Forest.{Forest, nothing, item, lists, preorder, followed_by, filtered}
-use Rattle.wax_walk.specs.Given.{Facts, Mark, Given, entry, fault, no_memory}
-use Rattle.wax_walk.specs.Pruned.{is_closed, pruned}
+use Rattle.wax_walk.specs.Given.{Facts, Mark, Given}
 use Rattle.wax_exclude.specs.inner.Stacks.{LeavesOutAll, PassesDown, AllPassDown}
 
 module _ (cut : Given → Bool) where
@@ -110,23 +109,3 @@ module _ (cut : Given → Bool) where
       (filtered_left change other below))
       ∙ ap (λ v. item (change x) (cond (other x || cut x) nothing (filtered change both below)) v)
       (filtered_left change other after)
-
--- a filter of a pruned walk cuts what is below closed folders as well
-pub filtered_pruned : (opens : Facts → Bool) (change : Given → Given) (cut : Given → Bool) (f : Forest Given)
-    → filtered change cut (pruned opens f) ≡ filtered change (λ x. cut x || is_closed opens x) f
-filtered_pruned opens change cut f = filtered_left (is_closed opens) change cut f
-
-none_closed : (x : Given) → is_closed (λ f. true) x ≡ false
-none_closed (entry m f) = refl
-none_closed (fault kind path depth) = refl
-none_closed no_memory = refl
-
--- if each folder is opened, the walk stays as it is
-pub same_unpruned : (f : Forest Given) → pruned (λ f. true) f ≡ f
-same_unpruned nothing = refl
-same_unpruned (lists path after) = ap (lists path) (same_unpruned after)
-same_unpruned (item x below after) =
-    let opens : Facts → Bool = λ f. true in
-    ap (λ b. item x (cond b nothing (pruned opens below)) (pruned opens after)) (none_closed x)
-    ∙ ap (λ v. item x v (pruned opens after)) (same_unpruned below)
-    ∙ ap (item x below) (same_unpruned after)

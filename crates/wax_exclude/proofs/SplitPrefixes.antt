@@ -207,9 +207,6 @@ reversed_last (x ∷ xs) = ap from_last (reverse-append (x ∷ []) xs) ∙ from_
 
 -- ---- two `/` side by side
 
-pub empty_first : (p : List ℕ) → HasEmptyName (47 ∷ 47 ∷ p)
-empty_first p = ([], p, refl)
-
 pub empty_later : (c : ℕ) (p : List ℕ) → HasEmptyName p → HasEmptyName (c ∷ p)
 empty_later c p h = (c ∷ h.0, h.1, ap (λ v. c ∷ v) h.2)
 

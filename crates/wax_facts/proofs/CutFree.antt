@@ -8,7 +8,7 @@ use Rattle.wax_token.specs.Kinds.{is_boundary_leaf}
 use Rattle.wax_facts.specs.Orderly.{ApartEach, FullEach, IsSome, Orderly, WordedEach}
 use Rattle.wax_facts.specs.Prefix.{Cut, Prefix, PrefixOf, opened, or_nothing}
 use Rattle.wax_facts.specs.Rest.{after, begins_with_tree}
-use Rattle.wax_facts.specs.inner.Cuts.{IsFree, first_starts_with_tree}
+use Rattle.wax_facts.specs.inner.Cuts.{IsFree}
 use Rattle.wax_facts.proofs.CutEnds.{ends_at}
 use Rattle.wax_facts.proofs.Endings.{ends_back}
 use Rattle.wax_facts.proofs.Fronts.{FrontText, cut_text}
@@ -74,7 +74,3 @@ orderly_free t n p o h =
 begins_none : (A : Type 0) (n : ℕ) → begins_with_tree {A = A} (after n none) ≡ true → ⊥
 begins_none A zero e = true_false (sym e)
 begins_none A (suc n) e = true_false (sym e)
-
-starts_none : (A : Type 0) (n : ℕ) → first_starts_with_tree {A = A} (after n none) ≡ false
-starts_none A zero = refl
-starts_none A (suc n) = refl

@@ -310,21 +310,6 @@ pub record IsAlong (code : List Instruction) (states : List State) (keys : List 
   pub stays : (s : List ℕ) → AnyAmong code places (chars text ++ s)
       ↔ AnyAmong code (places_at states key.state) (chars (drop start text) ++ s)
 
-pub along_begins : (code : List Instruction) (states : List State) (keys : List RowKey) (text : List ℕ)
-    (at row : ℕ) → HasRow keys row at [] → IsUtf8 text
-    → IsAlong code states keys (places_at states at) text 0 row
-along_begins code states keys text at row h utf8 = record {
-  key = h.key;
-  is = h.is;
-  start = 0;
-  read = omega (arith, ap length h.begun);
-  within = omega arith;
-  left = ap (λ z. z ++ text) (sym h.begun);
-  utf8 = utf8;
-  stays = λ s. subst (λ z. AnyAmong code (places_at states at) (chars text ++ s)
-      ↔ AnyAmong code (places_at states z) (chars text ++ s)) (sym h.state) ((λ x. x), (λ x. x));
-}
-
 module _ (code : List Instruction) (states : List State) (keys : List RowKey) (places text : List ℕ)
     (index row : ℕ) (along : IsAlong code states keys places text index row) (lt : index < length text)
     (b : ℕ) (byte : get_or text index 0 ≡ b) where

@@ -414,12 +414,6 @@ target_leads code states places c (Some at) l = l.leads
 target_leads code states places c None dead =
     λ s. ((λ h. absurd (dead s h)), (λ h. absurd (no_place code s h)))
 
-pub target_within : (code : List Instruction) (states : List State) (places : List ℕ) (c : ℕ)
-    (target : Option ℕ) → Leads code states places c target
-    → IfSome target (λ at. at < length states)
-target_within code states places c (Some at) l = l.has_state
-target_within code states places c None dead = tt
-
 pub state_at : (states : List State) (t : ℕ) → t < length states → (s : State) × (slice_get states t ≡ Some s)
 state_at states t lt = found (slice_get_cases states t).1
   where
@@ -509,10 +503,6 @@ only_item [] e = absurd (omega (arith, e))
 only_item (x ∷ []) e = refl
 only_item (x ∷ y ∷ xs) e = absurd (omega (arith, e))
 
--- a single place is all places of a state without a failure state
-pub union_alone : (code : List Instruction) (places : List ℕ) → IsJoinOf code places [] places
-union_alone code places s = ((λ h. inr h), (λ h. elim h [ inl g ↦ absurd (no_place code s g) | inr g ↦ g ]))
-
 pub failure_at : (code : List Instruction) (states : List State) (cells : List ℕ) (at : ℕ) (s : State)
     (failure : ℕ) → IsTable code states cells
     → slice_get states at ≡ Some s → s.failure ≡ Some failure
@@ -560,8 +550,3 @@ target_parted code states part c own reached others (Some at) l a o =
       union = parts_reached code c own (places_at states at) reached others a o;
     }
 target_parted code states part c own reached others None l a o = tt
-
-pub target_placed : (code : List Instruction) (states : List State) (part : List ℕ) (c : ℕ)
-    (target : Option ℕ) → Leads code states part c target → IfSome target (HasState states)
-target_placed code states part c (Some at) l = l.has_state
-target_placed code states part c None l = tt

@@ -133,22 +133,6 @@ spelled_more f (k ∷ ls) (d ∷ s) (suc n) l c lt sl le ce h g =
     rw m (g.0, spelled_more f ls s n l c (omega (arith, lt)) (omega (arith, sl)) le ce h g.1)
 
 -- ---- names
-pub name_stops : (text : List ℕ) (at : ℕ) → length text ≤ at → name_len (drop at text) ≡ 0
-name_stops text at le = ap name_len (drop_all at text le)
-
-pub name_here : (text : List ℕ) (at c : ℕ) → at < length text → c ≡ get_or text at c → c ≡ 47
-    → name_len (drop at text) ≡ 0
-name_here text at c lt e slash = ap name_len (from_place text at c lt e) ∙ ends
-  where
-    ends : name_len (c ∷ drop (at + 1) text) ≡ 0
-    ends = grind (arith, slash)
-
-pub name_on : (text : List ℕ) (at c : ℕ) → at < length text → c ≡ get_or text at c → (c ≡ 47 → ⊥)
-    → name_len (drop at text) ≡ suc (name_len (drop (at + 1) text))
-name_on text at c lt e other = ap name_len (from_place text at c lt e) ∙ goes
-  where
-    goes : name_len (c ∷ drop (at + 1) text) ≡ suc (name_len (drop (at + 1) text))
-    goes = grind (arith, other)
 
 name_to : (s : List ℕ) (n : ℕ) → n ≤ length s → HasNoSlash (take n s) → n ≤ name_len s
 name_to s zero le h = omega arith
@@ -192,32 +176,6 @@ taken_slash (c ∷ s) (suc n) le e =
   where
     head_same : {x : List ℕ} → c ∷ x ≡ 47 ∷ [] → c ≡ 47
     head_same e = cc
-
-abbrev pub SlashOrNone : List ℕ → Type 0
-SlashOrNone x = (x ≡ []) ⊎ (x ≡ 47 ∷ [])
-
-pub slash_yes : (s : List ℕ) → BeginsWithSlash s → AreLengths SlashOrNone s (between 0 2)
-slash_yes s b n le = (
-  (λ h. elim h [
-    | inl e ↦ (let m : n ≡ 0 = taken_none s n le e in (omega arith, omega (arith, m), tt))
-    | inr e ↦ (let m : n ≡ 1 = (taken_slash s n le e).0 in (omega arith, omega (arith, m), tt))
-  ]),
-  (λ h. back n h.1),
-)
-  where
-    back : (n : ℕ) → n < 2 → SlashOrNone (take n s)
-    back zero lt = inl refl
-    back (suc zero) lt = inr (ap (take 1) b.1)
-    back (suc (suc n)) lt = absurd (omega (arith, lt))
-
-pub slash_no : (s : List ℕ) → (BeginsWithSlash s → ⊥) → AreLengths SlashOrNone s (between 0 1)
-slash_no s fails n le = (
-  (λ h. elim h [
-    | inl e ↦ (let m : n ≡ 0 = taken_none s n le e in (omega arith, omega (arith, m), tt))
-    | inr e ↦ absurd (fails (taken_slash s n le e).1)
-  ]),
-  (λ h. let m : n ≡ 0 = omega (arith, h.1) in inl (ap (λ k. take k s) m)),
-)
 
 -- ---- tree wildcards
 begins_taken : (s : List ℕ) (n : ℕ) → n ≤ length s → BeginsWithSlash (take n s) → (1 ≤ n) × BeginsWithSlash s

@@ -7,9 +7,7 @@ use Rattle.wax_program.specs.declared.instruction.Test.{Test}
 use Rattle.wax_program.specs.Machine.{PassesTest}
 use Rattle.wax_query.specs.Components.{BeginsWithSlash}
 use Rattle.wax_query.specs.Ranges.{AtMost}
-use Rattle.wax_token.specs.Meaning.{TreeMeans}
 use Rattle.wax_lengths.specs.Forms.{EachPasses, IsRunOf}
-use Rattle.wax_lengths.specs.inner.Names.{tree_low}
 use Rattle.wax_lengths.specs.Spans.{AreLengths}
 use Rattle.wax_lengths.proofs.FormLengths.{between, from_place}
 
@@ -78,15 +76,6 @@ pub run_begins : (t : Test) (low : ℕ) (high : Option ℕ) (x : List ℕ) → (
     → (c : ℕ) × (y : List ℕ) × (x ≡ c ∷ y) × PassesTest t c
 run_begins t low high [] some h = absurd (some (omega (arith, h.1)))
 run_begins t low high (c ∷ y) some h = (c, y, refl, h.0.0)
-
--- a tree wildcard that takes no empty text
-pub tree_begins : (before after rooted : Bool) (x : List ℕ) → (tree_low before after rooted ≡ 0 → ⊥)
-    → TreeMeans before after rooted x → BeginsWithSlash x
-tree_begins true true rooted x some h = h.0
-tree_begins true false rooted x some h = absurd (some refl)
-tree_begins false true true x some h = h.0
-tree_begins false false true x some h = h
-tree_begins false after false x some h = absurd (some refl)
 
 pub slash_begins : (s : List ℕ) (n : ℕ) → BeginsWithSlash (take n s) → BeginsWithSlash s
 slash_begins [] zero h = h

@@ -16,9 +16,6 @@ pub record Agrees (xs ys : List ℕ) (i : ℕ) : Type 0 where
   pub onward : SameText true xs ys → SameText true (drop i xs) (drop i ys)
   pub backward : SameText true (drop i xs) (drop i ys) → SameText true xs ys
 
-pub agrees_start : (xs ys : List ℕ) → Agrees xs ys 0
-agrees_start xs ys = record { onward = λ h. h; backward = λ h. h }
-
 module _ (xs ys : List ℕ) (i x y : ℕ) (xi : i < length xs) (yi : i < length ys) (xe : x ≡ get_or xs i x)
     (ye : y ≡ get_or ys i y) where
   n : suc i ≡ i + 1
@@ -54,9 +51,3 @@ module _ (xs ys : List ℕ) (i x y : ℕ) (xi : i < length xs) (yi : i < length 
       let b : SameText true (x ∷ drop (i + 1) xs) (y ∷ drop (i + 1) ys) =
       subst (λ z. SameText true (x ∷ drop (i + 1) xs) z) right a in
       e b.0
-
-pub agrees_end : (xs ys : List ℕ) (i : ℕ) → length xs ≤ i → length ys ≤ i → Agrees xs ys i
-    → SameText true xs ys
-agrees_end xs ys i xl yl h =
-    h.backward (subst (λ z. SameText true z (drop i ys)) (sym (drop_all i xs xl))
-    (subst (λ z. SameText true [] z) (sym (drop_all i ys yl)) tt))

@@ -22,7 +22,7 @@ use Rattle.wax_match.specs.declared.encode.shared.WrittenEnd.{WrittenEnd}
 use Rattle.wax_match.specs.inner.Code.{literal_code, sequence_code}
 use Rattle.wax_match.specs.inner.Ends.{AreWritten, IsIn}
 use Rattle.wax_match.specs.inner.LeadCode.{gap_code, lead_code}
-use Rattle.wax_match.specs.inner.Left.{AreSame, EndMeans, GapMeans, IsAfter, IsAfterAt, IsLed, Joined}
+use Rattle.wax_match.specs.inner.Left.{AreSame, IsAfter, IsAfterAt, IsLed, Joined}
 use Rattle.wax_match.specs.inner.Left.{LeadMeans, LeftMeans, MeansBetween, OneLeftMeans, SomeLeftMeans}
 use Rattle.wax_program.specs.declared.instruction.Instruction.{Instruction}
 use Rattle.wax_program.specs.declared.instruction.Instruction.TheVariants.{Back, End, Fork}
@@ -267,22 +267,6 @@ module _ (ls : List Left) (start next : ℕ) (old mid last new : List Instructio
     | inl some ↦ ends_stay last new (Fork (length last - length mid) ∷ []) (beside some) ends all
     | inr none ↦ ends_stay last new [] (first (omega (arith, none))) ends all
   ]
-
-pub begun_all : (ls : List Left) (old new : List Instruction) (start : ℕ) → 1 ≤ length ls → length ls ≤ start
-    → start ≤ length ls → IsBegun ls old new start
-    → AreWritten old new (SomeLeftMeans ls)
-begun_all ls old new start some past within (inl (zero, same)) = absurd (omega (arith, zero, some, past))
-begun_all ls old new start some past within (inr (pos, w)) =
-    written_same old new
-    (λ k s m. (m.1, (m.0, (let lt : m.0 < start = m.3 in omega (arith, lt, within)), m.4), m.5))
-    (λ k s m. (
-      m.1.0,
-      m.0,
-      omega arith,
-      (let lt : m.1.0 < length ls = m.1.1 in omega (arith, lt, past)),
-      m.1.2,
-      m.2,
-    )) w
 
 -- ---- all of the patterns
 -- a token is the only member of its concatenation, or its members are

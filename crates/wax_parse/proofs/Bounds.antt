@@ -8,7 +8,7 @@ use Rattle.std.proofs.lemmas.Bool.Decides.{eqb_tells}
 use borrow.Author.Tests.{ltb-true, lt-ltb}
 use Rattle.wax_token.specs.Reads.{decimal_from, IsNumber, ReadsBounds, any_number, at_least_one, exactly}
 use Rattle.wax_token.specs.Reads.{at_least, between}
-use Rattle.wax_parse.specs.inner.Parser.{strip, digit_step, next_number, digits_run, digits_after, number_run}
+use Rattle.wax_parse.specs.inner.Parser.{strip, digit_step, digits_run, digits_after, number_run}
 use Rattle.wax_parse.specs.inner.Parser.{with_value, with_lower, upper_end, upper_or, read_upper, upper_after}
 use Rattle.wax_parse.specs.inner.Parser.{lower_after, read_numbers, numbers_or, bounds_after, read_bounds}
 use Rattle.wax_parse.specs.inner.Reading.{HasSuffix}
@@ -42,9 +42,6 @@ no_digit c s e = elim (is_ascii_digit c) as (λ z. digit_if c s z ≡ None → z
   | false ↦ λ f. refl
 ] e
 
-pub digit_smaller : (s : List ℕ) (d : ℕ) (r : List ℕ) → digit_step s ≡ Some (d, r) → length r < length s
-digit_smaller s d r e = let k : Digit d s r = digit_is s d r e in omega (arith, ap length k.1)
-
 -- a run that goes on with a digit
 abbrev within_if : ℕ → ℕ → List ℕ → Bool → Option (ℕ × List ℕ)
 within_if n c s b = if b then digits_run (n * 10 + (c - 48)) s else None
@@ -55,36 +52,6 @@ run_if n c s b = if b then within_if n c s (ltb (n * 10 + (c - 48)) (2 ^ 64)) el
 run_digit : (n c : ℕ) (s : List ℕ) → is_ascii_digit c ≡ true
     → digits_run n (c ∷ s) ≡ within_if n c s (ltb (n * 10 + (c - 48)) (2 ^ 64))
 run_digit n c s e = ap (run_if n c s) e
-
-next_some : (n d m : ℕ) → next_number n d ≡ Some m → (ltb (n * 10 + d) (2 ^ 64) ≡ true) × (m ≡ n * 10 + d)
-next_some n d m e = elim (ltb (n * 10 + d) (2 ^ 64))
-    as (λ z. (if z then Some (n * 10 + d) else None) ≡ Some m → (z ≡ true) × (m ≡ n * 10 + d)) [
-      | true ↦ λ f. (refl, (let g : n * 10 + d ≡ m = cc in sym g))
-      | false ↦ λ f. absurd (none_some m f)
-    ] e
-
-next_none : (n d : ℕ) → next_number n d ≡ None → ltb (n * 10 + d) (2 ^ 64) ≡ false
-next_none n d e =
-    elim (ltb (n * 10 + d) (2 ^ 64)) as (λ z. (if z then Some (n * 10 + d) else None) ≡ None → z ≡ false) [
-      | true ↦ λ f. absurd (let m : ℕ = n * 10 + d in none_some m (sym f))
-      | false ↦ λ f. refl
-    ] e
-
-pub digits_more : (n m : ℕ) (s : List ℕ) (d : ℕ) (r : List ℕ) → digit_step s ≡ Some (d, r)
-    → next_number n d ≡ Some m → digits_run n s ≡ digits_run m r
-digits_more n m s d r e f =
-    let k : Digit d s r = digit_is s d r e in
-    let g : (ltb (n * 10 + (k.0 - 48)) (2 ^ 64) ≡ true) × (m ≡ n * 10 + (k.0 - 48)) =
-    next_some n (k.0 - 48) m (ap (next_number n) (sym k.3) ∙ f) in
-    ap (digits_run n) k.1 ∙ run_digit n k.0 r k.2
-    ∙ ap (within_if n k.0 r) g.0 ∙ ap (λ z. digits_run z r) (sym g.1)
-
-pub digits_over : (n : ℕ) (s : List ℕ) (d : ℕ) (r : List ℕ) → digit_step s ≡ Some (d, r)
-    → next_number n d ≡ None → digits_run n s ≡ None
-digits_over n s d r e f =
-    let k : Digit d s r = digit_is s d r e in
-    ap (digits_run n) k.1 ∙ run_digit n k.0 r k.2
-    ∙ ap (within_if n k.0 r) (next_none n (k.0 - 48) (ap (next_number n) (sym k.3) ∙ f))
 
 pub digits_stop : (n : ℕ) (s : List ℕ) → digit_step s ≡ None → digits_run n s ≡ Some (n, s)
 digits_stop n [] e = refl

@@ -283,9 +283,6 @@ alternation_too_deep size around depth first p n d e = λ u r t.
     let x : IsAlternation size p n u r = alternation_token size around first p n u r e t.0 in
     let y : 1 + deepest x.1 ≤ depth = subst (λ z. nesting z ≤ depth) x.2 t.1 in omega (arith, y, d)
 
-abbrev after_bounds : Place → List ℕ → Place
-after_bounds k s = at k.insensitive s
-
 pub repetition_sole : (size : ℕ) (around : Around) (depth inner : ℕ) (first : Bool)
     (p n k : Place) (t : Tree Span) (low : ℕ) (high : Option ℕ) (s : List ℕ) → inner + 1 ≡ depth
     → flags_end p ≡ at n.insensitive (60 ∷ n.rest) →

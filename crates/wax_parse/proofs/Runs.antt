@@ -234,28 +234,6 @@ class_more whole xs (suc n) (c ∷ s) q a e f h w = (
       ∙ ap (λ o. prefixed xs (go_on (class_run n) o)) f ∙ prefixed_put xs a (class_run n q),
 )
 
-pub class_stop : (whole : Option (List Archetype × List ℕ)) (xs : List Archetype) (n : ℕ) (p : List ℕ)
-    → strip 93 p ≡ None →
-    archetype_step p ≡ None → whole ≡ prefixed xs (class_run n p) → whole ≡ None
-class_stop whole xs n [] e f w = w
-class_stop whole xs zero (c ∷ s) e f w = w
-class_stop whole xs (suc n) (c ∷ s) e f w =
-    w ∙ ap (λ b. prefixed xs (class_choice s (go_on (class_run n) (archetype_step (c ∷ s))) b))
-    (not_closed c s e)
-    ∙ ap (λ o. prefixed xs (go_on (class_run n) o)) f
-
-pub class_end : (whole : Option (List Archetype × List ℕ)) (xs : List Archetype) (n : ℕ) (p q : List ℕ)
-    → strip 93 p ≡ Some q → length p ≤ n →
-    whole ≡ prefixed xs (class_run n p) → whole ≡ Some (xs, q)
-class_end whole xs n [] q e h w = absurd (none_some q e)
-class_end whole xs zero (c ∷ s) q e h w = absurd (omega (arith, h))
-class_end whole xs (suc n) (c ∷ s) q e h w =
-    w ∙ elim (93 == c) as (λ b. (if b then Some s else None) ≡ Some q
-    → prefixed xs (class_choice s (go_on (class_run n) (archetype_step (c ∷ s))) b) ≡ Some (xs, q)) [
-      | true ↦ λ f. (let g : s ≡ q = cc in λ i. Some (append-nil xs i, g i))
-      | false ↦ λ f. absurd (none_some q f)
-    ] e
-
 prefixed_none : (o : Option (List Archetype × List ℕ)) → o ≡ prefixed [] o
 prefixed_none None = refl
 prefixed_none (Some r) = refl

@@ -6,11 +6,11 @@ use Rattle.std.specs.Str.{IsUtf8, IsCharBoundary}
 use Rattle.std.specs.Char.{IsScalar}
 use Rattle.std.proofs.lemmas.Str.{encodes-chars, encodes-append, encodes_same, chars-append, chars_past_char}
 use Rattle.std.proofs.lemmas.Str.{chars-nil, len_utf8_bounds, IsUtf8-encode, IsCharBoundary-at_seam}
+use Rattle.std.proofs.Math.Seq.{take-append_seam}
 use Rattle.wax_token.specs.Reads.{Span, utf8_len}
 use Rattle.wax_parse.specs.Accepted.{IsPlace, first_len}
 use Rattle.wax_parse.specs.inner.Reading.{HasSuffix, HasProperSuffix}
 use Rattle.wax_token.proofs.Bytes.{bytes_len}
-use Rattle.std.proofs.Math.Seq.{take-append_seam}
 
 -- where the characters of a text end in those of another, so do its bytes
 pub seam : (bs rest x : List ℕ) → IsUtf8 bs → IsUtf8 rest → chars bs ≡ x ++ chars rest
@@ -97,16 +97,6 @@ beyond_more p q r h k = (h.0 ++ k.0, h.1 ∙ ap (λ z. h.0 ++ z) k.1 ∙ sym (ap
 
 pub taken_beyond : (p q : List ℕ) → HasProperSuffix p q → HasSuffix p q
 taken_beyond p q h = (h.0, h.1)
-
-pub beyond_taken : (p q r : List ℕ) → HasSuffix p q → HasProperSuffix q r → HasProperSuffix p r
-beyond_taken p q r h k = (
-  h.0 ++ k.0,
-  h.1 ∙ ap (λ z. h.0 ++ z) k.1 ∙ sym (append_assoc h.0 k.0 r),
-  omega (arith, k.2, length-append h.0 k.0),
-)
-
-pub taken_shorter : (p q : List ℕ) → HasProperSuffix p q → length q < length p
-taken_shorter p q h = omega (arith, ap length h.1, length-append h.0 q, h.2)
 
 -- an end of the text that is as long
 pub same_end : (bs rest : List ℕ) → IsUtf8 bs → IsUtf8 rest → HasSuffix (chars bs) (chars rest)

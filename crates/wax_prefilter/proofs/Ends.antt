@@ -15,14 +15,6 @@ use Rattle.wax_prefilter.specs.inner.Pairs.{PairIsAt, NoPairBefore}
 use Rattle.wax_prefilter.proofs.MeantEdges.{bytes_end, plain_text}
 use Rattle.wax_prefilter.proofs.Pairs.{end_of_line, is_drop, stands_in_rest, stands_within}
 
--- the last byte of an end is that of the whole
-pub last_byte : (bytes x end : List ℕ) → bytes ≡ x ++ end → 1 ≤ length end
-    → get_or bytes (length bytes - 1) 0 ≡ get_or end (length end - 1) 0
-last_byte bytes x end e some =
-    let long : length bytes ≡ length x + length end = ap length e ∙ length-append x end in
-    ap (λ b. get_or b (length bytes - 1) 0) e ∙ ap (λ k. get_or (x ++ end) k 0) (omega (arith, long, some))
-    ∙ get_or-append-add x end (length end - 1) 0
-
 feed_inside : (bytes : List ℕ) (k : ℕ) → get_or bytes k 0 ≡ 10 → k < length bytes
 feed_inside [] k is = cc
 feed_inside (c ∷ bytes) zero is = omega arith
@@ -102,19 +94,6 @@ ends_with_bytes needle end bytes held utf8 is_end is (x, y, e, valid, (u, v, f, 
     let within : y ≡ encode_utf8_all u ++ end =
     bytes_end y end u held valid utf8 is_end (f ∙ ap (λ z. u ++ z) plain) in
     (x ++ encode_utf8_all u, e ∙ ap (λ z. x ++ z) within ∙ sym (append_assoc x (encode_utf8_all u) end))
-
--- the line feed comes before the end of all bytes
-pub feed_comes : (needles : List NeedleView) → ComesBefore feed needles
-feed_comes needles bytes ends =
-    let here : get_or (bytes ++ 10 ∷ []) (length bytes - 0) 0 ≡ 10 =
-    ap (λ k. get_or (bytes ++ 10 ∷ []) k 0) (omega arith) ∙ get_or-append-add bytes (10 ∷ []) 0 0 in (
-      omega arith,
-      record {
-        inside = omega (arith, length-append bytes (10 ∷ []));
-        first = here;
-        last = ap (λ k. get_or (bytes ++ 10 ∷ []) k 0) (omega arith) ∙ here;
-      },
-    )
 
 -- what comes before the end of a needle, comes before the end of all bytes that end with it
 pub needle_comes : (end : EndPair) (needle : NeedleView) (text held : List ℕ) → IsUtf8 text

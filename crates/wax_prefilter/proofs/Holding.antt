@@ -7,7 +7,7 @@ use Rattle.std.proofs.lemmas.List.Elements.{All-push}
 use Rattle.std.proofs.lemmas.Str.{chars-nil, chars_past_char}
 use Rattle.std.proofs.lemmas.List.{get_or_default, get_or_append_left, get_or-append-add}
 use Rattle.std.specs.List.{Any}
-use Rattle.wax_prefilter.proofs.MeantEdges.{first_meant, last_meant}
+use Rattle.wax_prefilter.proofs.MeantEdges.{last_meant}
 use Rattle.wax_prefilter.proofs.MeantPieces.{each_meant, regroup}
 use Rattle.wax_prefilter.specs.Facts.{ContainsAt, ContainsOne}
 use Rattle.wax_prefilter.specs.Known.{CanBeAfter, EachContainsOne, FactsOfMatches}
@@ -89,12 +89,6 @@ slash_begins after text h =
     rooted true h = h.0
     rooted false h = h
 
-holds_at_beginning : (needles : List (Bool × List ℕ)) (text x y : List ℕ) → text ≡ x ++ y
-    → ContainsOne Beginning needles x → ContainsOne Beginning needles text
-holds_at_beginning needles text x y e =
-    any_weaker (λ t. ContainsAt Beginning t x) (λ t. ContainsAt Beginning t text) needles
-    (λ t h. (h.0, h.1 ++ y, e ∙ ap (λ z. z ++ y) h.2 ∙ append_assoc h.0 h.1 y, h.3))
-
 holds_at_end : (needles : List (Bool × List ℕ)) (text x y : List ℕ) → text ≡ x ++ y
     → ContainsOne End needles y → ContainsOne End needles text
 holds_at_end needles text x y e = any_weaker (λ t. ContainsAt End t y) (λ t. ContainsAt End t text) needles
@@ -107,14 +101,6 @@ holds_anywhere needles text x y z e =
     (λ t h. (x ++ h.0, h.1, h.2 ++ z, e ∙ ap (λ w. x ++ (w ++ z)) h.3 ∙ regroup x h.0 h.1 h.2 z, h.4))
 
 -- ---- tokens one after another
-
-pub first_holds : (ts : List (Tree Span)) (t : Tree Span) (needles : List (Bool × List ℕ))
-    → slice_get ts 0 ≡ Some t
-    → EachContainsOne Beginning needles (Means t) → EachContainsOne Beginning needles (MeansEach (trees ts))
-first_holds ts t needles e known before after text alone h =
-    let r : (a : Bool) × (x : List ℕ) × (y : List ℕ) × (text ≡ x ++ y) × Means t false a x =
-    first_meant ts t e after text (subst (λ b. MeansEach (trees ts) b after text) alone h) in
-    holds_at_beginning needles text r.1 r.2 r.3 (known false r.0 r.1 refl r.4)
 
 pub last_holds : (ts : List (Tree Span)) (t : Tree Span) (needles : List (Bool × List ℕ))
     → slice_get ts (length ts - 1) ≡ Some t

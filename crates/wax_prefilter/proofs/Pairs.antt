@@ -59,16 +59,6 @@ pub end_of_line : (text x y : List ℕ) → text ≡ x ++ y → text ++ 10 ∷ [
 end_of_line text x y e =
     ap (λ w. w ++ 10 ∷ []) e ∙ append_assoc x y (10 ∷ []) ∙ ap (λ w. x ++ w) (sym (append-nil (y ++ 10 ∷ [])))
 
--- a byte of a text, and the line feed after the text
-pub stands_to_feed : (pair : Pair) (y : List ℕ) (k : ℕ) → k < length y → get_or y k 0 ≡ pair.first
-    → 10 ≡ pair.last → length y ≡ k + pair.distance
-    → PairIsAt pair (y ++ 10 ∷ []) k
-stands_to_feed pair y k some first last long = record {
-  inside = omega (arith, long, length-append y (10 ∷ []));
-  first = get_or_append_left y (10 ∷ []) 0 k some ∙ first;
-  last = ap (λ i. get_or (y ++ 10 ∷ []) i 0) (omega (arith, long)) ∙ get_or-append-add y (10 ∷ []) 0 0 ∙ last;
-}
-
 -- ---- several pairs
 
 pub more_left : (xs ys : List Pair) (text : List ℕ) → LineHasOne xs text → LineHasOne (xs ++ ys) text

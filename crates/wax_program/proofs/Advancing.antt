@@ -395,14 +395,6 @@ chars_few bs utf8 = (omega (arith, length-le-encodes (chars bs), same), omega (a
       (len_utf8_bounds c).1,
     )
 
--- a longer program
-pub reads_longer : (len most n old new : ℕ) → len < most → new ≤ old + len * (n + 1)
-    → new ≤ old + most * (n + 1)
-reads_longer len most n old new few h =
-    let a : len * (n + 1) ≤ most * (n + 1) =
-    mul-le-mul_right (n + 1) (let e : len ≤ most = omega (arith, few) in e) in
-    omega (arith, a, h)
-
 -- where no instruction is left, no text that goes on is accepted
 pub stays_done : (code : List Instruction) (start : ℕ) (text left rest : List ℕ) (c : ℕ) (p : Position)
     → left ≡ c ∷ rest → p.size ≡ length code → IsDone p → Stays code start text left p.pending

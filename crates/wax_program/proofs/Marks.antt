@@ -245,12 +245,3 @@ ends_of_range code k low high old new is range number = (
         inr (omega (arith, least, e.0), omega (arith, most, e.1)))
   ])),
 )
-
--- where no end stands, nothing is added
-pub ends_of_none : (code : List Instruction) (k : ℕ) (old : List ℕ)
-    → ((low high : ℕ) → slice_get code k ≡ Some (End low high) → ⊥)
-    → (number : ℕ) → Contains old number ↔ (Contains old number ⊎ IsEndAt code k number)
-ends_of_none code k old never number = (
-  (λ h. inl h),
-  (λ h. elim h [ inl was ↦ was | inr (low, high, at, least, most) ↦ absurd (never low high at) ]),
-)

@@ -10,25 +10,14 @@ use Rattle.wax_program.specs.Last.{IsLastName}
 use Rattle.wax_program.specs.Onward.{IsAhead, ahead_of}
 use Rattle.wax_program.proofs.Advancing.{chars_few}
 use Rattle.wax_query.proofs.Below.{Begins, GoesOn, path_begins}
+use Rattle.wax_query.proofs.Ends.{closed_name, not_same, open_append}
 use Rattle.wax_query.specs.Below.{IsBelow, IsPlainPath, ends_open}
 use Rattle.wax_query.specs.Components.{HasNoSlash}
 
 -- ---- how a text ends
-pub open_end : (x : List ℕ) (c : ℕ) (s : List ℕ) → ends_open (x ++ c ∷ s) ≡ ends_open (c ∷ s)
-open_end [] c s = refl
-open_end (d ∷ []) c s = refl
-open_end (d ∷ e ∷ x) c s = open_end (e ∷ x) c s
-
-not_same : (c d : ℕ) → c ≢ d → (c == d) ≡ false
-not_same c d ne = grind (arith, nat_tests)
-
-name_closed : (c : ℕ) (s : List ℕ) → HasNoSlash (c ∷ s) → ends_open (c ∷ s) ≡ false
-name_closed c [] h = not_same c 47 h.0
-name_closed c (d ∷ s) h = name_closed d s h.1
-
 open_after : (before name : List ℕ) → ends_open (before ++ 47 ∷ name) ≡ ends_open name
-open_after before [] = open_end before 47 []
-open_after before (c ∷ name) = open_end before 47 (c ∷ name)
+open_after before [] = open_append before 47 []
+open_after before (c ∷ name) = open_append before 47 (c ∷ name)
 
 pub last_open : (text name : List ℕ) → IsLastName text name → ends_open text ≡ ends_open name
 last_open text name (none, inl e) = ap ends_open e
@@ -57,7 +46,7 @@ ahead_inside text bytes utf8 last some =
     closed : (cs : List ℕ) → cs ≡ chars bytes → ends_open cs ≡ false
     closed [] e = absurd
         (no_bytes (subst (λ (z : List ℕ). length bytes ≤ 4 * length z) (sym e) (chars_few bytes utf8).1))
-    closed (c ∷ cs) e = name_closed c cs (subst HasNoSlash (sym e) last.0)
+    closed (c ∷ cs) e = closed_name (c ∷ cs) (λ e. (cc)) (subst HasNoSlash (sym e) last.0)
 
 -- a plain path ends with a name
 goes_closed : (c : ℕ) (s : List ℕ) → c ≢ 47 → GoesOn s → ends_open (c ∷ s) ≡ false
@@ -71,7 +60,7 @@ path_closed s h text = from s ((path_begins s).0 h)
   where
     from : (s : List ℕ) → Begins s → ends_open (text ++ s) ≡ false
     from [] h = absurd h
-    from (c ∷ s) h = open_end text c s ∙ goes_closed c s h.0 h.1
+    from (c ∷ s) h = open_append text c s ∙ goes_closed c s h.0 h.1
 
 -- ---- what is below a folder
 module _ (P : List ℕ → Type 0) (text : List ℕ) where

@@ -4,11 +4,10 @@ use Rattle.std.proofs.Common.{◌∙◌, subst}
 use Rattle.std.proofs.lemmas.List.{append_assoc}
 use Rattle.wax_token.specs.Cost.{program_length}
 use Rattle.wax_token.specs.Meaning.{Means, MeansSome}
-use Rattle.wax_token.specs.Reads.{Reads, Span}
+use Rattle.wax_token.specs.Reads.{Span}
 use Rattle.wax_token.specs.Syntax.{Tree, alternation}
 use Rattle.wax_token.specs.Words.{trees}
 use Rattle.wax_set.specs.Sets.{BranchMeans, MeansAt, MeansText}
-use Rattle.wax_set.specs.Expressions.{Spells}
 use Rattle.wax_set.specs.Patterns.{AreOversized, IsAnyOf, IsFirstRefused, IsOnly, NoSet, NumberMeans}
 use Rattle.wax_set.specs.Patterns.{OneMeans, SpellEach}
 use Rattle.wax_set.specs.declared.error.build_error.BuildError.{BuildError}
@@ -78,11 +77,6 @@ module _ {P : Type 0} (S : P → Tree Span → Type 0) where
   one_more [] (u ∷ ts) p t h k = absurd h
   one_more (q ∷ ps) [] p t h k = absurd h
   one_more (q ∷ ps) (u ∷ ts) p t h k = (h.0, one_more ps ts p t h.1 k)
-
--- the tree that an expression spells is the only one
-pub only_spelled : (e : List ℕ) (t : Tree Span) → Spells e t → ((u : Tree Span) → Reads e u → u ≡ t)
-    → IsOnly (Spells e) t
-only_spelled e t spells only = (spells, λ u h. only u h.0)
 
 -- the first of those that are left is taken
 pub one_taken : {P : Type 0} (before : List P) (p : P) (rest left all : List P) → left ≡ p ∷ rest →

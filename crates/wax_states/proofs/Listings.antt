@@ -30,7 +30,7 @@ use Rattle.wax_program.specs.Closed.{AreEndsAt, IsClosed, IsEndAt, ReadsEnd}
 use Rattle.wax_program.specs.declared.instruction.Instruction.TheVariants.{End}
 use Rattle.wax_program.specs.Machine.{mark}
 use Rattle.wax_program.proofs.Members.{added_keeps, added_only, has_added, members_none, members_set}
-use Rattle.wax_program.proofs.Members.{members_within, removed_fewer}
+use Rattle.wax_program.proofs.Members.{members_within}
 
 -- ---- lists
 slice_get_append : {X : Type 0} (xs ys : List X) (t : ℕ) → t < length xs
@@ -117,26 +117,6 @@ pub record RemovedBefore (was now : List Bool) (places : List ℕ) (i : ℕ) : T
   pub room : length now ≡ length was
   pub fewer : (k : ℕ) → HoldsPlace now k → HoldsPlace was k
   pub gone : (j k : ℕ) → j < i → get_or places j 0 ≡ k → ¬ (HoldsPlace now k)
-
-pub removed_none : (was : List Bool) (places : List ℕ) → RemovedBefore was was places 0
-removed_none was places =
-    record { room = refl; fewer = λ k h. h; gone = λ j k lt. absurd (omega (arith, lt)) }
-
-pub removed_one : (was now : List Bool) (places : List ℕ) (i : ℕ) → get_or places i 0 < length now
-    → RemovedBefore was now places i
-    → RemovedBefore was (set now (get_or places i 0) false) places (i + 1)
-removed_one was now places i inside r =
-    let at : ℕ = get_or places i 0 in
-    record {
-      room = length-set now at false ∙ r.room;
-      fewer = λ k h. r.fewer k (removed_fewer now at k h);
-      gone = λ j k lt e h. elim (cases_lt j i) [
-        | inl before ↦ r.gone j k before e (removed_fewer now at k h)
-        | inr past ↦ (let same : at ≡ k = ap (λ n. get_or places n 0) (omega (arith, lt, past)) ∙ e in
-            true≢false (sym h ∙ ap (λ x. get_or (set now at false) x false) (sym same)
-            ∙ get_or-set_same now at false false inside))
-      ];
-    }
 
 pub removed_all : (was now : List Bool) (places : List ℕ) (i : ℕ) → length places ≤ i
     → RemovedBefore was now places i → HasLost was places now

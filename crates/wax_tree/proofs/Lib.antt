@@ -14,7 +14,6 @@ pub mod Levelled
 pub mod Listing
 pub mod Locations
 pub mod Making
-pub mod Naming
 pub mod Reaching
 pub mod Resting
 pub mod Rules

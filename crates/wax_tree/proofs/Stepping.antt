@@ -37,7 +37,7 @@ use Rattle.wax_tree.specs.Walking.{located, scope_of, cursors_of, allowance}
 use Rattle.wax_tree.specs.Walking.{Rest, FirstShows, EnteredShows, LevelsShow, AtRest}
 use Rattle.wax_tree.specs.Walking.{PlainToCome, WereListed, steps_view, MovesOn}
 use Rattle.wax_tree.specs.Stepping.{StepIs, IsPopped}
-use Rattle.wax_tree.specs.Stepping.{listing_pending, IncreasesBy, IncreasesByNames, WeaklyDecreases}
+use Rattle.wax_tree.specs.Stepping.{listing_pending, IncreasesBy, WeaklyDecreases}
 use Rattle.wax_tree.specs.Stepping.{items_left, steps_left}
 use Rattle.wax_tree.proofs.Showing.{silent, in_range, from_last_end, follows_folder, child_counts}
 use Rattle.wax_tree.proofs.Resting.{comes_after, comes_rest, rest_pushed}
@@ -388,19 +388,9 @@ module _ {D C : Type 0} where
   saves_after old mid new GoesOn h k a = (omega arith, omega arith)
   saves_after old mid new Ends h k a = tt
 
-pub increases_by_names : {D C : Type 0} (names : ℕ) (old new : Steps D C) (r : Step)
-    → IncreasesBy 1 2 old r new
-    → IncreasesByNames names old r new
-increases_by_names names old new (Gives x) a = a
-increases_by_names names old new GoesOn a = (omega (arith, a.0), omega (arith, a.1))
-increases_by_names names old new Ends a = a
-
 append-nil : {A : Type 0} (xs : List A) → xs ++ [] ≡ xs
 append-nil [] = refl
 append-nil (x ∷ xs) = ap (λ ys. x ∷ ys) (append-nil xs)
-
-pub leads_none : (p : Pending Given) → ListsBetween p p
-leads_none p = ([], refl, sym (append-nil p.listed))
 
 listed_last : (paths : List (List ℕ)) (path : List ℕ) (f : Forest Given)
     → after_listing paths (lists path f) ≡ after_listing (paths ++ path ∷ []) f

@@ -16,11 +16,6 @@ begins_itself unknown = tt
 begins_itself (asks q c) = (c, refl, begins_itself c)
 begins_itself (yields x b a) = (b, a, refl, begins_itself b, begins_itself a)
 
-pub continued_asking : (calls : List DirectoryCall) (c d : Course) → continued (asking calls c) d
-    ≡ asking calls (continued c d)
-continued_asking [] c d = refl
-continued_asking (q ∷ calls) c d = ap (asks q) (continued_asking calls c d)
-
 pub asking_then : (calls more : List DirectoryCall) (c : Course) → asking calls (asking more c)
     ≡ asking (calls ++ more) c
 asking_then [] more c = refl

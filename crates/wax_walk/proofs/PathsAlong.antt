@@ -7,6 +7,7 @@ use Rattle.std.proofs.lemmas.Bool.{cases_Bool, false_from_ne_true}
 use Rattle.std.proofs.lemmas.Bool.Decides.{Decides-eqb}
 use Rattle.std.proofs.lemmas.List.Elements.{All-head, All-tail}
 use Rattle.wax_directory.specs.Shown.{IsPlain, join}
+use Rattle.wax_query.proofs.Ends.{open_append}
 use Rattle.wax_query.specs.Below.{ends_open}
 use Rattle.wax_walk.specs.NamedPaths.{texts_along, start_texts, PathsAreJoined}
 use Rattle.wax_walk.specs.Paths.{PathTexts, item_texts}
@@ -26,11 +27,6 @@ closed_end (c ∷ []) [] plain = absurd (plain.not_empty refl)
 closed_end (c ∷ []) (d ∷ x) plain = closed_plain (d ∷ x) plain
 closed_end (c ∷ d ∷ at) x plain = closed_end (d ∷ at) x plain
 
-open_after : (at : List ℕ) (c : ℕ) (x : List ℕ) → ends_open (at ++ c ∷ x) ≡ ends_open (c ∷ x)
-open_after [] c x = refl
-open_after (d ∷ []) c x = refl
-open_after (d ∷ e ∷ at) c x = open_after (e ∷ at) c x
-
 -- after a name, a further name needs a `/`
 join_twice : (at x y : List ℕ) → IsPlain x → join (join at x) y ≡ join at (x ++ 47 ∷ y)
 join_twice at x y plain = elim (cases_Bool (ends_open at)) [
@@ -38,7 +34,7 @@ join_twice at x y plain = elim (cases_Bool (ends_open at)) [
   | inr e ↦ rw (e, slashed) (append_assoc at (47 ∷ x) (47 ∷ y))
 ] where
   slashed : ends_open (at ++ 47 ∷ x) ≡ false
-  slashed = open_after at 47 x ∙ closed_end (47 ∷ []) x plain
+  slashed = open_append at 47 x ∙ closed_end (47 ∷ []) x plain
 
 -- a text along names
 along : List ℕ → List (List ℕ) → List ℕ

@@ -13,6 +13,7 @@ use Rattle.std.proofs.lemmas.Str.{IsUtf8-encode}
 use lib.Utf8.{encode}
 use Rattle.std.specs.Str.{IsCharBoundary, IsUtf8}
 use Rattle.wax_directory.specs.Shown.{join}
+use Rattle.wax_query.proofs.Ends.{open_append}
 use Rattle.wax_query.specs.Below.{ends_open}
 use Rattle.wax_walk.specs.inner.Shared.{IsShared}
 
@@ -29,12 +30,6 @@ tail_utf8 false x u = IsUtf8-append (47 ∷ []) x (IsUtf8-encode 47 refl) u
 join_tail : (at x : List ℕ) (b : Bool) → ends_open at ≡ b → join at x ≡ at ++ tail_of b x
 join_tail at x true e = ap (λ v. cond v (at ++ x) (at ++ 47 ∷ x)) e
 join_tail at x false e = ap (λ v. cond v (at ++ x) (at ++ 47 ∷ x)) e
-
--- an end that isn't empty decides whether a `/` is needed
-open_end : (a c : List ℕ) (d : ℕ) → ends_open (a ++ d ∷ c) ≡ ends_open (d ∷ c)
-open_end [] c d = refl
-open_end (e ∷ []) c d = refl
-open_end (e ∷ f ∷ a) c d = open_end (f ∷ a) c d
 
 -- a place between characters is one in a longer text
 extends : (p t : List ℕ) (i : ℕ) → IsUtf8 t → IsCharBoundary p i → IsCharBoundary (p ++ t) i
@@ -114,7 +109,7 @@ shared_candidate path root (c ∷ cs) name start shared text some =
     let whole : path ≡ take start path ++ c ∷ cs =
     sym (take-append-drop start path) ∙ ap (λ v. take start path ++ v) shared.ends in
     let same : ends_open (c ∷ cs) ≡ ends_open path =
-    sym (open_end (take start path) cs c) ∙ sym (ap ends_open whole) in record {
+    sym (open_append (take start path) c cs) ∙ sym (ap ends_open whole) in record {
       begins = begins.0;
       root_ends = begins.1;
       ends =

@@ -96,12 +96,12 @@ impl Sieve {
             return Ok(());
         };
         self.take_line(line_writer, end)?;
-        self.take_after(line_writer, after)
+        self.take_lines(line_writer, after)
     }
 
-    // Takes bytes at the beginning of a line. If everything before the last line feed is UTF-8, it
-    // is checked in one pass, and otherwise line by line.
-    fn take_after<L: LineWriter>(
+    // Takes whole lines and the bytes that begin the next one. If everything before the last line
+    // feed is UTF-8, it is checked in one pass, and otherwise line by line.
+    fn take_lines<L: LineWriter>(
         &mut self,
         line_writer: &mut L,
         bytes: &[u8],

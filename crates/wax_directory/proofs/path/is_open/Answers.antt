@@ -1,4 +1,4 @@
-use Rattle.wax_directory.proofs.PathNames.{open_some}
+use Rattle.wax_query.proofs.Ends.{open_some}
 use Rattle.wax_directory.proofs.path.is_open.Goals as goal
 
 pub returns-in-Some : goal.returns-in-Some

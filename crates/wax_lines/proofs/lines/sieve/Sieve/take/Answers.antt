@@ -19,13 +19,13 @@ pub returns-clause-err : goal.returns-clause-err
 returns-clause-err g c =
     let (cut, _) = c.in-Some.ensures in
     let end = c.in-Some.end.now in
-    on_err_weaker c.take_after.result (λ (part, rest, parts, more). (
+    on_err_weaker c.take_lines.result (λ (part, rest, parts, more). (
       (end ++ 10 ∷ []) ++ part,
       rest,
       cut ∙ ap (λ z. end ++ 10 ∷ z) parts ∙ simp append_assoc,
       TakesIn-then (g.L.LineWriter.writes (g.L.LineWriter.view c.args.line_writer.now)) c.args.self.now
-          c.take_line.new.self c.take_after.new.self
+          c.take_line.new.self c.take_lines.new.self
           (end ++ 10 ∷ []) part c.in_ok-take_line.ensures.ok
-          (subst (λ v. TakesIn (g.L.LineWriter.writes v) part c.take_line.new.self c.take_after.new.self)
+          (subst (λ v. TakesIn (g.L.LineWriter.writes v) part c.take_line.new.self c.take_lines.new.self)
           c.take_line.ensures.same more),
-    )) c.take_after.ensures.err
+    )) c.take_lines.ensures.err

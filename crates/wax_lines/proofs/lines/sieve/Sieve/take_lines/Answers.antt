@@ -1,7 +1,7 @@
 use Rattle.std.proofs.Common.{[], ◌∷◌, ◌++◌, refl, ap, ◌∙◌, sym, append_assoc}
 use Rattle.wax_lines.specs.declared.lines.sieve.Sieve.{Sieve}
 use Rattle.wax_lines.proofs.Sifting.{TakesIn-none, TakesIn-still, on_err}
-use Rattle.wax_lines.proofs.lines.sieve.Sieve.take_after.Goals as goal
+use Rattle.wax_lines.proofs.lines.sieve.Sieve.take_lines.Goals as goal
 
 pub returns-in_err-take_text-clause-err : goal.returns-in_err-take_text-clause-err
 returns-in_err-take_text-clause-err g c =
