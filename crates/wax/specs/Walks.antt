@@ -85,6 +85,7 @@ pub use Rattle.wax_walk.specs.Left.{left_after, left_of, opened_items}
 pub use Rattle.wax_walk.specs.Known.{KeepsKnown, KnownItem, KnownOutcome, StaysKnown}
 pub use Rattle.wax_walk.specs.Laws.{closure_cancelling, closure_telling, nothing_known, ruled_cancelling}
 pub use Rattle.wax_walk.specs.Laws.{ruled_telling, selected_cancelling, selected_telling}
+pub use Rattle.wax_walk.specs.Paths.{PathTexts, item_texts}
 pub use Rattle.wax_walk.specs.Pruned.{Opening, all_folders, selected_view, these_folders}
 pub use Rattle.wax_walk.specs.Ruled.{ruled_view}
 pub use Rattle.wax_walk.specs.Said.{RuleStep, mark_of}

@@ -26,5 +26,5 @@ pub use wax_tree::{
 };
 pub use wax_walk::{
     Candidate, Entry, EntryResidue, Exclude, Excluding, FaultKind, FileIterator, FilterEntry,
-    Select, Selecting, Selection, TreeEntry, WalkError, WalkErrorKind,
+    Select, Selecting, Selection, TreeEntry, WalkError, WalkErrorKind, WalkedPath,
 };
