@@ -146,6 +146,7 @@ def _loaded(library: ctypes.CDLL, keeps_lock: bool) -> ctypes.CDLL:
         ("wax_glob_filter", number, [handle, text, size, *output]),
         ("wax_glob_captures", number, [handle, text, size, handle, size, sizes, size, sizes]),
         ("wax_glob_facts", number, [handle, facts]),
+        ("wax_glob_expression", number, [handle, *output]),
         ("wax_glob_text", number, [handle, *output]),
         ("wax_glob_partition", number, [handle, *output, handles]),
         ("wax_glob_free", None, [handle]),
@@ -400,12 +401,13 @@ class Matched:
 class Glob(_MatcherBase):
     """A glob, built from an expression.
 
-    `expression` is this expression. It is None for the rest that `partition` returns.
+    `expression` is this expression.
 
     Raises `BuildError` if the expression can't be built, `MemoryError` if an allocation fails.
     """
 
-    expression: Optional[str] = None
+    expression = ""
+    _is_rest = False  # (of a partition, so that its expression alone may mean something else)
     _most_captures = 0
     _refused = staticmethod(_raise)  # (the extension calls it)
 
@@ -508,13 +510,13 @@ class Glob(_MatcherBase):
         """Returns the prefix with which each match begins, and a glob of the rest, or None if there is no rest.
 
         The rest matches what this glob matches after the prefix, and after a `/` unless the prefix is empty or ends
-        with one. It has no expression of its own.
+        with one. Its `expression` is the rest of this one, without flags that come before it.
 
         Raises `MemoryError` if an allocation fails.
 
             >>> prefix, rest = Glob("src/{a/*.rs}").partition()
-            >>> prefix, rest.is_match("b.rs")
-            ('src/a/', True)
+            >>> prefix, rest.is_match("b.rs"), rest.expression
+            ('src/a/', True, '*.rs')
         """
         handle = ctypes.c_void_p()
         out = [ctypes.byref(handle)]
@@ -523,11 +525,12 @@ class Glob(_MatcherBase):
             return prefix, None
         rest = Glob.__new__(Glob)
         rest._hold(handle.value, *_GLOB_CALLS)
-        rest._most_captures = self._most_captures
+        rest._most_captures, rest._is_rest = self._most_captures, True
+        rest.expression = _written(_using.wax_glob_expression, rest._handle, room=self._most_captures)[1]
         return prefix, rest
 
     def _expressions(self) -> Sequence[Optional[str]]:
-        return [self.expression]
+        return [None if self._is_rest else self.expression]
 
     def _prefixes(self) -> List[str]:
         return [self.partition()[0]]

@@ -141,7 +141,7 @@ static void captures(void) {
 }
 
 static void parts(void) {
-  char prefix[20];
+  char prefix[20], text[20];
   size_t written = 77;
   wax_span span;
   wax_glob *glob = NULL, *rest = (wax_glob *)prefix;
@@ -153,6 +153,11 @@ static void parts(void) {
   CHECK(wax_glob_partition(glob, prefix, 3, &written, &rest) == -21 && written == 4 && rest == NULL && prefix[0] == '#');
   CHECK(wax_glob_partition(glob, prefix, 4, &written, &rest) == 0 && written == 4 && rest != NULL);
   CHECK(memcmp(prefix, "src/#", 5) == 0);
+  memset(text, '#', sizeof text);
+  CHECK(wax_glob_expression(rest, text, 7, &written) == -21 && written == 8 && text[0] == '#');
+  CHECK(wax_glob_expression(rest, text, 8, &written) == 0 && written == 8 && memcmp(text, "*/mod.rs#", 9) == 0);
+  CHECK(wax_glob_expression(glob, text, sizeof text, &written) == 0 && written == 12);
+  CHECK(memcmp(text, "src/*/mod.rs#", 13) == 0);
   CHECK(wax_glob_text(glob, prefix, sizeof prefix, &written) == 0 && written == 0 && prefix[0] == 's');
   CHECK(wax_glob_is_match(rest, TEXT("a/mod.rs")) == 1 && wax_glob_is_match(rest, TEXT("src/a/mod.rs")) == 0);
   CHECK(wax_glob_is_match(glob, TEXT("src/a/mod.rs")) == 1);
@@ -281,6 +286,7 @@ static int calls(void) {
     status = wax_glob_text(glob, output, sizeof output, &written);
     none += status == -10;
     CHECK((status == 0 || status == -10) && written == 0);
+    CHECK(wax_glob_expression(glob, output, sizeof output, &written) == 0 && written == strlen(expression));
     status = wax_glob_partition(glob, output, sizeof output, &written, &rest);
     none += status == -10;
     CHECK(status == 0 ? written == 3 && rest != NULL : status == -10 && written == 0 && rest == NULL);

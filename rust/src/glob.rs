@@ -61,22 +61,22 @@ impl<'t> Glob<'t> {
     /// Splits the glob into the prefix with which every match begins, and a glob that matches what comes after it. The second
     /// is `None` if the prefix is the only match.
     ///
-    /// The rest prints the whole expression, too.
-    ///
     /// ```
     /// use std::path::Path;
     /// use wax::{Glob, Program};
     ///
     /// let (prefix, rest) = Glob::new("src/net/*.rs").unwrap().partition();
     /// assert_eq!(prefix, Path::new("src/net/"));
-    /// assert!(rest.unwrap().is_match("tcp.rs"));
+    /// let rest = rest.unwrap();
+    /// assert!(rest.is_match("tcp.rs"));
+    /// assert_eq!(rest.to_string(), "*.rs");
     /// ```
     pub fn partition(self) -> (PathBuf, Option<Self>) {
         let (prefix, rest) = self.handle.partition();
         let rest = rest.map(|handle| Glob {
+            expression: handle.expression().into(),
             is_rest: true,
             handle: Arc::new(handle),
-            ..self
         });
         (prefix.into(), rest)
     }

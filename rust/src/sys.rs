@@ -67,6 +67,12 @@ mod c {
             count: *mut usize,
         ) -> i32;
         pub fn wax_glob_facts(glob: *const Glob, facts: *mut Facts) -> i32;
+        pub fn wax_glob_expression(
+            glob: *const Glob,
+            output: *mut u8,
+            room: usize,
+            written: *mut usize,
+        ) -> i32;
         pub fn wax_glob_text(
             glob: *const Glob,
             output: *mut u8,
@@ -216,6 +222,15 @@ impl Handle<Glob> {
         // SAFETY: the call may write to `facts`, and no other call uses the handle.
         decided(self.with(|glob| unsafe { c::wax_glob_facts(glob, &mut facts) }));
         facts
+    }
+
+    /// Returns the expression, or the rest of it for the rest of a partition.
+    pub fn expression(&self) -> String {
+        let (_, expression) = written(|output, room, written| {
+            // SAFETY: the output has this length, and no other call uses the handle.
+            self.with(|glob| unsafe { c::wax_glob_expression(glob, output, room, written) })
+        });
+        expression
     }
 
     /// Returns the only text that matches, if the expression is written as one.

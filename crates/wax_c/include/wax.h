@@ -101,6 +101,11 @@ typedef struct {
 /* Writes what is known of the glob to `facts`. It has no errors. */
 int32_t wax_glob_facts(const wax_glob *glob, wax_facts *facts);
 
+/* Writes the expression of the glob to the beginning of the output, and the number of its bytes to `written`. For the rest
+ * that wax_glob_partition makes, this is the rest of the expression. If the output is too small (21), it is unchanged and
+ * `written` is how many bytes are needed. It has no other error. */
+int32_t wax_glob_expression(const wax_glob *glob, char *output, size_t output_length, size_t *written);
+
 /* If the expression is written as one text, returns 1 and writes this text, the only one that the glob matches, to the
  * beginning of the output, and the number of its bytes to `written`. Otherwise returns 0, and `written` is 0. Errors
  * leave the output and `written` as for wax_filter. */

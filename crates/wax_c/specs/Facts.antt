@@ -1,12 +1,13 @@
 -- What calls return of a glob by itself.
 use Rattle.std.specs.Prelude.{◌≡◌, ◌≤◌, ◌++◌, ◌∷◌, ◌-◌, ◌^◌, ℕ, ℤ, pos, Bool, true, false, List, chars}
-use Rattle.std.specs.Prelude.{Option, Some, None, Result, Ok, Err}
+use Rattle.std.specs.Prelude.{Option, Some, None, Result, Ok, Err, IfErr, IsUtf8}
 use Rattle.wax.specs.GlobView.{GlobView, IsMeant}
 use Rattle.wax.specs.Queries.{Always, AtMost, Bare, BeginsWithSlash, Bounds, Depth, Never, Sometimes, Text}
 use Rattle.wax.specs.Queries.{Variant, When, component_total, exhaustive, root}
-use Rattle.wax_c.specs.Numbers.{answer_number}
+use Rattle.wax_c.specs.Numbers.{answer_number, status_number}
 use Rattle.wax_c.specs.Outcomes.{Fills, KeepsAfterError, Output}
 use Rattle.wax_c.specs.declared.error.CallError.{CallError}
+use Rattle.wax_c.specs.declared.error.CallError.TheVariants.{NoRoom}
 use Rattle.wax_c.specs.declared.facts.WaxFacts.{WaxFacts}
 
 -- a bound, or the greatest number of 64 bits if there is none
@@ -35,6 +36,22 @@ pub record AreFacts (g : GlobView) (facts : WaxFacts) : Type 0 where
   pub rooted : root g.tree ≡ Always → (path : List ℕ) → IsMeant g path → BeginsWithSlash path
   pub below : exhaustive g.tree ≡ Always → (path name : List ℕ) → IsMeant g path
       → IsMeant g (path ++ 47 ∷ name)
+
+-- the bytes of the glob's expression
+abbrev pub IsExpression : GlobView → List ℕ → Type 0
+IsExpression g bytes = IsUtf8 bytes × (chars bytes ≡ g.expression)
+
+-- the output has the expression; or it is too small, and as before
+abbrev pub HasExpression : GlobView → List ℕ → Output → Result (Unit {0}) CallError → Type 0
+HasExpression g before output outcome =
+    Fills (IsExpression g) before output outcome
+    × IfErr outcome (λ error. (error ≡ NoRoom) × (output.bytes ≡ before))
+
+-- the number is that of such an outcome
+abbrev pub HasExpressionAs : GlobView → List ℕ → Output → ℤ → Type 0
+HasExpressionAs g before output number =
+    (outcome : Result (Unit {0}) CallError) × HasExpression g before output outcome
+    × (number ≡ status_number outcome)
 
 -- The bytes of the only text that the glob matches, as its tokens show.
 pub record IsOnlyText (g : GlobView) (bytes : List ℕ) : Type 0 where

@@ -1,12 +1,13 @@
 //! What is known of all paths that a glob matches.
 ghost use Rattle.std.specs.Prelude.{◌≡◌, pos};
 ghost use Rattle.wax.specs.GlobView.{GlobView};
-ghost use Rattle.wax_c.specs.Facts.{AreFacts, HasText, HasTextAs, bound_or_greatest, when_number};
+ghost use Rattle.wax_c.specs.Facts.{AreFacts, HasExpression, HasExpressionAs, HasText, HasTextAs};
+ghost use Rattle.wax_c.specs.Facts.{bound_or_greatest, when_number};
 ghost use Rattle.wax_c.specs.GlobOwned.{glob_at};
 ghost use Rattle.wax_c.specs.Outcomes.{KeepsAfterError};
 ghost use types.Logic.{sem};
 
-use crate::error::{CallError, answer_of};
+use crate::error::{CallError, answer_of, status_of};
 use crate::handle::HeldGlob;
 use crate::output::put;
 use std::alloc::Global;
@@ -36,6 +37,30 @@ pub unsafe extern "C" fn wax_glob_facts(alloc: Global, glob: *const u8, facts: &
     ensures facts { AreFacts held facts.new × (result ≡ pos 0) }
 {
     facts_held(alloc, &*(glob as *const HeldGlob), facts)
+}
+
+/// Writes the expression from which the glob was built to the beginning of the output, and the number
+/// of its bytes to `written`. Returns 0. For the rest of a glob, it is the rest of the expression. It
+/// doesn't allocate.
+///
+/// # Errors
+///
+/// Returns -21 if the output is too small; `written` is how many bytes are needed then, and the output
+/// is unchanged.
+#[unsafe(no_mangle)]
+pub unsafe extern "C" fn wax_glob_expression(
+    alloc: Global,
+    glob: *const u8,
+    output: &mut [u8],
+    written: &mut usize,
+) -> i32
+    ghost held: { GlobView }
+    requires* { sem 𝓛 (glob_at alloc glob held) }
+    ensures* back { sem 𝓛 (glob_at alloc glob held) }
+    ensures expression { HasExpressionAs held output.old
+        (record { bytes = output.new; written = written.new }) result }
+{
+    expression_held(alloc, &*(glob as *const HeldGlob), output, written)
 }
 
 /// Writes the only text that the glob matches to the beginning of the output, and the number of its
@@ -94,6 +119,24 @@ fn number_of_when(when: When) -> i32
         When::Sometimes => 1,
         When::Always => 2,
     }
+}
+
+fn expression_held(_alloc: Global, held: &HeldGlob, output: &mut [u8], written: &mut usize) -> i32
+    ensures { HasExpressionAs held.now.matcher output.old
+        (record { bytes = output.new; written = written.new }) result }
+{
+    status_of(&write_expression(held.matcher.glob(), output, written))
+}
+
+fn write_expression(
+    glob: &Glob<'_>,
+    output: &mut [u8],
+    written: &mut usize,
+) -> Result<(), CallError>
+    ensures { HasExpression glob.now output.old
+        (record { bytes = output.new; written = written.new }) result }
+{
+    put(glob.expression().as_bytes(), output, written)
 }
 
 fn text_held(alloc: Global, held: &HeldGlob, output: &mut [u8], written: &mut usize) -> i32

@@ -19,7 +19,7 @@ mod texts;
 
 pub use captures::wax_glob_captures;
 pub use error::CallError;
-pub use facts::{WaxFacts, wax_glob_facts, wax_glob_text};
+pub use facts::{WaxFacts, wax_glob_expression, wax_glob_facts, wax_glob_text};
 pub use globs::{
     WaxSpan, wax_glob_filter, wax_glob_free, wax_glob_goes_on, wax_glob_is_match, wax_glob_new,
 };
