@@ -43,7 +43,7 @@ __all__ = [
     "walk",
 ]
 
-# how many paths a filter passes in one call
+# how many paths a filter passes in one call of ctypes
 _CHUNK = 4096
 
 _MESSAGES = {
@@ -209,20 +209,17 @@ def _written(function: Any, *arguments: Any, room: int, out: Sequence[Any] = ())
     return status, ctypes.string_at(output, written.value).decode()
 
 
-def _filtered(function: Any, handle: Any, keeps: Callable[[str], bool], paths: List[str]) -> List[str]:
-    """Returns the paths that a call keeps of lines, or `keeps` of single paths if one of them contains a line feed."""
-    text = "\n".join(paths) + "\n"
-    if text.count("\n") != len(paths):
-        return [path for path in paths if keeps(path)]
-    lines = _bytes(text)
-    return _written(function, handle, lines, len(lines), room=len(lines))[1].split("\n")[:-1]
-
-
-def _chunks(paths: Iterable[str]) -> Iterator[List[str]]:
-    """Yields the paths in lists that a filter passes in one call."""
+def _filtered(function: Any, handle: Any, keeps: Callable[[str], bool], paths: Iterable[str]) -> Iterator[str]:
+    """Yields the paths that a call keeps of lines, many in one call, or those that `keeps` keeps if one of these contains
+    a line feed. By ctypes this takes less time than a call for each path."""
     paths = iter(paths)
     while chunk := list(itertools.islice(paths, _CHUNK)):
-        yield chunk
+        text = "\n".join(chunk) + "\n"
+        if text.count("\n") != len(chunk):
+            yield from filter(keeps, chunk)
+        else:
+            lines = _bytes(text)
+            yield from _written(function, handle, lines, len(lines), room=len(lines))[1].split("\n")[:-1]
 
 
 def is_match(expression: str, path: str) -> bool:
@@ -448,15 +445,13 @@ class Glob(_MatcherBase):
         return Matched(path, tuple(parts))
 
     def filter(self, paths: Iterable[str]) -> Iterator[str]:
-        """Yields the paths that the glob matches, in order.
-
-        Paths are passed to the library 4,096 at a time; if one of these contains a line feed, they are passed one by
-        one. For 100,000 paths and four patterns this took 0.3 to 0.9 of the time that `re` took.
+        """Returns an iterator over the paths that the glob matches, in order.
 
         Raises `MemoryError` if an allocation fails.
         """
-        for chunk in _chunks(paths):
-            yield from _filtered(_using.wax_glob_filter, self._handle, self.is_match, chunk)
+        if _extension:
+            return filter(super().is_match, paths)
+        return _filtered(_using.wax_glob_filter, self._handle, super().is_match, paths)
 
     def _facts(self) -> _Facts:
         facts = _Facts()
@@ -582,14 +577,14 @@ class GlobSet(_MatcherBase):
         return which[: count.value]
 
     def filter(self, paths: Iterable[str]) -> Iterator[str]:
-        """Returns an iterator over the paths that one of the expressions matches, in order, each by `is_match`.
+        """Returns an iterator over the paths that one of the expressions matches, in order.
 
         Raises `MemoryError` if an allocation fails.
 
             >>> list(GlobSet(["src/**", "*.md"]).filter(["src/lib.rs", "LICENSE", "README.md"]))
             ['src/lib.rs', 'README.md']
         """
-        return filter(self.is_match, paths)
+        return filter(super().is_match, paths)
 
     def _expressions(self) -> Sequence[Optional[str]]:
         return self.expressions
@@ -617,18 +612,17 @@ class IgnoreList(_IgnoreBase):
         self._hold(handle.value, *_IGNORE_CALLS)
 
     def filter(self, paths: Iterable[str]) -> Iterator[str]:
-        """Yields the paths that the list doesn't ignore, in order, as `Glob.filter` does for those that match.
+        """Returns an iterator over the paths that the list doesn't ignore, in order.
 
         Raises `MemoryError` if an allocation fails.
 
             >>> list(IgnoreList("**/*.log\\n!keep.log\\n").filter(["a/b.log", "src/lib.rs", "keep.log"]))
             ['src/lib.rs', 'keep.log']
         """
-        for chunk in _chunks(paths):
-            yield from _filtered(_using.wax_ignore_filter, self._handle, self._keeps, chunk)
-
-    def _keeps(self, path: str) -> bool:
-        return not self.is_ignored(path)
+        is_ignored = super().is_ignored
+        if _extension:
+            return itertools.filterfalse(is_ignored, paths)
+        return _filtered(_using.wax_ignore_filter, self._handle, lambda path: not is_ignored(path), paths)
 
 
 class Entry:
