@@ -17,7 +17,7 @@ fn main(rt: HostRuntime) -> ExitCode {
     };
     let mut input = Counted::new(rt.stdin());
     let mut output = Counted::new(rt.stdout());
-    let mut faults = rt.stderr();
+    let mut faults = Counted::new(rt.stderr());
     let folders = Folders::new(rt);
     let status = run_globs(
         alloc,

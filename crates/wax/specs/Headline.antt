@@ -26,11 +26,16 @@ pub use Rattle.wax_tree.specs.Whole.{is_in, whole_at}
 -- ---- Walks of whatever directory: what was answered is what some tree answers, call by call, and the items
 -- are the plain walk of that tree (`EntriesAnswered`, of `entries`), or what a glob's walk with filters keeps
 -- of it (`KeepsTold`, of `collect_excluding` and `collect`); or both begin so, and one error cuts them short.
+-- Both state which folders were opened or couldn't be listed (`opened_folders`): those that the plain walk of
+-- that tree lists; or exactly those of these that a walk may open (`MayOpen`) which opens only folders below
+-- which something is matched (`ListsBy`, by matches).
 -- The directory needn't keep the law: it may be the real file system, change meanwhile, or hold a name twice.
 pub use Rattle.wax_directory.specs.History.{Answer}
+pub use Rattle.wax_exclude.specs.Pruned.{ListsBy, MayOpen}
 pub use Rattle.wax_exclude.specs.Told.{KeepsAnswered, KeepsTold}
 pub use Rattle.wax_tree.specs.Courses.{along_course, plain_course}
 pub use Rattle.wax_tree.specs.Whole.{EntriesAnswered, whole, yielded}
+pub use Rattle.wax_walk.specs.Opened.{opened_folders}
 -- ---- Matches (`Glob::is_match`): exactly the texts in the meaning of the tree (`IsMeant`, by `Means`).
 -- `is_match_counted` visits at most `program_length` instructions for each character, and as many once more
 -- at the end. `HasCaptures` defines what `matched` captures.

@@ -31,12 +31,14 @@ pub use Rattle.wax_exclude.specs.Law.{GivesLeast, GivesWanted, LeastWantsNothing
 pub use Rattle.wax_exclude.specs.Law.{WalkLaw, WantsNothing}
 pub use Rattle.wax_exclude.specs.Leading.{leading_of}
 pub use Rattle.wax_exclude.specs.Marks.{covered_mark, glob_mark, not_mark}
-pub use Rattle.wax_exclude.specs.Told.{Answering, FeedsAnswered, IsTold, KeepsAnswered, KeepsTold}
-pub use Rattle.wax_exclude.specs.Told.{LeavesAnswered, ToldInPart, request_kept, ruled_kept, walk_calls}
+pub use Rattle.wax_exclude.specs.Told.{Answering, AreWanted, FeedsAnswered, IsTold, KeepsAnswered, KeepsTold}
+pub use Rattle.wax_exclude.specs.Told.{LeavesAnswered, OpensListed, ToldInPart, request_kept, ruled_kept}
+pub use Rattle.wax_exclude.specs.Told.{walk_calls}
 pub use Rattle.wax_exclude.specs.TreeRequests.{WantsUnfiltered, is_unfiltered, tree_request}
 pub use Rattle.wax_exclude.specs.Prefix.{HasEmptyName, PrefixSplitsInto}
 pub use Rattle.wax_exclude.specs.Premises.{BeginsWith, CanWalk, IsUnmeant, IsWellNamed}
-pub use Rattle.wax_exclude.specs.GlobRequests.{AreRulesOf, ComesExcluding, ComesWanted, IsRuleOf, KeepsWanted}
+pub use Rattle.wax_exclude.specs.GlobRequests.{AreOpened, AreRulesOf, ComesExcluding, ComesWanted, IsRuleOf}
+pub use Rattle.wax_exclude.specs.GlobRequests.{KeepsWanted}
 pub use Rattle.wax_exclude.specs.GlobRequests.{CanBegin, GlobRequest, goes, is_beyond, request_due}
 pub use Rattle.wax_exclude.specs.GlobRequests.{request_excluding, request_pending, request_walk, walk_for}
 pub use Rattle.wax_exclude.specs.Pruned.{ListsBy, MayOpen, MeansLonger, Pruning, by_components, by_matches}
@@ -85,6 +87,7 @@ pub use Rattle.wax_walk.specs.Left.{left_after, left_of, opened_items}
 pub use Rattle.wax_walk.specs.Known.{KeepsKnown, KnownItem, KnownOutcome, StaysKnown}
 pub use Rattle.wax_walk.specs.Laws.{closure_cancelling, closure_telling, nothing_known, ruled_cancelling}
 pub use Rattle.wax_walk.specs.Laws.{ruled_telling, selected_cancelling, selected_telling}
+pub use Rattle.wax_walk.specs.Opened.{opened_by, opened_folders}
 pub use Rattle.wax_walk.specs.Paths.{PathTexts, item_texts}
 pub use Rattle.wax_walk.specs.Pruned.{Opening, all_folders, selected_view, these_folders}
 pub use Rattle.wax_walk.specs.Ruled.{ruled_view}

@@ -1,6 +1,6 @@
 -- What an option adds to the filters.
-use Rattle.std.proofs.Common.{◌≡◌, ℕ, List, [], ◌∷◌, ◌++◌, map, ap, ◌∙◌}
-use Rattle.std.specs.Prelude.{Result, Ok, Err, OnOk, chars}
+use Rattle.std.proofs.Common.{◌≡◌, ℕ, List, [], ◌∷◌, ◌++◌, map, ap, subst, sym, ◌∙◌}
+use Rattle.std.specs.Prelude.{Result, Ok, Err, IfErr, IsErrAnd, OnOk, chars}
 use Rattle.std.proofs.lemmas.List.{map-append}
 use Rattle.wax.specs.Exclusions.{IsNotRule}
 use Rattle.wax.specs.Patterns.{Spells}
@@ -18,6 +18,12 @@ use Rattle.wax_commands.specs.Walked.{AreAskedBy, IsNotOf}
 map_on_ok : {A E P Q : Type 0} → (P → Q) → (r : Result A E) → OnOk r P → OnOk r Q
 map_on_ok f (Ok a) h = f h
 map_on_ok f (Err e) h = tt
+
+-- an error that is passed on
+pub passed_on : {T E : Type 0} (r : Result T E) (e : E) (P : E → Type 0) → IsErrAnd r (λ y. y ≡ e) → P e
+    → IfErr r P
+passed_on (Ok t) e P is h = absurd is
+passed_on (Err y) e P is h = subst P (sym is) h
 
 -- ---- one more
 

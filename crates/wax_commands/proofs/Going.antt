@@ -1,5 +1,6 @@
 -- What a walk writes, from the builds on.
-use Rattle.std.proofs.Common.{◌≡◌, ℕ, ◌-◌, ◌^◌, Bool, true, false, ◌++◌, List, [], refl, sym, ap, subst, ◌∙◌}
+use Rattle.std.proofs.Common.{◌≡◌, ◌≢◌, ◌⊎◌, ℕ, ◌-◌, ◌^◌, Bool, true, false, ◌++◌, List, [], refl, sym, ap}
+use Rattle.std.proofs.Common.{arith, inl, inr, subst, ◌∙◌}
 use Rattle.std.specs.Prelude.{Option, chars}
 use Rattle.wax.specs.Headline.{IsGlob}
 use Rattle.wax.specs.GlobView.{GlobView}
@@ -21,12 +22,15 @@ use Rattle.wax_walk.specs.Forest.{preorder}
 use Rattle.wax_command_line.specs.Candidates.{candidate_lines}
 use Rattle.wax_commands.specs.Files.{FileAnswers}
 use Rattle.wax_command_line.specs.Commands.{SayEach, WalkOption, WalkRequest}
-use Rattle.wax_commands.specs.Refused.{IsRefused}
-use Rattle.wax_commands.specs.Walked.{KeepsAllWanted}
+use Rattle.wax_lines.specs.declared.counted.Counted.{Counted}
+use Rattle.wax_lines.specs.declared.lines.LinesError.{LinesError}
+use Rattle.wax_lines.specs.declared.lines.LinesError.TheVariants.{Read, Write, Memory}
+use Rattle.wax_commands.specs.Streams.{HasFailedWrite, SaysNoMemory, Stream, Writers, stream_of, writers}
+use Rattle.wax_commands.specs.Walked.{EndsInNoMemory, KeepsAllWanted, WroteStart}
 use Rattle.wax.specs.Walks.{any_mark}
 use Rattle.wax.proofs.Kept.{gave_within}
 use Rattle.wax_commands.specs.Walked.{AreAskedByAll, AreBuilt, Environment, HasRefused, OnWalk, WalkEnds}
-use Rattle.wax_commands.specs.Walked.{WalkGlobs, done, faulty, no_filter, no_glob}
+use Rattle.wax_commands.specs.Walked.{WalkGlobs, cut_short, done, faulty, lacks_memory, no_filter}
 use Rattle.wax_commands.specs.Walked.{range_in, refused, stopped}
 use Rattle.wax_command_line.specs.declared.walk_words.WalkWords.{WalkWords}
 use Rattle.wax_command_line.specs.Wanted.{OnRequests, WroteFirst, WroteWanted}
@@ -64,34 +68,49 @@ range_read walk asked b read e =
     ap behavior_range e
     ∙ (λ i. record { min = read.lower i; max = or_greatest (read.upper i); budget = 2 ^ 32 - 1 })
 
-abbrev pub environment : {D C Z : Type 0} → Law D C → D → FileAnswers Z → Environment D C Z
-environment law d answers = record { law = law; directory = d; answers = answers }
+abbrev pub environment : {D C Z F : Type 0} → Law D C → D → FileAnswers Z → (F → Option (List ℕ))
+    → Environment D C Z F
+environment law d answers reports =
+    record { law = law; directory = d; answers = answers; reports = reports }
 
-module _ {D C Z : Type 0} (over : Environment D C Z) (walk : WalkWords) (asked : WalkRequest)
+-- an error of a walk's lines other than that memory ran out
+pub write_shown : {P : Type 0} (error : LinesError) → error ≢ Memory → (error ≡ Read → ⊥)
+    → (error ≡ Write → P) → P
+write_shown Read n r w = absurd (r refl)
+write_shown Write n r w = w refl
+write_shown Memory n r w = absurd (n refl)
+
+-- what was written last
+pub ends_in_no_memory : {F : Type 0} (reports : F → Option (List ℕ)) (before : Counted F) (faults : Stream)
+    → SaysNoMemory (stream_of reports before) faults → EndsInNoMemory reports faults
+ends_in_no_memory reports before faults (inl a) = inl (before.inner, a)
+ends_in_no_memory reports before faults (inr (inl l)) = inr (omega (arith, l))
+ends_in_no_memory reports before faults (inr (inr e)) = inr (omega (arith, e))
+
+module _ {D C Z F : Type 0} (over : Environment D C Z F) (walk : WalkWords) (asked : WalkRequest)
     (read : IsRead walk asked) where
   -- the rules are those of the filters that the options request
   abbrev pub AreLeftOut : List (Candidate → Mark) → Type 0
   AreLeftOut rules = (os : List WalkOption) → SayEach walk.options.now os
       → (xs : List (Filter Span)) × AreAskedByAll over.answers os xs × AreRulesOf xs rules
 
-  -- nothing is written if the glob or a filter can't be built
-  pub ends_no_glob : (held : Option (List ℕ)) → IsRefused walk.expression.now
-      → WalkEnds over asked held held 1
-  ends_no_glob held h = refused (no_glob (subst IsRefused read.expression h)) refl refl
-
   module _ (g : GlobView) (glob : IsGlob (chars walk.expression.now) g) where
     abbrev glob_asked : IsGlob (chars asked.expression) g
     glob_asked = subst (λ e. IsGlob (chars e) g) read.expression glob
 
-    pub ends_no_filter : (held : Option (List ℕ))
+    -- nothing is written if a filter can't be built
+    pub ends_no_filter : (output faults faults' : Stream)
         → ((os : List WalkOption) → SayEach walk.options.now os → HasRefused over.answers os)
-        → WalkEnds over asked held held 1
-    ends_no_filter held h = refused (no_filter g glob_asked (h asked.options read.options)) refl refl
+        ⊎ SaysNoMemory faults faults'
+        → WalkEnds over asked (writers output faults) (writers output faults') 1
+    ends_no_filter output faults faults' (inl h) =
+        refused (no_filter g glob_asked (h asked.options read.options)) refl refl
+    ends_no_filter output faults faults' (inr s) = lacks_memory s refl refl
 
     module _ (rules : List (Candidate → Mark)) (left : AreLeftOut rules) (b : WalkBehavior)
         (is : b ≡ behavior_at walk.depth) (view : WalkView D)
         (begins : BeginsBy by_matches g.tree over.law over.directory walk.start.now (behavior_range b) view)
-        (held held' : Option (List ℕ)) where
+        (output output' faults faults' : Stream) where
       abbrev built : (xs : List (Filter Span)) × AreAskedByAll over.answers asked.options xs
           × AreRulesOf xs rules
       built = left asked.options read.options
@@ -106,7 +125,13 @@ module _ {D C Z : Type 0} (over : Environment D C Z) (walk : WalkWords) (asked :
       begun = begins_so over.law over.directory asked globs view walk.start.now b read.start
           (range_read walk asked b read is) begins
 
-      all_kept : (has : Bool) → (w : WroteWanted over.law view rules held held' has)
+      abbrev old : Writers
+      old = writers output faults
+
+      abbrev new : Writers
+      new = writers output' faults'
+
+      all_kept : (has : Bool) → (w : WroteWanted over.law view rules output.bytes output'.bytes has)
           → KeepsAllWanted over.law over.directory asked globs w.items
       all_kept has w = record {
         new = w.directory;
@@ -133,13 +158,27 @@ module _ {D C Z : Type 0} (over : Environment D C Z) (walk : WalkWords) (asked :
           → OnWalk over.law over.directory asked globs P
       on P h = on_walk over.law over.directory asked globs view rules P begun built.2 h
 
-      pub ends_done : WroteWanted over.law view rules held held' false → WalkEnds over asked held held' 0
+      pub ends_done : WroteWanted over.law view rules output.bytes output'.bytes false
+          → WalkEnds over asked old new 0
       ends_done w = done globs w.items all_built (all_kept false w) w.writes (sym w.errors) refl
 
-      pub ends_faulty : WroteWanted over.law view rules held held' true → WalkEnds over asked held held' 3
+      pub ends_faulty : WroteWanted over.law view rules output.bytes output'.bytes true
+          → WalkEnds over asked old new 3
       ends_faulty w = faulty globs w.items all_built (all_kept true w) w.writes (sym w.errors) refl
 
-      pub ends_stopped : WroteFirst over.law view rules held held' → WalkEnds over asked held held' 1
-      ends_stopped w = stopped globs w.0 all_built w.1
-          (on (λ request s _. (rest : List ℕ)
-          × (w.0 ++ rest ≡ candidate_lines (preorder (request_walk request s)))) w.2) refl
+      started : WroteFirst over.law view rules output.bytes output'.bytes
+          → WroteStart over.law over.directory asked globs output.bytes output'.bytes
+      started w = record {
+        bytes = w.0;
+        writes = w.1;
+        starts = on (λ request s _. (rest : List ℕ)
+            × (w.0 ++ rest ≡ candidate_lines (preorder (request_walk request s)))) w.2;
+      }
+
+      pub ends_stopped : WroteFirst over.law view rules output.bytes output'.bytes
+          → HasFailedWrite output output' → WalkEnds over asked old new 1
+      ends_stopped w f = stopped globs all_built (started w) f refl
+
+      pub ends_cut_short : WroteFirst over.law view rules output.bytes output'.bytes
+          → EndsInNoMemory over.reports faults' → WalkEnds over asked old new 1
+      ends_cut_short w m = cut_short globs all_built (started w) m refl

@@ -1,3 +1,5 @@
-pub mod Leaving
 pub mod Adding
+pub mod Ending
 pub mod Going
+pub mod Leaving
+pub mod QueryLines

@@ -1,10 +1,11 @@
 -- How a run of `match` or of `captures` can end.
-use Rattle.std.specs.Prelude.{◌≡◌, ◌≢◌, ℕ, List, Option, chars}
+use Rattle.std.specs.Prelude.{◌≡◌, ◌≢◌, ℕ, List, chars}
 use Rattle.wax.specs.Headline.{IsGlob}
 use Rattle.wax.specs.GlobView.{GlobView, HasCaptures, IsMeant}
 use Rattle.wax_lines.specs.Lines.{Filtered, Stopped, WritesCaptures, WritesMeant}
 use Rattle.wax_lines.specs.declared.lines.LinesError.{LinesError}
 use Rattle.wax_commands.specs.Refused.{IsRefused}
+use Rattle.wax_commands.specs.Streams.{IsShown, SaysNoMemory, Stream, Writers}
 
 -- an expression, and which bytes may be written for a text, by the glob of the expression
 pub record LineCommand : Type 1 where
@@ -19,22 +20,25 @@ match_command e = record { expression = e; writes = λ g. WritesMeant (IsMeant g
 abbrev pub captures_of : List ℕ → LineCommand
 captures_of e = record { expression = e; writes = λ g. WritesCaptures (IsMeant g) (HasCaptures g) }
 
--- The command was run on the lines of the input. `left` is what the reader has left and `held` what the
--- writer holds, before and after.
-pub data LinesEnd (command : LineCommand) (left left' held held' : Option (List ℕ))
-    (status : ℕ) : Type 0 where
+-- The command was run on the lines of the input, which is `input` before and `input'` after, as the writers
+-- are `old` and `new`.
+pub data LinesEnd (command : LineCommand) (input input' : Stream) (old new : Writers) (status : ℕ)
+    : Type 0 where
   -- all lines were text, and their output was written
   done : (g : GlobView) → IsGlob (chars command.expression) g
-      → Filtered (command.writes g) left left' held held' 0
-      → status ≡ 0 → LinesEnd command left left' held held' status
+      → Filtered (command.writes g) input.bytes input'.bytes old.output.bytes new.output.bytes 0
+      → status ≡ 0 → LinesEnd command input input' old new status
   -- some lines weren't text, and the output of the others was written
   not_text : (g : GlobView) (n : ℕ) → IsGlob (chars command.expression) g
-      → Filtered (command.writes g) left left' held held' n → n ≢ 0
-      → status ≡ 1 → LinesEnd command left left' held held' status
-  -- the filter of lines stopped at an error
+      → Filtered (command.writes g) input.bytes input'.bytes old.output.bytes new.output.bytes n → n ≢ 0
+      → status ≡ 1 → LinesEnd command input input' old new status
+  -- the filter of lines stopped at an error that is shown
   stopped : (g : GlobView) (error : LinesError) → IsGlob (chars command.expression) g
-      → Stopped (command.writes g) left left' held held' error
-      → status ≡ 1 → LinesEnd command left left' held held' status
-  -- no glob was built, and nothing was read or written
-  refused : IsRefused command.expression → left' ≡ left → held' ≡ held
-      → status ≡ 1 → LinesEnd command left left' held held' status
+      → Stopped (command.writes g) input.bytes input'.bytes old.output.bytes new.output.bytes error
+      → IsShown error input input' old new → status ≡ 1 → LinesEnd command input input' old new status
+  -- the expression has an error, and nothing was read or written
+  refused : IsRefused command.expression → input' ≡ input → new.output ≡ old.output
+      → status ≡ 1 → LinesEnd command input input' old new status
+  -- memory ran out before anything was read or written
+  lacks_memory : SaysNoMemory old.faults new.faults → input' ≡ input → new.output ≡ old.output
+      → status ≡ 1 → LinesEnd command input input' old new status

@@ -1,21 +1,24 @@
 -- How a run of `query` can end.
-use Rattle.std.specs.Prelude.{◌≡◌, ℕ, List, Option, chars}
+use Rattle.std.specs.Prelude.{◌≡◌, ℕ, List, chars}
 use Rattle.std.specs.Io.KnownBytes.{Appends}
 use Rattle.wax.specs.Headline.{IsGlob}
 use Rattle.wax.specs.GlobView.{GlobView}
+use Rattle.wax_lines.specs.Written.{WritesPart}
+use Rattle.wax_commands.specs.QueryText.{AreFactsOf, QueryFacts, query_text}
 use Rattle.wax_commands.specs.Refused.{IsRefused}
+use Rattle.wax_commands.specs.Streams.{HasFailedWrite, SaysNoMemory, Writers}
 
--- zero or more bytes were written
-abbrev pub Writes : Option (List ℕ) → Option (List ℕ) → Type 0
-Writes held held' = (bytes : List ℕ) × Appends held held' bytes
-
--- The query of the expression e was run. `held` is what the writer holds, before and after.
-pub data QueryEnds (e : List ℕ) (held held' : Option (List ℕ)) (status : ℕ) : Type 0 where
-  -- a glob was built, and its output was written
-  done : (g : GlobView) → IsGlob (chars e) g → Writes held held'
-      → status ≡ 0 → QueryEnds e held held' status
-  -- a glob was built, and a prefix of its output was written, or nothing
-  stopped : (g : GlobView) → IsGlob (chars e) g → Writes held held'
-      → status ≡ 1 → QueryEnds e held held' status
-  -- no glob was built, and nothing was written
-  refused : IsRefused e → held' ≡ held → status ≡ 1 → QueryEnds e held held' status
+-- The query of the expression e was run, with the writers `old` before and `new` after.
+pub data QueryEnds (e : List ℕ) (old new : Writers) (status : ℕ) : Type 0 where
+  -- the facts of the glob were written
+  done : (g : GlobView) (facts : QueryFacts) → IsGlob (chars e) g → AreFactsOf g facts
+      → Appends old.output.bytes new.output.bytes (query_text facts) → status ≡ 0 → QueryEnds e old new status
+  -- a prefix of that was written, and then a write failed
+  stopped : (g : GlobView) (facts : QueryFacts) → IsGlob (chars e) g → AreFactsOf g facts
+      → WritesPart old.output.bytes new.output.bytes (query_text facts)
+      → HasFailedWrite old.output new.output → status ≡ 1 → QueryEnds e old new status
+  -- the expression has an error, and nothing was written
+  refused : IsRefused e → new.output ≡ old.output → status ≡ 1 → QueryEnds e old new status
+  -- memory ran out before anything was written
+  lacks_memory : SaysNoMemory old.faults new.faults → new.output ≡ old.output → status ≡ 1
+      → QueryEnds e old new status

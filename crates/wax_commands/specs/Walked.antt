@@ -1,5 +1,6 @@
 -- How a run of `walk` can end.
-use Rattle.std.specs.Prelude.{◌≡◌, ℕ, ◌-◌, ◌^◌, true, false, ⊤, List, [], ◌∷◌, ◌++◌, Option, chars, filter}
+use Rattle.std.specs.Prelude.{◌≡◌, ◌≢◌, ◌<◌, ◌⊎◌, ℕ, ◌-◌, ◌^◌, true, false, ⊤, List, [], ◌∷◌, ◌++◌, Option}
+use Rattle.std.specs.Prelude.{chars, filter}
 use Rattle.std.specs.Io.KnownBytes.{Appends}
 use Rattle.std.specs.List.{list_any}
 use Rattle.wax.specs.Headline.{IsGlob}
@@ -9,6 +10,7 @@ use Rattle.wax.specs.GlobWalks.{Beginning, GaveBy, request_by, origin_from}
 use Rattle.wax_exclude.specs.Pruned.{by_matches}
 use Rattle.wax.specs.Patterns.{Refuses, Spells}
 use Rattle.wax_set.specs.declared.error.build_error.BuildError.{BuildError}
+use Rattle.wax_set.specs.declared.error.build_error.BuildError.TheVariants.{Memory}
 use Rattle.wax_exclude.specs.GlobRequests.{KeepsWanted, GlobRequest, request_walk}
 use Rattle.wax_components.specs.Depth.{Depth}
 use Rattle.wax_directory.specs.Law.{Law}
@@ -28,18 +30,26 @@ use Rattle.wax_command_line.specs.Commands.{WalkOption, excluding, ignoring, at_
 use Rattle.wax_command_line.specs.Commands.{greatest_in, least_in}
 use Rattle.wax_commands.specs.Files.{FileAnswers, IsListIn, IsUnlisted}
 use Rattle.wax_commands.specs.Refused.{IsRefused}
+use Rattle.wax_commands.specs.Streams.{HasFailedWrite, SaysNoMemory, Stream, Writers, no_memory_line}
 
--- what a walk is run over: a directory, with its law, and what reading files may return
-pub record Environment (D C Z : Type 0) : Type 1 where
+-- what a walk is run over: a directory, with its law; what reading files may return; and what a writer of
+-- errors reports
+pub record Environment (D C Z F : Type 0) : Type 1 where
   pub law : Law D C
   pub directory : D
   pub answers : FileAnswers Z
+  pub reports : F → Option (List ℕ)
 
 -- ---- builds
 
 -- the tree is the only one that the expression spells, and fits
 abbrev pub IsNotOf : List ℕ → Tree Span → Type 0
 IsNotOf e t = FitsAlone (Spells (chars e)) t
+
+-- the expression of what is excluded has an error
+abbrev pub IsNoPattern : List ℕ → Type 0
+IsNoPattern e = (error : BuildError) × (error ≢ Memory)
+    × NoExclusion (Spells (chars e)) (Refuses (chars e)) error
 
 -- the glob, and the filters of what is excluded
 pub record WalkGlobs : Type 0 where
@@ -63,8 +73,7 @@ module _ {Z : Type 0} (answers : FileAnswers Z) where
 
   -- the filter that an option requests can't be built
   abbrev pub IsRefusedOption : WalkOption → Type 0
-  IsRefusedOption (excluding e) =
-      (error : BuildError) × NoExclusion (Spells (chars e)) (Refuses (chars e)) error
+  IsRefusedOption (excluding e) = IsNoPattern e
   IsRefusedOption (ignoring file) = IsUnlisted answers file
   IsRefusedOption (at_least n) = ⊥
   IsRefusedOption (at_most n) = ⊥
@@ -126,20 +135,41 @@ module _ {D C : Type 0} (law : Law D C) (d : D) (asked : WalkRequest) (globs : W
   StartsLines bytes = OnWalk (λ request s listed.
       (rest : List ℕ) × (bytes ++ rest ≡ candidate_lines (preorder (request_walk request s))))
 
--- The requested walk was run. `held` is what the writer holds, before and after.
-pub data WalkEnds {D C Z : Type 0} (over : Environment D C Z) (asked : WalkRequest)
-    (held held' : Option (List ℕ)) (status : ℕ) : Type 0 where
+  -- a prefix of the lines was written
+  pub record WroteStart (held held' : Option (List ℕ)) : Type 0 where
+    pub bytes : List ℕ
+    pub writes : Appends held held' bytes
+    pub starts : StartsLines bytes
+
+-- the last that was written is that memory ran out, or the writer has counted a failed write
+abbrev pub EndsInNoMemory : {F : Type 0} → (F → Option (List ℕ)) → Stream → Type 0
+EndsInNoMemory {F} reports faults =
+    ((before : F) × Appends (reports before) faults.bytes no_memory_line) ⊎ (0 < faults.failures)
+
+-- The requested walk was run, with the writers `old` before and `new` after.
+pub data WalkEnds {D C Z F : Type 0} (over : Environment D C Z F) (asked : WalkRequest)
+    (old new : Writers) (status : ℕ) : Type 0 where
   -- the candidates of all kept entries were written, and no item was an error
   done : (globs : WalkGlobs) (items : List Given) → AreBuilt over.answers asked globs
-      → KeepsAllWanted over.law over.directory asked globs items → Appends held held' (candidate_lines items)
-      → list_any is_error items ≡ false → status ≡ 0 → WalkEnds over asked held held' status
+      → KeepsAllWanted over.law over.directory asked globs items
+      → Appends old.output.bytes new.output.bytes (candidate_lines items)
+      → list_any is_error items ≡ false → status ≡ 0 → WalkEnds over asked old new status
   -- the candidates of all kept entries were written, and some item was an error
   faulty : (globs : WalkGlobs) (items : List Given) → AreBuilt over.answers asked globs
-      → KeepsAllWanted over.law over.directory asked globs items → Appends held held' (candidate_lines items)
-      → list_any is_error items ≡ true → status ≡ 3 → WalkEnds over asked held held' status
-  -- a prefix of the lines was written
-  stopped : (globs : WalkGlobs) (bytes : List ℕ) → AreBuilt over.answers asked globs
-      → Appends held held' bytes → StartsLines over.law over.directory asked globs bytes → status ≡ 1
-      → WalkEnds over asked held held' status
-  -- the glob or a filter couldn't be built, and nothing was written
-  refused : IsUnbuilt over.answers asked → held' ≡ held → status ≡ 1 → WalkEnds over asked held held' status
+      → KeepsAllWanted over.law over.directory asked globs items
+      → Appends old.output.bytes new.output.bytes (candidate_lines items)
+      → list_any is_error items ≡ true → status ≡ 3 → WalkEnds over asked old new status
+  -- a prefix of the lines was written, and then a write failed
+  stopped : (globs : WalkGlobs) → AreBuilt over.answers asked globs
+      → WroteStart over.law over.directory asked globs old.output.bytes new.output.bytes
+      → HasFailedWrite old.output new.output → status ≡ 1 → WalkEnds over asked old new status
+  -- a prefix of the lines was written, and then memory ran out
+  cut_short : (globs : WalkGlobs) → AreBuilt over.answers asked globs
+      → WroteStart over.law over.directory asked globs old.output.bytes new.output.bytes
+      → EndsInNoMemory over.reports new.faults → status ≡ 1 → WalkEnds over asked old new status
+  -- an expression or an ignore list has an error, and nothing was written
+  refused : IsUnbuilt over.answers asked → new.output ≡ old.output → status ≡ 1
+      → WalkEnds over asked old new status
+  -- memory ran out before the walk began
+  lacks_memory : SaysNoMemory old.faults new.faults → new.output ≡ old.output → status ≡ 1
+      → WalkEnds over asked old new status

@@ -1,10 +1,8 @@
 //! Globs and filters that are built from the arguments.
 ghost use Rattle.std.specs.Fn.{FnReturnsAt};
-ghost use Rattle.std.specs.Prelude.{◌≡◌, ◌∷◌, ◌++◌, [], List, chars, map};
-ghost use Rattle.std.specs.Prelude.{IfSome, IfNone, IfOk, OnOk, OnErr, IsSome};
+ghost use Rattle.std.specs.Prelude.{◌≡◌, ◌≢◌, ◌⊎◌, ◌∷◌, ◌++◌, [], List, chars, map};
+ghost use Rattle.std.specs.Prelude.{IfSome, IfNone, IfOk, IfErr, OnOk, IsSome};
 ghost use Rattle.wax.specs.Headline.{IsGlob};
-ghost use Rattle.wax.specs.Exclusions.{NoExclusion};
-ghost use Rattle.wax.specs.Patterns.{Refuses, Spells};
 ghost use Rattle.wax_exclude.specs.GlobRequests.{AreRulesOf};
 ghost use Rattle.wax_token.specs.Reads.{Span};
 ghost use Rattle.wax_token.specs.Syntax.{Tree};
@@ -16,15 +14,17 @@ ghost use Rattle.wax_command_line.specs.Commands.{SayEach, WalkOption as AskedOp
 ghost use Rattle.wax_command_line.specs.WalkWords.{asked_by};
 ghost use Rattle.wax_commands.specs.Files.{IsListIn, IsUnlisted};
 ghost use Rattle.wax_commands.specs.Refused.{IsRefused};
-ghost use Rattle.wax_commands.specs.Walked.{AreAskedBy, AreAskedByAll, HasRefused, IsNotOf};
+ghost use Rattle.wax_commands.specs.Streams.{SaysNoMemory, stream_of};
+ghost use Rattle.wax_commands.specs.Walked.{AreAskedBy, AreAskedByAll, HasRefused, IsNoPattern, IsNotOf};
 ghost use Rattle.wax_commands.specs.Walked.{IsRefusedOption};
 
+use crate::faults::say_no_memory;
 use crate::files::{FileFault, list_in};
 use std::alloc::{AllocFailed, Global};
 use std::io::Write;
 use thiserror::Error;
 use wax::walk::WalkFilter;
-use wax::{BuildError, Glob};
+use wax::{BuildError, Counted, Glob};
 use wax_command_line::{WalkOption, next_option};
 use wax_walk::Exclude;
 
@@ -53,19 +53,33 @@ pub enum FilterFault<'w> {
 }
 
 impl<T: Drop> From<AllocFailed<T>> for FilterFault<'_> {
+    ghost use Rattle.std.specs.Prelude.{◌≡◌};
+    ghost use Rattle.wax_commands.specs.declared.building.FilterFault.TheVariants.{Memory};
+
+    ghost from_gives = { λ _ fault. fault ≡ Memory };
+
     fn from(_: AllocFailed<T>) -> Self {
         FilterFault::Memory
     }
 }
 
 /// Builds a glob. If it can't be built, writes the error to `faults` and returns `None`.
-pub fn built<'e, F: Write>(alloc: Global, expression: &'e str, faults: &mut F) -> Option<Glob<'e>>
+pub fn built<'e, F: Write>(
+    alloc: Global,
+    expression: &'e str,
+    faults: &mut Counted<F>,
+) -> Option<Glob<'e>>
     ensures some { IfSome result (IsGlob (chars expression.now)) }
-    ensures none { IfNone result (IsRefused expression.now) }
+    ensures none { IfNone result (IsRefused expression.now
+        ⊎ SaysNoMemory (stream_of F.contents faults.old) (stream_of F.contents faults.new)) }
     ensures quiet { IsSome result → faults.new ≡ faults.old }
 {
     match Glob::new(alloc, expression) {
         Ok(glob) => Some(glob),
+        Err(BuildError::Memory) => {
+            say_no_memory(faults);
+            None
+        }
         Err(error) => {
             let _ = writeln!(faults, "globs: {error}");
             None
@@ -79,7 +93,7 @@ pub fn built_filters<B, F>(
     alloc: Global,
     options: &[Option<String>],
     read: &B,
-    faults: &mut F,
+    faults: &mut Counted<F>,
 ) -> Option<Vec<WalkFilter>>
 where
     B: Fn(&str) -> Result<Vec<u8>, FileFault>,
@@ -88,12 +102,17 @@ where
     ensures some { IfSome result (λ filters. (asked : List AskedOption) → SayEach options.now asked
         → (xs : List (Filter Span)) × AreAskedByAll (FnReturnsAt B.Fn read.now) asked xs
         × AreRulesOf xs (map ⟦<WalkFilter as Exclude>⟧.rule filters.items)) }
-    ensures none { IfNone result ((asked : List AskedOption) → SayEach options.now asked
-        → HasRefused (FnReturnsAt B.Fn read.now) asked) }
+    ensures none { IfNone result (((asked : List AskedOption) → SayEach options.now asked
+        → HasRefused (FnReturnsAt B.Fn read.now) asked)
+        ⊎ SaysNoMemory (stream_of F.contents faults.old) (stream_of F.contents faults.new)) }
     ensures quiet { IsSome result → faults.new ≡ faults.old }
 {
     match filters_of(alloc, options, read) {
         Ok(filters) => Some(filters),
+        Err(FilterFault::Memory) => {
+            say_no_memory(faults);
+            None
+        }
         Err(fault) => {
             let _ = writeln!(faults, "globs: {fault}");
             None
@@ -113,8 +132,8 @@ where
     ensures ok { IfOk result (λ filters. (asked : List AskedOption) → SayEach options.now asked
         → (xs : List (Filter Span)) × AreAskedByAll (FnReturnsAt B.Fn read.now) asked xs
         × AreRulesOf xs (map ⟦<WalkFilter as Exclude>⟧.rule filters.items)) }
-    ensures err { OnErr result ((asked : List AskedOption) → SayEach options.now asked
-        → HasRefused (FnReturnsAt B.Fn read.now) asked) }
+    ensures err { IfErr result (λ fault. fault ≢ FilterFault.Memory → (asked : List AskedOption)
+        → SayEach options.now asked → HasRefused (FnReturnsAt B.Fn read.now) asked) }
 {
     let mut filters = Vec::new(alloc);
     let mut rest = options;
@@ -139,7 +158,8 @@ where
         × AreAskedBy (FnReturnsAt B.Fn read.now) (asked_by option.entry) xs × AreRulesOf xs rules
         × (map ⟦<WalkFilter as Exclude>⟧.rule filters.new.items
         ≡ map ⟦<WalkFilter as Exclude>⟧.rule filters.old.items ++ rules)) }
-    ensures err { OnErr result (IsRefusedOption (FnReturnsAt B.Fn read.now) (asked_by option.entry)) }
+    ensures err { IfErr result (λ fault. fault ≢ FilterFault.Memory
+        → IsRefusedOption (FnReturnsAt B.Fn read.now) (asked_by option.entry)) }
 {
     match option {
         WalkOption::Not(expression) => add_pattern(alloc, expression, filters),
@@ -158,14 +178,14 @@ fn add_pattern<'w>(
         × AreRulesOf (not_meant t ∷ []) rules
         × (map ⟦<WalkFilter as Exclude>⟧.rule filters.new.items
         ≡ map ⟦<WalkFilter as Exclude>⟧.rule filters.old.items ++ rules)) }
-    ensures err { OnErr result ((error : BuildError)
-        × NoExclusion (Spells (chars expression.now)) (Refuses (chars expression.now)) error) }
+    ensures err { IfErr result (λ fault. fault ≢ FilterFault.Memory → IsNoPattern expression.now) }
 {
     match WalkFilter::not(alloc, expression) {
         Ok(filter) => {
             filters.push(filter)?;
             Ok(())
         }
+        Err(BuildError::Memory) => Err(FilterFault::Memory),
         Err(error) => Err(FilterFault::Pattern(error)),
     }
 }
@@ -183,7 +203,8 @@ where
         × IsListIn (FnReturnsAt B.Fn read.now) file.now lines × AreRulesOf (not_ignored lines ∷ []) rules
         × (map ⟦<WalkFilter as Exclude>⟧.rule filters.new.items
         ≡ map ⟦<WalkFilter as Exclude>⟧.rule filters.old.items ++ rules)) }
-    ensures err { OnErr result (IsUnlisted (FnReturnsAt B.Fn read.now) file.now) }
+    ensures err { IfErr result (λ fault. fault ≢ FilterFault.Memory
+        → IsUnlisted (FnReturnsAt B.Fn read.now) file.now) }
 {
     let list = list_in(alloc, file, read)?;
     filters.push(WalkFilter::ignore(list))?;

@@ -1,6 +1,6 @@
 //! Files with ignore lists.
 ghost use Rattle.std.specs.Fn.{FnReturnsAt};
-ghost use Rattle.std.specs.Prelude.{IfOk, List, OnErr};
+ghost use Rattle.std.specs.Prelude.{◌≢◌, IfErr, IfOk, List};
 ghost use Rattle.wax.specs.Ignoring.{HoldsLines};
 ghost use Rattle.wax_token.specs.Reads.{Span};
 ghost use Rattle.wax_exclude.specs.Ignored.{Line};
@@ -31,7 +31,8 @@ where
     requires { B.IsAlwaysCallable read.now }
     ensures ok { IfOk result (λ list. (lines : List (Line Span))
         × IsListIn (FnReturnsAt B.Fn read.now) file.now lines × HoldsLines list lines) }
-    ensures err { OnErr result (IsUnlisted (FnReturnsAt B.Fn read.now) file.now) }
+    ensures err { IfErr result (λ fault. fault ≢ FilterFault.Memory
+        → IsUnlisted (FnReturnsAt B.Fn read.now) file.now) }
 {
     let bytes = match read(file) {
         Ok(bytes) => bytes,

@@ -2,6 +2,7 @@
 #![tactic(auto)]
 
 mod building;
+mod faults;
 mod files;
 mod query;
 mod run;

@@ -1,15 +1,17 @@
 //! What the program does with its arguments and its streams.
 ghost use Rattle.std.specs.Fn.{FnReturnsAt};
-ghost use Rattle.std.specs.Prelude.{◌≡◌, ℕ, List, IfOk, IfErr, IfSome, IfNone};
+ghost use Rattle.std.specs.Prelude.{◌≡◌, ℕ, List, IfOk, IfErr, IfSome, IfNone, IsErrOf};
 ghost use Rattle.wax_lines.specs.Lines.{Filtered, Stopped};
 ghost use Rattle.wax_command_line.specs.Commands.{Asks, AsksMatch, AsksCaptures, AsksQuery, AsksWalk};
 ghost use Rattle.wax_command_line.specs.Commands.{HasNoCommand, WalkRequest};
 ghost use Rattle.wax_commands.specs.LineCommands.{LinesEnd, captures_of, match_command};
-ghost use Rattle.wax_commands.specs.Queried.{QueryEnds, Writes};
+ghost use Rattle.wax_commands.specs.Queried.{QueryEnds};
+ghost use Rattle.wax_commands.specs.Streams.{HasFailedRead, HasFailedWrite, stream_of, writers};
 ghost use Rattle.wax_commands.specs.Walked.{WalkEnds};
 ghost use Rattle.wax_commands.specs.inner.Outputs.{command_of, writes_of};
 
 use crate::building::built;
+use crate::faults::say_no_memory;
 use crate::files::FileFault;
 use crate::query::query_lines;
 use crate::status::{DONE, FAILED, WRONG_WORDS};
@@ -50,13 +52,13 @@ enum Lines {
 /// `read` returns the bytes of a file by its name. It is called only for the ignore list, before
 /// anything is listed. Each error is written to `faults` as one line, that of a walk's item when it
 /// comes; for wrong arguments it is the usage, and nothing else is written there. If that write
-/// fails, the status is still as above.
+/// fails, the status is still as above, and `faults` counts the failure.
 pub fn run_globs<R, W, F, D, B>(
     alloc: Global,
     words: &[Option<String>],
     input: &mut Counted<R>,
     output: &mut Counted<W>,
-    faults: &mut F,
+    faults: &mut Counted<F>,
     directory: D,
     read: B,
 ) -> u8
@@ -70,17 +72,26 @@ where
     ensures wrong_words { HasNoCommand words.now
         → (result ≡ 2) × (input.new ≡ input.old) × (output.new ≡ output.old) }
     ensures matches { (e : List ℕ) → AsksMatch words.now e → LinesEnd (match_command e)
-        (R.remaining input.old.inner) (R.remaining input.new.inner)
-        (W.contents output.old.inner) (W.contents output.new.inner) result }
+        (stream_of R.remaining input.old) (stream_of R.remaining input.new)
+        (writers (stream_of W.contents output.old) (stream_of F.contents faults.old))
+        (writers (stream_of W.contents output.new) (stream_of F.contents faults.new)) result }
     ensures captures { (e : List ℕ) → AsksCaptures words.now e → LinesEnd (captures_of e)
-        (R.remaining input.old.inner) (R.remaining input.new.inner)
-        (W.contents output.old.inner) (W.contents output.new.inner) result }
-    ensures query { (e : List ℕ) → AsksQuery words.now e
-        → QueryEnds e (W.contents output.old.inner) (W.contents output.new.inner) result }
+        (stream_of R.remaining input.old) (stream_of R.remaining input.new)
+        (writers (stream_of W.contents output.old) (stream_of F.contents faults.old))
+        (writers (stream_of W.contents output.new) (stream_of F.contents faults.new)) result }
+    ensures query { (e : List ℕ) → AsksQuery words.now e → QueryEnds e
+        (writers (stream_of W.contents output.old) (stream_of F.contents faults.old))
+        (writers (stream_of W.contents output.new) (stream_of F.contents faults.new)) result }
     ensures query_reads { (e : List ℕ) → AsksQuery words.now e → input.new ≡ input.old }
     ensures walk { (asked : WalkRequest) → AsksWalk words.now asked → WalkEnds
-        (record { law = D.law; directory = directory; answers = FnReturnsAt B.Fn read }) asked
-        (W.contents output.old.inner) (W.contents output.new.inner) result }
+        (record {
+          law = D.law;
+          directory = directory;
+          answers = FnReturnsAt B.Fn read;
+          reports = F.contents;
+        }) asked
+        (writers (stream_of W.contents output.old) (stream_of F.contents faults.old))
+        (writers (stream_of W.contents output.new) (stream_of F.contents faults.new)) result }
     ensures walk_reads { (asked : WalkRequest) → AsksWalk words.now asked → input.new ≡ input.old }
     ensures quiet { result ≡ 0 → faults.new ≡ faults.old }
 {
@@ -120,11 +131,12 @@ fn run_lines<R: Read, W: Write, F: Write>(
     expression: &str,
     input: &mut Counted<R>,
     output: &mut Counted<W>,
-    faults: &mut F,
+    faults: &mut Counted<F>,
 ) -> u8
     ensures ends { LinesEnd (command_of lines expression.now)
-        (R.remaining input.old.inner) (R.remaining input.new.inner)
-        (W.contents output.old.inner) (W.contents output.new.inner) result }
+        (stream_of R.remaining input.old) (stream_of R.remaining input.new)
+        (writers (stream_of W.contents output.old) (stream_of F.contents faults.old))
+        (writers (stream_of W.contents output.new) (stream_of F.contents faults.new)) result }
     ensures quiet { result ≡ 0 → faults.new ≡ faults.old }
 {
     let Some(glob) = built(alloc, expression, faults) else {
@@ -134,6 +146,10 @@ fn run_lines<R: Read, W: Write, F: Write>(
         Ok(0) => DONE,
         Ok(count) => {
             let _ = writeln!(faults, "globs: {count} lines are not text");
+            FAILED
+        }
+        Err(LinesError::Memory) => {
+            say_no_memory(faults);
             FAILED
         }
         Err(error) => {
@@ -156,6 +172,10 @@ fn write_lines<R: Read, W: Write>(
     ensures stopped { IfErr result (Stopped (writes_of lines glob.now)
         (R.remaining input.old.inner) (R.remaining input.new.inner)
         (W.contents output.old.inner) (W.contents output.new.inner)) }
+    ensures read_failed { IsErrOf result LinesError.Read
+        → HasFailedRead (stream_of R.remaining input.old) (stream_of R.remaining input.new) }
+    ensures write_failed { IsErrOf result LinesError.Write
+        → HasFailedWrite (stream_of W.contents output.old) (stream_of W.contents output.new) }
 {
     match lines {
         Lines::Matching => filter_lines(alloc, input, output, glob),
@@ -167,31 +187,25 @@ fn run_query<W: Write, F: Write>(
     alloc: Global,
     expression: &str,
     output: &mut Counted<W>,
-    faults: &mut F,
+    faults: &mut Counted<F>,
 ) -> u8
     ensures ends { QueryEnds expression.now
-        (W.contents output.old.inner) (W.contents output.new.inner) result }
+        (writers (stream_of W.contents output.old) (stream_of F.contents faults.old))
+        (writers (stream_of W.contents output.new) (stream_of F.contents faults.new)) result }
     ensures quiet { result ≡ 0 → faults.new ≡ faults.old }
 {
     let Some(glob) = built(alloc, expression, faults) else {
         return FAILED;
     };
-    match write_query(alloc, glob, output) {
+    let Ok(lines) = query_lines(alloc, glob) else {
+        say_no_memory(faults);
+        return FAILED;
+    };
+    match write_whole(output, lines.as_bytes()) {
         Ok(()) => DONE,
         Err(error) => {
             let _ = writeln!(faults, "globs: {error}");
             FAILED
         }
     }
-}
-
-fn write_query<W: Write>(
-    alloc: Global,
-    glob: Glob<'_>,
-    output: &mut Counted<W>,
-) -> Result<(), LinesError>
-    ensures { Writes (W.contents output.old.inner) (W.contents output.new.inner) }
-{
-    let lines = query_lines(alloc, glob)?;
-    write_whole(output, lines.as_bytes())
 }

@@ -2,10 +2,12 @@
 ghost use Rattle.std.specs.Fn.{FnReturnsAt};
 ghost use Rattle.std.specs.Prelude.{◌≡◌};
 ghost use Rattle.wax_command_line.specs.Commands.{WalkRequest};
+ghost use Rattle.wax_commands.specs.Streams.{stream_of, writers};
 ghost use Rattle.wax_commands.specs.Walked.{WalkEnds};
 ghost use Rattle.wax_command_line.specs.WalkWords.{IsRead};
 
 use crate::building::{built, built_filters};
+use crate::faults::say_no_memory;
 use crate::files::FileFault;
 use crate::status::{DONE, FAILED, HAS_ERRORS};
 use std::alloc::Global;
@@ -21,7 +23,7 @@ pub fn run_walk<W, F, D, B>(
     alloc: Global,
     walk: WalkWords<'_>,
     output: &mut Counted<W>,
-    faults: &mut F,
+    faults: &mut Counted<F>,
     directory: D,
     read: &B,
 ) -> u8
@@ -32,8 +34,14 @@ where
     B: Fn(&str) -> Result<Vec<u8>, FileFault>,
     requires { B.IsAlwaysCallable read.now }
     ensures ends { (asked : WalkRequest) → IsRead walk.entry asked → WalkEnds
-        (record { law = D.law; directory = directory; answers = FnReturnsAt B.Fn read.now }) asked
-        (W.contents output.old.inner) (W.contents output.new.inner) result }
+        (record {
+          law = D.law;
+          directory = directory;
+          answers = FnReturnsAt B.Fn read.now;
+          reports = F.contents;
+        }) asked
+        (writers (stream_of W.contents output.old) (stream_of F.contents faults.old))
+        (writers (stream_of W.contents output.new) (stream_of F.contents faults.new)) result }
     ensures quiet { result ≡ 0 → faults.new ≡ faults.old }
 {
     let Some(glob) = built(alloc, walk.expression, faults) else {
@@ -44,12 +52,16 @@ where
     };
     let behavior = WalkBehavior::from(walk.depth);
     let Ok(entries) = glob.walk_uncaptured(alloc, directory, walk.start, behavior) else {
-        let _ = writeln!(faults, "globs: {}", LinesError::Memory);
+        say_no_memory(faults);
         return FAILED;
     };
     match write_wanted(alloc, entries, filters, output, faults) {
         Ok(false) => DONE,
         Ok(true) => HAS_ERRORS,
+        Err(LinesError::Memory) => {
+            say_no_memory(faults);
+            FAILED
+        }
         Err(error) => {
             let _ = writeln!(faults, "globs: {error}");
             FAILED

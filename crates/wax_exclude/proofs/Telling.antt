@@ -18,7 +18,7 @@ use Rattle.wax_tree.specs.Courses.{AreNamed, IsNamed}
 use Rattle.wax_tree.specs.Follows.{AreDistinctAlong}
 use Rattle.wax_walk.proofs.Courses.{begins_whole, comes_first}
 use Rattle.wax_walk.proofs.Filtered.{Yields, filtered_begins, opened_yields, pruned_begins, pruned_ruled}
-use Rattle.wax_walk.proofs.Filtered.{ruled_course, ruled_yields, yields_items}
+use Rattle.wax_walk.proofs.Filtered.{opened_first, ruled_course, ruled_yields, yields_items, yields_opened}
 use Rattle.wax_walk.proofs.Following.{lacks_filtered}
 use Rattle.wax_walk.specs.Candidates.{Candidate, of_candidate}
 use Rattle.wax_walk.specs.Pruned.{IsPrunedBy, all_folders, opened_forest, opened_course, pruned_course}
@@ -26,6 +26,7 @@ use Rattle.wax_walk.specs.Pruned.{these_folders}
 use Rattle.wax_walk.specs.Ruled.{IsMarkBy}
 use Rattle.wax_walk.specs.Collected.{EndsThere, Took, TookCourse, cut_short, whole}
 use Rattle.wax_walk.specs.Course.{Course, CutsShort, IsFiltered, IsStartOf, answers, calls_of, items_of}
+use Rattle.wax_walk.specs.Opened.{opened_folders}
 use Rattle.wax_walk.specs.Course.{stop, yields}
 use Rattle.wax_walk.specs.Forest.{nothing}
 use Rattle.wax_walk.specs.Given.{Facts, Given, Mark, is_kept, no_memory}
@@ -33,16 +34,18 @@ use Rattle.wax_walk.specs.View.{MayTake, WalkView}
 use Rattle.wax_exclude.proofs.Feeding.{feeds_by_walk}
 use Rattle.wax_exclude.proofs.KeptItems.{cut_kept, kept_entries}
 use Rattle.wax_exclude.proofs.StackingRequests.{stacked_any}
-use Rattle.wax_exclude.proofs.Wanting.{entries_wanted}
+use Rattle.wax_exclude.proofs.Wanting.{entries_wanted, few_listed}
 use Rattle.wax_exclude.specs.Feeds.{ruled_feed}
-use Rattle.wax_exclude.specs.GlobRequests.{CanBegin, GlobRequest, is_beyond, walk_for}
+use Rattle.wax_exclude.specs.GlobRequests.{AreOpened, CanBegin, GlobRequest, is_beyond, walk_for}
 use Rattle.wax_exclude.specs.Law.{WalkLaw}
 use Rattle.wax_exclude.specs.Premises.{ArePlainItems, IsPlainShown}
 use Rattle.wax_exclude.specs.RuledWalks.{RuledWalk, WalkTakes, exceeds_range, lacking, origin_course}
 use Rattle.wax_exclude.specs.RuledWalks.{ruled_forest}
 use Rattle.wax_exclude.specs.RuledWalks.{walk_course, walks}
-use Rattle.wax_exclude.specs.Told.{Answering, FeedsAnswered, KeepsAnswered, LeavesAnswered, ToldInPart}
-use Rattle.wax_exclude.specs.Told.{as_told, in_part, keeps_all, keeps_in_part, ruled_kept, walk_calls}
+use Rattle.wax_exclude.specs.Told.{Answering, AreWanted, FeedsAnswered, KeepsAnswered, LeavesAnswered}
+use Rattle.wax_exclude.specs.Told.{OpensListed, ToldInPart}
+use Rattle.wax_exclude.specs.Told.{as_told, in_part, keeps_all, keeps_in_part, request_kept, ruled_kept}
+use Rattle.wax_exclude.specs.Told.{walk_calls}
 use Rattle.wax_exclude.specs.Walked.{origin_walk}
 use Rattle.wax_exclude.specs.Wanted.{is_kept_entry, stacked}
 
@@ -164,6 +167,7 @@ module _ (walk : RuledWalk) where
   lacks_told told xs x e f s = record {
     shown = missing;
     named = tt;
+    distinct = distinct_missing walk.origin.names;
     calls = [];
     rest = walk_calls walk missing;
     calls_are = refl;
@@ -196,6 +200,7 @@ module _ (walk : RuledWalk) where
         inr (record {
           shown = d;
           named = n;
+          distinct = a;
           calls = calls_of c;
           rest = p.calls;
           calls_are = p.calls_are;
@@ -214,6 +219,7 @@ module _ (walk : RuledWalk) where
   part_kept told xs p = record {
     shown = p.shown;
     named = p.named;
+    distinct = p.distinct;
     calls = p.calls;
     rest = p.rest;
     calls_are = p.calls_are;
@@ -234,7 +240,7 @@ module _ (walk : RuledWalk) where
       told = took.told;
       answered = took.answered;
       holds_of = elim fed [
-        | inl t ↦ as_told t.shown t.named t.told_is t.items
+        | inl t ↦ as_told t.shown t.named t.distinct t.told_is t.items
         | inr p ↦ in_part p
       ];
     }
@@ -244,26 +250,57 @@ module _ (walk : RuledWalk) where
       told = took.told;
       answered = took.answered;
       holds_of = elim fed [
-        | inl t ↦ as_told t.shown t.named t.told_is (ap (filter is_kept) t.items)
+        | inl t ↦ as_told t.shown t.named t.distinct t.told_is (ap (filter is_kept) t.items)
         | inr p ↦ in_part (part_kept took.told xs p)
       ];
     }
+
+-- what a walk opens is what its forest lists
+pub opens_listed : OpensListed
+opens_listed walk s = yields_opened (walk_course walk s) (ruled_forest walk s) (course_yields walk s)
+
+module _ (laws : WalkLaw) (request : GlobRequest) (can : CanBegin request) (s : Shown)
+    (named : IsNamed s) where
+  abbrev its_walk : RuledWalk
+  its_walk = walk_for request
+
+  -- what it keeps has exactly the wanted entries
+  kept_wanted : AreDistinctAlong request.origin.names s → AreWanted request s (request_kept request s)
+  kept_wanted distinct =
+      kept_entries (ruled_feed its_walk s)
+      ∙ (ap (filter is_kept_entry) (sym (feeds_by_walk its_walk s))
+      ∙ entries_wanted laws request s can (plain_named s named) distinct (is_beyond request) refl)
+
+  -- and the folders that it opens are those that it may open
+  calls_opened : AreOpened request s (opened_folders (answers (walk_calls its_walk s)))
+  calls_opened =
+      subst (AreOpened request s) (sym (opens_listed its_walk s))
+      (few_listed laws request s can (plain_named s named) (is_beyond request) refl)
 
 -- so it is of a glob's walk
 pub keeps_answered : WalkLaw → (request : GlobRequest) {D C : Type 0} (law : Law D C)
     (view : WalkView D) (new : D) (xs : List Given) → CanBegin request
     → ((c : Course) → MayTake view c → WalkTakes (walk_for request) c)
     → Took law view new xs → KeepsAnswered law view.directory new request (filter is_kept xs)
+unfolding part_kept
 keeps_answered laws request law view new xs can takes took = record {
   told = took.told;
   answered = took.answered;
   holds_of = elim (fed (walk_for request) law view new xs takes took) [
     | inl t ↦
         let s = t.shown in
-        keeps_all s t.named t.told_is (ap (filter is_kept) t.items)
-        (kept_entries xs ∙ (ap (filter is_kept_entry) (t.items ∙ sym (feeds_by_walk (walk_for request) s))
-        ∙ entries_wanted laws request s can (plain_named s t.named) t.distinct (is_beyond request) refl))
-    | inr p ↦ keeps_in_part (part_kept (walk_for request) took.told xs p)
+        let kept = ap (filter is_kept) t.items in
+        keeps_all s t.named t.distinct t.told_is kept
+        (ap (filter is_kept_entry) kept ∙ kept_wanted laws request can s t.named t.distinct)
+        (subst (λ z. AreOpened request s (opened_folders z)) (sym t.told_is)
+        (calls_opened laws request can s t.named))
+    | inr p ↦
+        let s = p.shown in
+        keeps_in_part (part_kept (walk_for request) took.told xs p)
+        (kept_wanted laws request can s p.named p.distinct) (opened_folders (answers p.rest))
+        (subst (AreOpened request s)
+        (sym (opened_first took.told p.calls p.rest (walk_calls (walk_for request) s) p.told_is p.calls_are))
+        (calls_opened laws request can s p.named))
   ];
 }
 

@@ -22,7 +22,7 @@ use Rattle.wax_walk.proofs.Filtered.{filtered_begins, ruled_course}
 use Rattle.wax_walk.proofs.Following.{lacks_filtered, take_ruled}
 use Rattle.wax_walk.proofs.Taking.{course_seen}
 use Rattle.wax_walk.specs.Course.{Course, IsFiltered, IsStartOf, stop}
-use Rattle.wax_walk.specs.Forest.{Forest, Pending, filtered_pending, nothing, pending, preorder}
+use Rattle.wax_walk.specs.Forest.{Forest, Pending, filtered_pending, listings, nothing, pending, preorder}
 use Rattle.wax_walk.specs.Pruned.{opened_forest, opened_course}
 use Rattle.wax_walk.specs.Given.{Facts, Mark, Given, changed_by, combined_mark, cut_by, fault, no_memory}
 use Rattle.wax_walk.specs.Given.{is_kept}
@@ -37,8 +37,8 @@ use Rattle.wax_exclude.specs.Walked.{wanted_entries, origin_walk, MayList}
 use Rattle.wax_exclude.specs.Wanted.{Filter, Wanted, filter_mark, filter_rules, is_kept_entry, stacked}
 use Rattle.wax_tree.specs.Programs.{any_mark}
 use Rattle.wax_exclude.specs.Due as due
-use Rattle.wax_exclude.specs.GlobRequests.{AreRulesOf, CanBegin, ComesExcluding, ComesWanted, GlobRequest}
-use Rattle.wax_exclude.specs.GlobRequests.{IsRuleOf, KeepsWanted}
+use Rattle.wax_exclude.specs.GlobRequests.{AreOpened, AreRulesOf, CanBegin, ComesExcluding, ComesWanted}
+use Rattle.wax_exclude.specs.GlobRequests.{GlobRequest, IsRuleOf, KeepsWanted}
 use Rattle.wax_exclude.specs.GlobRequests.{goes, is_beyond, request_excluding, request_pending, unmeant}
 use Rattle.wax_exclude.specs.GlobRequests.{walk_for}
 use Rattle.wax_exclude.specs.RuledWalks.{ComesRuled, RuledWalk, exceeds_range, lacking, origin_course}
@@ -268,14 +268,14 @@ module _ (laws : WalkLaw) where
         laws.nothing w asked origin s plain c.candidate (inl (walked, c, less))
     nothing_by by_matches c plain less = laws.least_nothing w asked walked origin s c plain less
 
-    lists_by : (pruning : Pruning) → CanWalkBy pruning w asked walked origin → IsWellNamed s
-        → ListsBy pruning w walked origin s (walk_by pruning)
-    lists_by by_components c named = laws.lists w asked walked origin s c named
-    lists_by by_matches c named = laws.lists_exactly w asked walked origin s c named
+    lists_by : (pruning : Pruning) → CanWalkBy pruning w asked walked origin → IsPlainShown s
+        → ListsBy pruning w walked origin s (listings (walk_by pruning))
+    lists_by by_components c plain = laws.lists w asked walked origin s c plain
+    lists_by by_matches c plain = laws.lists_exactly w asked walked origin s c plain
 
     -- beyond the greatest depth there is nothing to list
     lists_none : (pruning : Pruning) → walked.max < length origin.names
-        → ListsBy pruning w walked origin s nothing
+        → ListsBy pruning w walked origin s []
     lists_none by_components less = All-nil (MayList w walked origin)
     lists_none by_matches less = λ path. (
       λ c. absurd (contains_none path c),
@@ -301,16 +301,16 @@ module _ (laws : WalkLaw) where
       let l : length request.origin.names ≤ request.walked.max = ltb-false _ _ e in
       absurd (omega (arith, l, m))
 
-  few_listed : (request : GlobRequest) (s : Shown) → CanBegin request
-      → IsWellNamed s → (b : Bool) → is_beyond request ≡ b
-      → ListsBy request.pruning request.wanted request.walked request.origin s
-      (if b then nothing
-      else walk_by request.wanted request.asked request.walked request.origin s request.pruning)
-  few_listed request s can named true e =
+  pub few_listed : (request : GlobRequest) (s : Shown) → CanBegin request
+      → IsPlainShown s → (b : Bool) → is_beyond request ≡ b
+      → AreOpened request s
+      (listings (if b then nothing
+      else walk_by request.wanted request.asked request.walked request.origin s request.pruning))
+  few_listed request s can plain true e =
       lists_none request.wanted request.asked request.walked request.origin s request.pruning (ltb-true _ _ e)
-  few_listed request s (goes c) named false e =
-      lists_by request.wanted request.asked request.walked request.origin s request.pruning c named
-  few_listed request s (unmeant n c m) named false e =
+  few_listed request s (goes c) plain false e =
+      lists_by request.wanted request.asked request.walked request.origin s request.pruning c plain
+  few_listed request s (unmeant n c m) plain false e =
       let l : length request.origin.names ≤ request.walked.max = ltb-false _ _ e in
       absurd (omega (arith, l, m))
 
@@ -329,7 +329,7 @@ module _ (laws : WalkLaw) where
       due.gives (ap (filter is_kept) e)
       (kept_entries xs ∙ (ap (filter is_kept_entry) e ∙ entries_wanted request s can named.plain
       (distinct_along request.origin.names s named.distinct) (is_beyond request) refl)) t
-      (few_listed request s can named (is_beyond request) refl)
+      (few_listed request s can named.plain (is_beyond request) refl)
   keeps_wanted tells request s listed xs can named (lacks_memory c) =
       due.lacks_memory (cut_kept _ no_memory xs refl c)
   keeps_wanted tells request s listed xs can named (over_budget path depth few contains c) =

@@ -7,7 +7,7 @@ use Rattle.wax_tree.specs.Begins.{Origin}
 use Rattle.wax_tree.specs.declared.steps.DepthRange.{DepthRange}
 use Rattle.wax_tree.specs.Plain.{count_shown}
 use Rattle.wax_walk.specs.Candidates.{Candidate}
-use Rattle.wax_walk.specs.Forest.{Forest, Pending}
+use Rattle.wax_walk.specs.Forest.{Forest, Pending, listings}
 use Rattle.wax_walk.specs.Given.{Mark, Given}
 use Rattle.wax_walk.specs.View.{WalkView}
 use Rattle.wax_exclude.specs.Candidates.{base}
@@ -88,14 +88,18 @@ abbrev pub ComesExcluding : {D C : Type 0} → Law D C → Filter Span → WalkV
 ComesExcluding {D} law x inner outer = (d : D) (request : GlobRequest) → ComesWanted law d request inner
     → ComesWanted law d (request_excluding request (x ∷ [])) outer
 
--- what is due: the walk of the request, whose entries are exactly the wanted ones, in order; it lists only
--- folders that it may list, or exactly those that it may open
+-- of the tree s, these are only folders that the walk of the request may list; or, if it opens only folders
+-- below which something is matched, exactly those that it may open
+abbrev pub AreOpened : GlobRequest → Shown → List (List ℕ) → Type 0
+AreOpened request s folders = ListsBy request.pruning request.wanted request.walked request.origin s folders
+
+-- what is due: the walk of the request, whose entries are exactly the wanted ones, in order, and which lists
+-- the folders that it may
 abbrev pub request_due : GlobRequest → Shown → Due
 request_due request s = record {
   walk = request_walk request s;
   entries = wanted_entries request.wanted request.asked request.origin s;
-  ListsRightly = ListsBy request.pruning request.wanted request.walked request.origin s
-      (request_walk request s);
+  ListsRightly = AreOpened request s (listings (request_walk request s));
   items = count_shown s;
   budget = request.walked.budget;
 }

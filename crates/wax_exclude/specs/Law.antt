@@ -8,7 +8,7 @@ use Rattle.wax_tree.specs.Follows.{AreDistinctAlong}
 use Rattle.wax_walk.specs.Forest.{preorder, listings}
 use Rattle.wax_prefilter.specs.Below.{goes_test}
 use Rattle.wax_exclude.specs.Candidates.{base}
-use Rattle.wax_exclude.specs.Premises.{CanWalk, IsUnmeant, IsPlainShown, IsWellNamed}
+use Rattle.wax_exclude.specs.Premises.{CanWalk, IsUnmeant, IsPlainShown}
 use Rattle.wax_exclude.specs.Pruned.{CanWalkLeast, ListsBy, by_matches, least_walk}
 use Rattle.wax_exclude.specs.Walked.{wanted_entries, glob_walk, MayList}
 use Rattle.wax_exclude.specs.Wanted.{Wanted, is_kept_entry}
@@ -24,7 +24,7 @@ GivesWanted = (w : Wanted Span) (asked walked : DepthRange) (origin : Origin) (s
 -- the walk lists only folders that it may list
 abbrev pub ListsFew : Type 0
 ListsFew = (w : Wanted Span) (asked walked : DepthRange) (origin : Origin) (s : Shown)
-    → CanWalk w asked walked origin → IsWellNamed s
+    → CanWalk w asked walked origin → IsPlainShown s
     → All (MayList w walked origin) (listings (glob_walk w walked origin s))
 
 -- if the origin has more names than the greatest depth, or no candidate matches, nothing is wanted: so a walk
@@ -51,8 +51,9 @@ GivesLeast = (w : Wanted Span) (asked walked : DepthRange) (origin : Origin) (s 
 -- matched, and which no filter excludes with everything below
 abbrev pub ListsExactly : Type 0
 ListsExactly = (w : Wanted Span) (asked walked : DepthRange) (origin : Origin) (s : Shown)
-    → CanWalkLeast w asked walked origin → IsWellNamed s
-    → ListsBy by_matches w walked origin s (least_walk (goes_test w.glob) asked.min w walked origin s)
+    → CanWalkLeast w asked walked origin → IsPlainShown s
+    → ListsBy by_matches w walked origin s
+    (listings (least_walk (goes_test w.glob) asked.min w walked origin s))
 
 -- if the origin has more names than the greatest depth, nothing is wanted
 abbrev pub LeastWantsNothing : Type 0

@@ -137,8 +137,8 @@ IsCoveredBelow w origin path = (names : List (List ℕ)) × ArePlain (origin.nam
     × (path ≡ path_from (path_from origin.path origin.names) names)
     × SomeCovers w.rooted w.filters (map chars (origin.names ++ names))
 
--- the walk lists only folders that it may list; or exactly those of the plain walk that it may open
-abbrev pub ListsBy : {A : Type 0} → Pruning → Wanted A → DepthRange → Origin → Shown → Forest Given → Type 0
-ListsBy by_components w range origin s walk = All (MayList w range origin) (listings walk)
-ListsBy by_matches w range origin s walk = (path : List ℕ) → Contains (listings walk) path
+-- these are only folders that the walk may list; or exactly those of the plain walk that it may open
+abbrev pub ListsBy : {A : Type 0} → Pruning → Wanted A → DepthRange → Origin → Shown → List (List ℕ) → Type 0
+ListsBy by_components w range origin s listed = All (MayList w range origin) listed
+ListsBy by_matches w range origin s listed = (path : List ℕ) → Contains listed path
     ↔ Contains (listings (origin_walk range origin s)) path × MayOpen w range origin path

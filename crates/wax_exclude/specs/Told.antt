@@ -1,15 +1,18 @@
 -- What a walk yields to its end, whatever the directory answers.
-use Rattle.std.specs.Prelude.{◌≡◌, ◌++◌, List, filter}
+use Rattle.std.specs.Prelude.{◌≡◌, ◌++◌, ℕ, List, filter}
 use Rattle.wax_directory.specs.History.{Answer}
 use Rattle.wax_directory.specs.Law.{Law}
 use Rattle.wax_directory.specs.Shown.{Shown}
 use Rattle.wax_tree.specs.Courses.{IsNamed}
+use Rattle.wax_tree.specs.Follows.{AreDistinctAlong}
 use Rattle.wax_walk.specs.Collected.{IsCutShort}
 use Rattle.wax_walk.specs.Course.{CutsShort, DirectoryCall, answers, calls_of}
+use Rattle.wax_walk.specs.Forest.{listings}
 use Rattle.wax_walk.specs.Given.{Given, is_kept}
+use Rattle.wax_walk.specs.Opened.{opened_folders}
 use Rattle.wax_exclude.specs.Feeds.{ruled_feed}
-use Rattle.wax_exclude.specs.GlobRequests.{GlobRequest, walk_for}
-use Rattle.wax_exclude.specs.RuledWalks.{RuledWalk, walk_course}
+use Rattle.wax_exclude.specs.GlobRequests.{AreOpened, GlobRequest, walk_for}
+use Rattle.wax_exclude.specs.RuledWalks.{RuledWalk, ruled_forest, walk_course}
 use Rattle.wax_exclude.specs.Walked.{wanted_entries}
 use Rattle.wax_exclude.specs.Wanted.{is_kept_entry}
 
@@ -24,12 +27,14 @@ ruled_kept walk s = filter is_kept (ruled_feed walk s)
 abbrev pub request_kept : GlobRequest → Shown → List Given
 request_kept request s = ruled_kept (walk_for request) s
 
--- what was answered begins what a tree answers, and the items begin what is due of that tree; then one error
--- came, because allocation failed or the budget was reached in the folder that was asked last
+-- what was answered begins what a tree answers, in which each name of the origin is looked up among distinct
+-- names, and the items begin what is due of that tree; then one error came, because allocation failed or the
+-- budget was reached in the folder that was asked last
 pub record ToldInPart (walk : RuledWalk) (due : Shown → List Given) (told : List Answer)
     (xs : List Given) : Type 0 where
   pub shown : Shown
   pub named : IsNamed shown
+  pub distinct : AreDistinctAlong walk.origin.names shown
   pub calls : List DirectoryCall
   pub rest : List DirectoryCall
   pub calls_are : calls ++ rest ≡ walk_calls walk shown
@@ -42,17 +47,31 @@ pub record ToldInPart (walk : RuledWalk) (due : Shown → List Given) (told : Li
 -- in part
 pub data IsTold (walk : RuledWalk) (due : Shown → List Given) (told : List Answer) (xs : List Given) : Type 0
   where
-    as_told : (s : Shown) → IsNamed s → told ≡ answers (walk_calls walk s) → xs ≡ due s
-        → IsTold walk due told xs
+    as_told : (s : Shown) → IsNamed s → AreDistinctAlong walk.origin.names s
+        → told ≡ answers (walk_calls walk s) → xs ≡ due s → IsTold walk due told xs
     in_part : ToldInPart walk due told xs → IsTold walk due told xs
 
--- so it is of the walk of a glob, whose kept entries are exactly the wanted ones, in order
+-- the entries among these items are the wanted ones of the tree s, in order
+abbrev pub AreWanted : GlobRequest → Shown → List Given → Type 0
+AreWanted request s ys =
+    filter is_kept_entry ys ≡ wanted_entries request.wanted request.asked request.origin s
+
+-- So it is of the walk of a glob: its kept entries are exactly the wanted ones of the tree, in order, and the
+-- folders that it opened, or that couldn't be listed, are those that it may open of that tree. In part, the
+-- items and the folders begin such lists.
 pub data KeepsTold (request : GlobRequest) (told : List Answer) (ys : List Given) : Type 0 where
-  keeps_all : (s : Shown) → IsNamed s → told ≡ answers (walk_calls (walk_for request) s)
-      → ys ≡ request_kept request s
-      → filter is_kept_entry ys ≡ wanted_entries request.wanted request.asked request.origin s
+  keeps_all : (s : Shown) → IsNamed s → AreDistinctAlong request.origin.names s
+      → told ≡ answers (walk_calls (walk_for request) s) → ys ≡ request_kept request s
+      → AreWanted request s ys → AreOpened request s (opened_folders told) → KeepsTold request told ys
+  keeps_in_part : (part : ToldInPart (walk_for request) (request_kept request) told ys)
+      → AreWanted request part.shown (request_kept request part.shown)
+      → (later : List (List ℕ)) → AreOpened request part.shown (opened_folders told ++ later)
       → KeepsTold request told ys
-  keeps_in_part : ToldInPart (walk_for request) (request_kept request) told ys → KeepsTold request told ys
+
+-- the folders that a walk opens, or that can't be listed, are those that its forest lists, in this order
+abbrev pub OpensListed : Type 0
+OpensListed = (walk : RuledWalk) (s : Shown)
+    → opened_folders (answers (walk_calls walk s)) ≡ listings (ruled_forest walk s)
 
 -- what the directory answered from `old` to `new`, and that this holds of it
 pub record Answering {D C : Type 0} (law : Law D C) (old new : D) (holds : List Answer → Type 0) : Type 0

@@ -9,6 +9,7 @@ ghost use Rattle.wax_exclude.specs.TreeRequests.{tree_request, WantsUnfiltered};
 ghost use Rattle.wax_exclude.specs.GlobRequests.{ComesWanted, CanBegin, request_excluding};
 ghost use Rattle.wax_exclude.specs.Unignored.{GivesUnignored, LosesIgnored};
 ghost use Rattle.wax_exclude.specs.RuledWalks.{ComesRuled, RuledWalk, with_rule};
+ghost use Rattle.wax_exclude.specs.Told.{OpensListed};
 ghost use Rattle.wax_exclude.specs.Wanted.{Filter};
 ghost use Rattle.wax_walk.specs.declared.filter_entry.FilterEntry.{FilterEntry};
 ghost use Rattle.wax_walk.specs.Given.{Facts, Mark};
@@ -29,11 +30,13 @@ pub fn law_of_walks()
 
 /// States that the feed of a walk with any filters, as a list, is what they leave of the list of the
 /// whole walk, errors included: all items but those below an earlier entry that they exclude with
-/// everything below it.
+/// everything below it. States also that by its calls the walk opens exactly the folders that its
+/// forest lists, in order, where those that can't be listed count.
 pub fn law_of_feeds()
     ensures rules { FeedsByRules }
     ensures walks { FeedsByWalk }
     ensures requests { FeedsByRequest }
+    ensures opens { OpensListed }
 {}
 
 /// States that a closure whose results depend only on the entry filters a walk by one more rule. So

@@ -11,11 +11,13 @@ use Rattle.wax_walk.specs.Course.{IsStartOf, DirectoryCall, Course, CutsShort, I
 use Rattle.wax_walk.specs.Course.{calls_of}
 use Rattle.wax_walk.specs.Course.{continued, items_of, stop, unknown, yields}
 use Rattle.wax_walk.specs.declared.error.FaultKind.TheVariants as K
-use Rattle.wax_walk.specs.Forest.{Forest, nothing, item, lists, followed_by}
+use Rattle.wax_walk.specs.Forest.{Forest, followed_by, item, listings, lists, nothing}
 use Rattle.wax_walk.specs.Given.{Given, entry, fault, no_memory, is_kept}
 use Rattle.wax_walk.specs.View.{MayTake, WalkView}
 use Rattle.wax_walk.proofs.Courses.{begins_whole, comes_first}
-use Rattle.wax_walk.proofs.Filtered.{Yields, forest_continued, unlisted_followed, yields_items}
+use Rattle.wax_walk.proofs.Filtered.{Yields, forest_continued, lists_each, forest_of, opened_first}
+use Rattle.wax_walk.proofs.Filtered.{yields_items, yields_opened}
+use Rattle.wax_walk.specs.Opened.{opened_by, opened_folders}
 use Rattle.wax_tree.specs.declared.steps.DepthRange.{DepthRange}
 use Rattle.wax_tree.specs.Begins.{OnlyLacks, StartTakes, lacking_start, scope_in, walks}
 use Rattle.wax_tree.specs.Courses.{below_course, course_above_max, course_at_depth}
@@ -45,8 +47,7 @@ continued_yields : (b a : Course) (f g : Forest Given) → Yields b f → Yields
     → Yields (continued b a) (followed_by f g)
 continued_yields b a f g h k = record {
   is_whole = whole_continued b a h.is_whole k.is_whole;
-  forest = forest_continued b a h.is_whole ∙ ((λ i. followed_by (h.forest i) (k.forest i))
-      ∙ sym (unlisted_followed f g));
+  forest = forest_continued b a h.is_whole ∙ (λ i. followed_by (h.forest i) (k.forest i));
 }
 
 item_yields : (x : Given) (b a : Course) (f g : Forest Given) → Yields b f → Yields a g
@@ -61,12 +62,21 @@ either_yields : (t : Bool) (c d : Course) (f g : Forest Given) → Yields c f �
 either_yields true c d f g h k = h
 either_yields false c d f g h k = k
 
-asked_yields : (q : DirectoryCall) (c : Course) (f : Forest Given) → Yields c f → Yields (asks q c) f
-asked_yields q c f h = record { is_whole = h.is_whole; forest = h.forest }
+-- a call that opens no folder
+asked_yields : {q : DirectoryCall} {c : Course} {f : Forest Given} → opened_by q.answer ≡ [] → Yields c f
+    → Yields (asks q c) f
+asked_yields {q} {c} {f} e h = record {
+  is_whole = h.is_whole;
+  forest = ap (λ paths. lists_each paths (forest_of c)) e ∙ h.forest;
+}
 
-listed_yields : (q : DirectoryCall) (path : List ℕ) (c : Course) (f : Forest Given) → Yields c f
-    → Yields (asks q c) (lists path f)
-listed_yields q path c f h = record { is_whole = h.is_whole; forest = h.forest }
+-- a call that opens this folder
+listed_yields : {q : DirectoryCall} {path : List ℕ} {c : Course} {f : Forest Given}
+    → opened_by q.answer ≡ path ∷ [] → Yields c f → Yields (asks q c) (lists path f)
+listed_yields {q} {path} {c} {f} e h = record {
+  is_whole = h.is_whole;
+  forest = ap (λ paths. lists_each paths (forest_of c)) e ∙ ap (lists path) h.forest;
+}
 
 module _ (scope : WalkScope) where
   depth_yields : (depth : ℕ) (x : Given) (b a : Course) (f g : Forest Given) → Yields b f → Yields a g
@@ -84,58 +94,58 @@ module _ (scope : WalkScope) where
   items_yield : (at : Location) (l : Items) → Yields (items_course scope at l) (items_forest scope at l)
   items_yield at end = record { is_whole = tt; forest = refl }
   items_yield at (leaf x link rest) =
-      asked_yields _ _ _ (depth_yields at.depth _ stop (items_course scope at rest)
+      asked_yields refl (depth_yields at.depth _ stop (items_course scope at rest)
       nothing (items_forest scope at rest) nothing_yields (items_yield at rest))
   items_yield at (folder x inner rest) =
-      asked_yields _ _ _ (depth_yields at.depth _ _ (items_course scope at rest)
+      asked_yields refl (depth_yields at.depth _ _ (items_course scope at rest)
       _ (items_forest scope at rest)
-      (max_yields at.depth _ _ (listed_yields _ _ _ _ (items_yield (one_deeper (item_location at x)) inner)))
+      (max_yields at.depth _ _ (listed_yields refl (items_yield (one_deeper (item_location at x)) inner)))
       (items_yield at rest))
-  items_yield at (sealed x rest) = asked_yields _ _ _ (depth_yields at.depth _ _ (items_course scope at rest)
+  items_yield at (sealed x rest) = asked_yields refl (depth_yields at.depth _ _ (items_course scope at rest)
       _ (items_forest scope at rest)
       (max_yields at.depth _ _
-      (listed_yields _ _ _ _ (fault_yields (fault K.Listing (join at.path x) at.depth))))
+      (listed_yields refl (fault_yields (fault K.Listing (join at.path x) at.depth))))
       (items_yield at rest))
-  items_yield at (misnamed x kind rest) = asked_yields _ _ _ (item_yields _ stop (items_course scope at rest)
+  items_yield at (misnamed x kind rest) = asked_yields refl (item_yields _ stop (items_course scope at rest)
       nothing (items_forest scope at rest) nothing_yields (items_yield at rest))
-  items_yield at (unread rest) = asked_yields _ _ _ (item_yields _ stop (items_course scope at rest) nothing
+  items_yield at (unread rest) = asked_yields refl (item_yields _ stop (items_course scope at rest) nothing
       (items_forest scope at rest) nothing_yields (items_yield at rest))
-  items_yield at (not_text rest) = asked_yields _ _ _ (item_yields _ stop (items_course scope at rest) nothing
+  items_yield at (not_text rest) = asked_yields refl (item_yields _ stop (items_course scope at rest) nothing
       (items_forest scope at rest) nothing_yields (items_yield at rest))
 
   below_yields : (at : Location) (s : Shown) → Yields (below_course scope at s) (below_forest scope at s)
   below_yields at (a_leaf link) = nothing_yields
-  below_yields at (a_folder l) = max_yields at.depth _ _ (listed_yields _ _ _ _ (items_yield _ l))
+  below_yields at (a_folder l) = max_yields at.depth _ _ (listed_yields refl (items_yield _ l))
   below_yields at a_sealed =
       let same : (at.depth + 1) - 1 ≡ at.depth = omega arith in
       subst (λ n. Yields (course_above_max scope at.depth (refused_course scope at.path n))
       (above_max scope at.depth (unlisted scope at.path at.depth))) (sym same)
-      (max_yields at.depth _ _ (listed_yields _ _ _ _ (fault_yields (fault K.Listing at.path at.depth))))
+      (max_yields at.depth _ _ (listed_yields refl (fault_yields (fault K.Listing at.path at.depth))))
   below_yields at missing = nothing_yields
   below_yields at failing = nothing_yields
 
   pub place_yields : (at : Location) (s : Shown)
       → Yields (place_course scope at s stop) (plain_at scope at s nothing)
-  place_yields at (a_leaf link) = asked_yields _ _ _ (depth_yields at.depth _ _ stop _ nothing
+  place_yields at (a_leaf link) = asked_yields refl (depth_yields at.depth _ _ stop _ nothing
       (below_yields at (a_leaf link)) nothing_yields)
-  place_yields at (a_folder l) = asked_yields _ _ _ (depth_yields at.depth _ _ stop _ nothing
+  place_yields at (a_folder l) = asked_yields refl (depth_yields at.depth _ _ stop _ nothing
       (below_yields at (a_folder l)) nothing_yields)
   place_yields at a_sealed =
-      asked_yields _ _ _ (depth_yields at.depth _ _ stop _ nothing (below_yields at a_sealed)
+      asked_yields refl (depth_yields at.depth _ _ stop _ nothing (below_yields at a_sealed)
       nothing_yields)
-  place_yields at missing = asked_yields _ _ _ (fault_yields (fault K.NotFound at.path at.depth))
-  place_yields at failing = asked_yields _ _ _ (fault_yields (fault K.Listing at.path at.depth))
+  place_yields at missing = asked_yields refl (fault_yields (fault K.NotFound at.path at.depth))
+  place_yields at failing = asked_yields refl (fault_yields (fault K.Listing at.path at.depth))
 
   -- the course along names yields what the walk along them does
   pub along_yields : (names : List (List ℕ)) (at : Location) (s : Shown)
       → Yields (along_course scope names at s) (walk_from scope at s names nothing)
   along_yields [] at s = place_yields at s
   along_yields (x ∷ names) at (a_folder l) =
-      asked_yields _ _ _ (along_yields names (one_deeper (item_location at x)) (child_in x l))
+      asked_yields refl (along_yields names (one_deeper (item_location at x)) (child_in x l))
   along_yields (x ∷ names) at a_sealed =
-      asked_yields _ _ _ (place_yields (one_deeper (item_location at x)) failing)
+      asked_yields refl (place_yields (one_deeper (item_location at x)) failing)
   along_yields (x ∷ names) at (a_leaf link) =
-      asked_yields _ _ _ (fault_yields (fault K.NotAFolder at.path at.depth))
+      asked_yields refl (fault_yields (fault K.NotAFolder at.path at.depth))
   along_yields (x ∷ names) at missing = place_yields at missing
   along_yields (x ∷ names) at failing = place_yields at failing
 
@@ -199,11 +209,19 @@ module _ (range : DepthRange) (start : List ℕ) where
       ≡ yielded range (all.whole start s)
   items_plain s = yields_items _ _ (plain_yields s) ∙ plain_yielded range start s
 
+  -- the folders that it opens are those that the plain walk lists
+  plain_opened : (s : Shown) → opened_folders (answers (calls_for range start s))
+      ≡ listings (plain (scope_in range) start s)
+  plain_opened s = yields_opened (plain_course (scope_in range) start s) _ (plain_yields s)
+
   -- only an error came, and nothing was asked
   lacks_answered : (told : List Answer) (xs : List Given) (x : Given) → told ≡ [] → xs ≡ x ∷ []
       → CutsShort [] x → EntriesAnswered range start told xs
   lacks_answered told xs x e f s =
-      told_in_part missing [] (calls_for range start missing) x tt refl e ([], _, f, refl) s
+      told_in_part missing [] (calls_for range start missing) x tt refl e
+      (opened_folders (answers (calls_for range start missing)))
+      (opened_first told [] (calls_for range start missing) _ e refl ∙ plain_opened missing)
+      ([], yielded range (all.whole start missing), f, refl) s
 
   pub entries_answered : {D : Type 0} (view : WalkView D) (told : List Answer) (xs ys : List Given)
       → ((c : Course) → MayTake view c → StartTakes (scope_in range) start c) → EndsThere xs
@@ -214,7 +232,8 @@ module _ (range : DepthRange) (start : List ℕ) where
         let items = f ∙ ap items_of same in
         let kept = first_kept (scope_in range) start s xs []
         (append-nil xs ∙ (items ∙ yields_items _ _ (plain_yields s))) in
-        as_told s n (e ∙ ap (λ z. answers (calls_of z)) same) (k ∙ (kept ∙ (items ∙ items_plain s)))
+        let asked = e ∙ ap (λ z. answers (calls_of z)) same in
+        as_told s n asked (ap opened_folders asked ∙ plain_opened s) (k ∙ (kept ∙ (items ∙ items_plain s)))
     | lacking_start b ↦
         let same = begins_whole c (yields no_memory stop stop) w b in
         lacks_answered told ys no_memory (e ∙ ap (λ z. answers (calls_of z)) same)
@@ -225,7 +244,8 @@ module _ (range : DepthRange) (start : List ℕ) where
         let p = comes_first c (plain_course (scope_in range) start d) first b in
         let kept = error_kept (scope_in range) start d (items_of c) p.items x (cutting_kept (calls_of c) x s)
         (p.items_are ∙ yields_items _ _ (plain_yields d)) in
-        told_in_part d (calls_of c) p.calls x n p.calls_are e (
+        told_in_part d (calls_of c) p.calls x n p.calls_are e (opened_folders (answers p.calls))
+        (opened_first told (calls_of c) p.calls (calls_for range start d) e p.calls_are ∙ plain_opened d) (
           items_of c,
           p.items,
           k ∙ (ap (filter is_kept) f ∙ kept),

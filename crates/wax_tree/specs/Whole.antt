@@ -14,8 +14,9 @@ use Rattle.wax_walk.specs.Collected.{IsCutShort}
 use Rattle.wax_walk.specs.Course.{DirectoryCall, CutsShort, answers, calls_of}
 use Rattle.wax_walk.specs.declared.error.FaultKind.TheVariants.{NotFound, NotAFolder, Listing, BadName}
 use Rattle.wax_walk.specs.declared.error.FaultKind.TheVariants.{NotText, Budget}
-use Rattle.wax_walk.specs.Forest.{Pending, pending, nothing}
+use Rattle.wax_walk.specs.Forest.{Pending, listings, nothing, pending}
 use Rattle.wax_walk.specs.Given.{Given, entry, fault, no_memory}
+use Rattle.wax_walk.specs.Opened.{opened_folders}
 
 -- what is to come of a plain walk from a start where s is shown
 abbrev pub plain_pending : DepthRange → List ℕ → Shown → List (List ℕ) → Pending Given
@@ -83,14 +84,17 @@ pub data EntriesAre (range : DepthRange) (start : List ℕ) (s : Shown) (xs : Li
 abbrev pub calls_for : DepthRange → List ℕ → Shown → List DirectoryCall
 calls_for range start s = calls_of (plain_course (scope_in range) start s)
 
--- whatever was answered: it is what some tree answers, and the items are what these depths leave of its whole
--- walk; or it begins that, and the items are a prefix and then one error, because allocation failed or the
--- budget was reached in the folder that was asked last
+-- whatever was answered: it is what some tree answers, the folders that were opened, or that couldn't be
+-- listed, are those that the plain walk of this tree lists, in order, and the items are what these depths
+-- leave of its whole walk; or it begins that, and the items are a prefix and then one error, because
+-- allocation failed or the budget was reached in the folder that was asked last
 pub data EntriesAnswered (range : DepthRange) (start : List ℕ) (told : List Answer) (xs : List Given) : Type 0
   where
     as_told : (s : Shown) → IsNamed s → told ≡ answers (calls_for range start s)
+        → opened_folders told ≡ listings (plain (scope_in range) start s)
         → xs ≡ yielded range (whole start s) → EntriesAnswered range start told xs
     told_in_part : (s : Shown) (calls rest : List DirectoryCall) (x : Given) → IsNamed s
         → calls ++ rest ≡ calls_for range start s → told ≡ answers calls
+        → (later : List (List ℕ)) → opened_folders told ++ later ≡ listings (plain (scope_in range) start s)
         → IsCutShort (yielded range (whole start s)) x xs → CutsShort calls x
         → EntriesAnswered range start told xs

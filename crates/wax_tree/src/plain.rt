@@ -24,9 +24,10 @@ use wax_walk::{Entry, TreeEntry, WalkError, collect};
 /// at the depths of `behavior`, with the errors of the folders that are listed. If memory or the
 /// budget runs out, the list is a prefix of that and then one error: 17 for memory, or 16 if the
 /// folders together hold more items than the budget. Over any directory, whatever it answered, its
-/// answers are those of some tree, and the items are the walk of that tree, or a beginning of both and
-/// one error; and each error is of a folder that was yielded before it, of the start, or of a folder
-/// above the least depth.
+/// answers are those of some tree, the items are the walk of that tree, and the folders that were
+/// opened, or couldn't be listed, are those that this walk lists; or all begin so, and one error
+/// comes. Each error is of a folder that was yielded before it, of the start, or of a folder above
+/// the least depth.
 ///
 /// # Errors
 ///

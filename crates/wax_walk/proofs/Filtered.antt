@@ -1,11 +1,16 @@
 -- What a rule leaves of a known course, and of the forest that comes of it.
-use Rattle.std.proofs.Common.{◌≡◌, ◌∙◌, Bool, true, false, cond, ◌++◌, ◌∷◌, refl, sym, ap, subst, inl, inr}
-use Rattle.wax_walk.specs.Course.{ComesBelow, Course, IsFiltered, IsKnownWhole, IsStartOf, asks}
-use Rattle.wax_walk.specs.Course.{continued, filtered_course, items_of, stop, unknown, yields}
-use Rattle.wax_walk.specs.Forest.{Forest, filtered, followed_by, item, lists, nothing, preorder}
+use Rattle.std.proofs.Common.{◌≡◌, ◌∙◌, ℕ, Bool, true, false, cond, List, [], ◌∷◌, ◌++◌, append_assoc, refl}
+use Rattle.std.proofs.Common.{sym, ap, subst, inl, inr}
+use Rattle.std.proofs.lemmas.List.{map-append}
+use Rattle.wax_directory.specs.History.{Answer}
+use Rattle.wax_walk.specs.Course.{ComesBelow, Course, DirectoryCall, IsFiltered, IsKnownWhole, IsStartOf}
+use Rattle.wax_walk.specs.Course.{answers, asks, calls_of, continued, filtered_course, items_of, stop}
+use Rattle.wax_walk.specs.Course.{unknown, yields}
+use Rattle.wax_walk.specs.Forest.{Forest, filtered, followed_by, item, listings, lists, nothing, preorder}
 use Rattle.wax_walk.specs.Given.{Facts, Given, Mark, alone, changed_by, cut_by, entry, fault, is_cut, kept}
 use Rattle.wax_walk.specs.Given.{no_memory}
 use Rattle.wax_walk.specs.Given.{with_mark, with_tree}
+use Rattle.wax_walk.specs.Opened.{opened_by, opened_folders}
 use Rattle.wax_walk.specs.Pruned.{IsPrunedBy, Opening, all_folders, is_closed, itself, opened_forest}
 use Rattle.wax_walk.specs.Pruned.{opened_course, pruned}
 use Rattle.wax_walk.specs.Pruned.{pruned_course, these_folders}
@@ -86,50 +91,90 @@ pruned_begins opens = cut_begins itself (is_closed opens) (IsPrunedBy opens)
 
 -- ---- forests
 
--- the items of a course
+-- these folders are listed, and then comes what is in the forest
+abbrev pub lists_each : List (List ℕ) → Forest Given → Forest Given
+lists_each [] f = f
+lists_each (path ∷ paths) f = lists path (lists_each paths f)
+
+-- the items of a course, and the folders that are opened for them
 abbrev pub forest_of : Course → Forest Given
 forest_of stop = nothing
 forest_of unknown = nothing
-forest_of (asks q c) = forest_of c
+forest_of (asks q c) = lists_each (opened_by q.answer) (forest_of c)
 forest_of (yields x below after) = item x (forest_of below) (forest_of after)
 
--- a forest without its listings
-abbrev pub unlisted : Forest Given → Forest Given
-unlisted nothing = nothing
-unlisted (item x below after) = item x (unlisted below) (unlisted after)
-unlisted (lists path after) = unlisted after
+preorder_each : (paths : List (List ℕ)) (f : Forest Given) → preorder (lists_each paths f) ≡ preorder f
+preorder_each [] f = refl
+preorder_each (path ∷ paths) f = preorder_each paths f
+
+listings_each : (paths : List (List ℕ)) (f : Forest Given)
+    → listings (lists_each paths f) ≡ paths ++ listings f
+listings_each [] f = refl
+listings_each (path ∷ paths) f = ap (λ z. path ∷ z) (listings_each paths f)
+
+followed_each : (paths : List (List ℕ)) (f g : Forest Given)
+    → followed_by (lists_each paths f) g ≡ lists_each paths (followed_by f g)
+followed_each [] f g = refl
+followed_each (path ∷ paths) f g = ap (lists path) (followed_each paths f g)
 
 items_forest : (c : Course) → items_of c ≡ preorder (forest_of c)
 items_forest stop = refl
 items_forest unknown = refl
-items_forest (asks q c) = items_forest c
+items_forest (asks q c) = items_forest c ∙ sym (preorder_each (opened_by q.answer) (forest_of c))
 items_forest (yields x b a) = λ i. x ∷ (items_forest b i ++ items_forest a i)
 
-preorder_unlisted : (f : Forest Given) → preorder (unlisted f) ≡ preorder f
-preorder_unlisted nothing = refl
-preorder_unlisted (item x below after) = λ i. x ∷ (preorder_unlisted below i ++ preorder_unlisted after i)
-preorder_unlisted (lists path after) = preorder_unlisted after
+opened_append : (xs ys : List Answer) → opened_folders (xs ++ ys) ≡ opened_folders xs ++ opened_folders ys
+opened_append [] ys = refl
+opened_append (x ∷ xs) ys =
+    ap (λ z. opened_by x ++ z) (opened_append xs ys)
+    ∙ sym (append_assoc (opened_by x) (opened_folders xs) (opened_folders ys))
 
-pub unlisted_followed : (f g : Forest Given)
-    → unlisted (followed_by f g) ≡ followed_by (unlisted f) (unlisted g)
-unlisted_followed nothing g = refl
-unlisted_followed (item x below after) g = ap (item x (unlisted below)) (unlisted_followed after g)
-unlisted_followed (lists path after) g = unlisted_followed after g
+opened_both : (these those : List DirectoryCall)
+    → opened_folders (answers (these ++ those))
+    ≡ opened_folders (answers these) ++ opened_folders (answers those)
+opened_both these those =
+    ap opened_folders (map-append (λ q. q.answer) these those)
+    ∙ opened_append (answers these) (answers those)
+
+-- the folders that were opened by the first calls, and then those that the other calls open
+pub opened_first : (told : List Answer) (calls rest all : List DirectoryCall) → told ≡ answers calls
+    → calls ++ rest ≡ all
+    → opened_folders told ++ opened_folders (answers rest) ≡ opened_folders (answers all)
+opened_first told calls rest all t e =
+    ap (λ z. opened_folders z ++ opened_folders (answers rest)) t
+    ∙ (sym (opened_both calls rest) ∙ ap (λ z. opened_folders (answers z)) e)
+
+-- the folders that a course opens are those that its forest lists
+opened_forest_of : (c : Course) → opened_folders (answers (calls_of c)) ≡ listings (forest_of c)
+opened_forest_of stop = refl
+opened_forest_of unknown = refl
+opened_forest_of (asks q c) =
+    ap (λ z. opened_by q.answer ++ z) (opened_forest_of c)
+    ∙ sym (listings_each (opened_by q.answer) (forest_of c))
+opened_forest_of (yields x b a) =
+    opened_both (calls_of b) (calls_of a) ∙ (λ i. opened_forest_of b i ++ opened_forest_of a i)
 
 pub forest_continued : (c d : Course) → IsKnownWhole c
     → forest_of (continued c d) ≡ followed_by (forest_of c) (forest_of d)
 forest_continued stop d w = refl
 forest_continued unknown d w = absurd w
-forest_continued (asks q c) d w = forest_continued c d w
+forest_continued (asks q c) d w =
+    ap (lists_each (opened_by q.answer)) (forest_continued c d w)
+    ∙ sym (followed_each (opened_by q.answer) (forest_of c) (forest_of d))
 forest_continued (yields x b a) d w = ap (item x (forest_of b)) (forest_continued a d w.1)
 
--- the course is known to its end, and its items are those of the forest, each with the same below it
+-- the course is known to its end, its items are those of the forest, each with the same below it, and the
+-- folders that it opens are those that the forest lists, each at the same point
 pub record Yields (c : Course) (f : Forest Given) : Type 0 where
   pub is_whole : IsKnownWhole c
-  pub forest : forest_of c ≡ unlisted f
+  pub forest : forest_of c ≡ f
 
 pub yields_items : (c : Course) (f : Forest Given) → Yields c f → items_of c ≡ preorder f
-yields_items c f y = items_forest c ∙ (ap preorder y.forest ∙ preorder_unlisted f)
+yields_items c f y = items_forest c ∙ ap preorder y.forest
+
+pub yields_opened : (c : Course) (f : Forest Given) → Yields c f
+    → opened_folders (answers (calls_of c)) ≡ listings f
+yields_opened c f y = opened_forest_of c ∙ ap listings y.forest
 
 module _ (change : Given → Given) (cut : Given → Bool) where
   abbrev cut_forest : Forest Given → Forest Given
@@ -139,33 +184,28 @@ module _ (change : Given → Given) (cut : Given → Bool) where
   forest_below true c = refl
   forest_below false c = refl
 
+  cut_each : (paths : List (List ℕ)) (f : Forest Given)
+      → cut_forest (lists_each paths f) ≡ lists_each paths (cut_forest f)
+  cut_each [] f = refl
+  cut_each (path ∷ paths) f = ap (lists path) (cut_each paths f)
+
   forest_cut : (c : Course) → forest_of (cut_course change cut c) ≡ cut_forest (forest_of c)
   forest_cut stop = refl
   forest_cut unknown = refl
-  forest_cut (asks q c) = forest_cut c
+  forest_cut (asks q c) =
+      ap (lists_each (opened_by q.answer)) (forest_cut c)
+      ∙ sym (cut_each (opened_by q.answer) (forest_of c))
   forest_cut (yields x b a) =
       ap (λ z. item (change x) z (forest_of (cut_course change cut a)))
       (forest_below (cut x) (cut_course change cut b))
       ∙ (λ i. item (change x) (cond (cut x) nothing (forest_cut b i)) (forest_cut a i))
-
-  unlisted_below : (b : Bool) (f : Forest Given) → unlisted (cond b nothing f) ≡ cond b nothing (unlisted f)
-  unlisted_below true f = refl
-  unlisted_below false f = refl
-
-  unlisted_cut : (f : Forest Given) → unlisted (cut_forest f) ≡ cut_forest (unlisted f)
-  unlisted_cut nothing = refl
-  unlisted_cut (item x below after) =
-      ap (λ z. item (change x) z (unlisted (cut_forest after)))
-      (unlisted_below (cut x) (cut_forest below))
-      ∙ (λ i. item (change x) (cond (cut x) nothing (unlisted_cut below i)) (unlisted_cut after i))
-  unlisted_cut (lists path after) = unlisted_cut after
 
   -- a filter leaves of a course what it leaves of the forest
   pub cut_yields : (c : Course) (f : Forest Given) → Yields c f
       → Yields (cut_course change cut c) (cut_forest f)
   cut_yields c f y = record {
     is_whole = whole_cut change cut c y.is_whole;
-    forest = forest_cut c ∙ (ap cut_forest y.forest ∙ sym (unlisted_cut f));
+    forest = forest_cut c ∙ ap cut_forest y.forest;
   }
 
 pub ruled_yields : (rule : Facts → Mark) (c : Course) (f : Forest Given) → Yields c f

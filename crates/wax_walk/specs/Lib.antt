@@ -1,6 +1,7 @@
 pub mod Forest
 pub mod Given
 pub mod Course
+pub mod Opened
 pub mod Candidates
 pub mod Paths
 pub mod Left

@@ -14,6 +14,9 @@ returns-in-Ignore-clause-ok g c =
     rw c.in-Ignore.is (list_asked (FnReturnsAt g.B.Fn c.args.read.now) c.in-Ignore.file.now _
     c.add_list.result c.add_list.ensures.ok)
 
+pub returns-in-Ignore-clause-err : goal.returns-in-Ignore-clause-err
+returns-in-Ignore-clause-err g c = rw c.in-Ignore.is c.add_list.ensures.err
+
 pub returns-in-Min-clause-ok : goal.returns-in-Min-clause-ok
 returns-in-Min-clause-ok g c = rw c.in-Min.is ([], [], tt, tt, sym (append-nil _))
 

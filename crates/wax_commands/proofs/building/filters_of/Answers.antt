@@ -1,10 +1,9 @@
 use Rattle.std.proofs.Common.{List}
 use Rattle.std.specs.Fn.{FnReturnsAt}
 use Rattle.wax_command_line.specs.Commands.{SayEach, WalkOption}
-use Rattle.wax_commands.specs.Walked.{HasRefused}
 use Rattle.wax_commands.proofs.Leaving.{so_far_all, so_far_more, so_far_none, so_far_refused}
 use Rattle.wax_command_line.specs.WalkWords.{asked_by}
-use Rattle.wax_command_line.proofs.Lines.{err_holds}
+use Rattle.wax_commands.proofs.Adding.{passed_on}
 use Rattle.wax_commands.proofs.building.filters_of.Goals as goal
 
 pub loop-option-init : goal.loop-option-init
@@ -20,12 +19,10 @@ loop-option-preserved g c asked h =
 pub returns-in_err-add_filter-clause-err : goal.returns-in_err-add_filter-clause-err
 returns-in_err-add_filter-clause-err g c =
     let answers = FnReturnsAt g.B.Fn c.args.read.now in
-    let refused : (asked : List WalkOption) → SayEach c.args.options.now asked
-    → HasRefused answers asked = λ asked h.
-    so_far_refused answers c.loop-option.rest.now c.in-Some.after.now (asked_by c.in-Some.option) asked _
-    (c.loop-option.invariant asked h) c.in-Some.ensures.some
-    c.in_err-add_filter.ensures.err in
-    err_holds _ refused
+    passed_on c.from_residual.result _ _ c.from_residual.ensures.1
+    (λ differs asked h. so_far_refused answers c.loop-option.rest.now c.in-Some.after.now
+    (asked_by c.in-Some.option) asked _ (c.loop-option.invariant asked h) c.in-Some.ensures.some
+    (c.in_err-add_filter.ensures.err differs))
 
 pub returns-clause-ok : goal.returns-clause-ok
 returns-clause-ok g c asked h = so_far_all (FnReturnsAt g.B.Fn c.args.read.now) c.loop-option.rest.now asked _

@@ -1,7 +1,11 @@
-use Rattle.std.proofs.Common.{refl, subst}
-use Rattle.wax_lines.specs.Lines.{Filtered}
+use Rattle.std.proofs.Common.{◌≡◌, ◌≢◌, ◌∙◌, ap, refl, rules, subst}
+use Rattle.std.specs.Prelude.{Err}
+use Rattle.wax_lines.specs.declared.lines.LinesError.TheVariants.{Memory}
+use Rattle.wax_lines.specs.Lines.{Filtered, Stopped}
 use Rattle.wax_commands.specs.LineCommands.{done, not_text, stopped}
 use Rattle.wax_commands.specs.inner.Outputs.{writes_of}
+use Rattle.wax_commands.specs.Streams.{SaysNoMemory, stream_of}
+use Rattle.wax_commands.proofs.Ending.{shown_by_counts}
 use Rattle.wax_commands.proofs.run.run_lines.Goals as goal
 
 pub returns-in-Ok-eq0-clause-ends : goal.returns-in-Ok-eq0-clause-ends
@@ -21,4 +25,21 @@ returns-in-Ok-clause-ends g c =
 
 pub returns-clause-ends : goal.returns-clause-ends
 returns-clause-ends g c =
-    stopped c.in-Some.glob c.in-Err.error c.in-Some.ensures.some c.in-Err.ensures.stopped refl
+    let other : c.in-Err.error ≢ Memory = search rules in
+    stopped c.in-Some.glob c.in-Err.error c.in-Some.ensures.some c.in-Err.ensures.stopped
+    (shown_by_counts c.in-Err.error _ _ _ _ other
+    (λ e. c.write_lines.ensures.read_failed (c.in-Err.is ∙ ap Err e))
+    (λ e. c.write_lines.ensures.write_failed (c.in-Err.is ∙ ap Err e))) refl
+
+pub returns-in-Err-Memory-clause-ends : goal.returns-in-Err-Memory-clause-ends
+returns-in-Err-Memory-clause-ends g c =
+    let told = g.F.Write.contents in
+    let same : c.built.new.faults ≡ c.args.faults.now = search rules in
+    let left = g.R.Read.remaining in
+    let held = g.W.Write.contents in
+    stopped c.in-Some.glob Memory c.in-Some.ensures.some
+    (subst (Stopped (writes_of c.args.lines c.in-Some.glob) (left c.args.input.now.inner)
+    (left c.write_lines.new.input.inner) (held c.args.output.now.inner) (held c.write_lines.new.output.inner))
+    c.in-Err-Memory.field-0-is c.in-Err-Memory.ensures.stopped)
+    (subst (λ f. SaysNoMemory (stream_of told f) (stream_of told c.say_no_memory.new.faults)) same
+    c.say_no_memory.ensures) refl

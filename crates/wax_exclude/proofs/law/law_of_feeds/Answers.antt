@@ -1,4 +1,5 @@
 use Rattle.wax_exclude.proofs.Feeding.{feeds_by_rules, feeds_by_walk}
+use Rattle.wax_exclude.proofs.Telling.{opens_listed}
 use Rattle.wax_exclude.specs.GlobRequests.{walk_for}
 use Rattle.wax_exclude.proofs.law.law_of_feeds.Goals as goal
 
@@ -7,4 +8,5 @@ returns c = record {
   rules = feeds_by_rules;
   walks = feeds_by_walk;
   requests = λ request s. feeds_by_walk (walk_for request) s;
+  opens = opens_listed;
 }

@@ -11,7 +11,7 @@ pub returns : goal.returns
 returns c = record {
   gives = λ w asked walked origin s can plain distinct fits.
       gives_wanted w asked walked origin can s plain distinct fits;
-  lists = λ w asked walked origin s can named. lists_few w asked walked origin can s named.plain;
+  lists = λ w asked walked origin s can plain. lists_few w asked walked origin can s plain;
   nothing = λ w asked origin s plain start h. elim h [
     | inl f ↦
         let can = f.1 in none_in_range w asked origin s plain start f.0 can.greatest can.begins can.plain f.2
@@ -20,8 +20,8 @@ returns c = record {
   gives_least = λ w asked walked origin s can plain distinct fits.
       gives_least w (goes_test w.glob) (goes_tests w.rooted w.glob) asked walked origin can
       s plain distinct fits;
-  lists_exactly = λ w asked walked origin s can named.
-      lists_exactly w (goes_test w.glob) (goes_tests w.rooted w.glob) asked walked origin can s named.plain;
+  lists_exactly = λ w asked walked origin s can plain.
+      lists_exactly w (goes_test w.glob) (goes_tests w.rooted w.glob) asked walked origin can s plain;
   least_nothing = λ w asked walked origin s can plain beyond.
       wants_none w (goes_test w.glob) (goes_tests w.rooted w.glob) asked walked origin can s plain beyond;
 }
