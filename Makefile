@@ -26,6 +26,7 @@ globs:
 	cp crates/globs/out/globs globs
 
 prove:
+	./prove wax_token
 	rt ci
 	tests/run --proved
 	tests/repository

@@ -30,6 +30,21 @@ def built(name):
     return f"{FOLDER}/{name}"
 
 
+def only_tests(program):
+    """Returns whether a program is one of tests/programs, which aren't proved."""
+    return os.path.isdir(f"{TOP}/tests/programs/{program}")
+
+
+def folder_of(program):
+    """Returns the folder with the sources, rows, input and output of a program."""
+    return f"{TOP}/tests/programs/{program}" if only_tests(program) else f"{TOP}/crates/{program}"
+
+
+def is_tested(program):
+    """Returns whether a program is among those that are tested: one that only tests isn't beside proved ones."""
+    return not (os.environ.get("BUILT") and only_tests(program)) or os.path.exists(f"{FOLDER}/{program}")
+
+
 def answers(program, rows, seconds=300):
     """Returns what a program that answers rows says of each of these."""
     given = "".join(f"{it}\n" for it in rows)

@@ -1,17 +1,15 @@
 -- What is kept of a walk after filters one by one.
-use Rattle.std.proofs.Common.{◌≡◌, ◌∙◌, ◌++◌, ◌∷◌, List, [], ℕ, append_assoc, ap, inl, inr, subst, sym}
+use Rattle.std.proofs.Common.{◌≡◌, ◌++◌, ◌∷◌, List, [], ℕ, append_assoc, ap, inl, inr, subst, sym}
 use Rattle.std.specs.Prelude.{◌⊎◌}
 use Rattle.wax.specs.GlobView.{GlobView}
 use Rattle.wax.specs.GlobWalks.{BeginsGlob, request_of}
 use Rattle.wax.specs.Language.{Span}
 use Rattle.wax.specs.Queries.{Bounds, Depth}
 use Rattle.wax.specs.Walks.{behavior_at, behavior_range, ComesExcluding, Filter, Given, gives, goes}
-use Rattle.wax.specs.Walks.{KeepsWanted, lacks_memory, Law, CanBegin, over_budget, tree_request, Shown}
-use Rattle.wax.specs.Walks.{GlobRequest}
-use Rattle.wax.specs.Walks.{request_excluding, Unbounded, WalkView, WantsUnfiltered}
-use Rattle.wax_test_uses.specs.Excluding.{AreEntriesLeft, AreEntriesWanted, IsCutOff, IsKnownFrom}
-use Rattle.wax_test_uses.specs.Excluding.{KeepsFiltered}
-use Rattle.wax_test_uses.specs.Excluding.{KeepsExcluding, OpenedFew}
+use Rattle.wax.specs.Walks.{CanBegin, GlobRequest, KeepsWanted, lacks_memory, Law, over_budget}
+use Rattle.wax.specs.Walks.{request_excluding, Unbounded, WalkView}
+use Rattle.wax_test_uses.specs.Excluding.{AreEntriesWanted, IsCutOff, IsKnownFrom, KeepsExcluding}
+use Rattle.wax_test_uses.specs.Excluding.{KeepsFiltered, OpenedFew}
 use Rattle.wax_test_uses.specs.Excluding as less
 
 -- filters and more filters
@@ -77,16 +75,3 @@ module _ {D C : Type 0} (g : GlobView) (law : Law D C) (d : D) (start : List ℕ
         entries = entries_wanted begins.depth begins.depth_is known kept;
         folders = opened_few begins.depth begins.depth_is known kept;
       }
-
--- ---- of a plain walk
-
-pub entries_left : (wants : WantsUnfiltered) (start : List ℕ) (filters : List (Filter Span))
-    (tells : List (List ℕ) → Type 0) (s : Shown) (opened : List (List ℕ)) (items : List Given)
-    → KeepsWanted tells
-    (request_excluding (tree_request (behavior_range (behavior_at Unbounded)) start) filters) s opened
-    items → AreEntriesLeft filters start s items
-entries_left wants start filters tells s opened items (gives e f l m) =
-    inr (f ∙ wants filters (behavior_range (behavior_at Unbounded)) start s)
-entries_left wants start filters tells s opened items (lacks_memory c) = inl (less.lacks_memory c.0 c.2)
-entries_left wants start filters tells s opened items (over_budget path n l c) =
-    inl (less.over_budget c.0 path n c.2)

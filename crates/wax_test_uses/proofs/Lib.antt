@@ -1,9 +1,5 @@
-pub mod ByRule
-pub mod ExcludingMatches
 pub mod Expressions
-pub mod Files
 pub mod Filtered
-pub mod KeptFiles
 pub mod KeptSources
 pub mod Matched
 pub mod Meanings
@@ -12,6 +8,4 @@ pub mod OneComponents
 pub mod Pictures
 pub mod Planted
 pub mod SetMatches
-pub mod SingleNames
 pub mod SourceTree
-pub mod Stems

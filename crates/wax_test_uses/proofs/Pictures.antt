@@ -75,9 +75,6 @@ pub same_self : (t : List ℕ) → SameText false t t
 same_self [] = tt
 same_self (c ∷ t) = (refl, same_self t)
 
-pub same_from : (t s : List ℕ) → s ≡ t → SameText false t s
-same_from t s e = subst (SameText false t) (sym e) (same_self t)
-
 picture_means : (s : List ℕ) → Means picture_tree false false s ↔ IsPictureName s
 picture_means s = (
   λ h. (h.0, (h.3, h.2 ∙ ap (λ y. h.0 ++ y) (same_to (codes ".png") h.1 h.4))),

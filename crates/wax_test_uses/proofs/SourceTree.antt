@@ -1,7 +1,7 @@
 -- What the small tree shows, by the paths that it is built from.
 use Rattle.std.proofs.Common.{◌≡◌, true, List, [], ◌∷◌, codes, ℕ, refl}
 use lib.Utf8.{encode, encodes, scalars}
-use Rattle.wax.specs.Walks.{IsDistinct, IsPlain, IsWellNamed, a_folder, end, is_plain, plain_of}
+use Rattle.wax.specs.Walks.{IsPlain, end, is_plain, plain_of}
 use Rattle.wax_test_uses.proofs.Planted.{HoldsAll, HoldsBelow}
 use Rattle.wax_test_uses.specs.Sources.{file, source_items, src_items}
 
@@ -48,34 +48,3 @@ source_holds = (
     (src_plain, (refl, refl, below_src), tt),
   ),
 )
-
-pub well_named : IsDistinct (a_folder source_items) → IsWellNamed (a_folder source_items)
-unfolding encode
-well_named distinct = record {
-  plain = (
-    plain_name (codes "docs") refl refl refl,
-    (plain_name (codes "x.md") refl refl refl, tt),
-    (
-      src_plain,
-      (
-        plain_name (codes "a.rs") refl refl refl,
-        (
-          plain_name (codes "b.txt") refl refl refl,
-          (
-            plain_name (codes "main.o") refl refl refl,
-            (
-              plain_name (codes "main.rs") refl refl refl,
-              (
-                plain_name (codes "net") refl refl refl,
-                (plain_name (codes "tcp.rs") refl refl refl, tt),
-                tt,
-              ),
-            ),
-          ),
-        ),
-      ),
-      tt,
-    ),
-  );
-  distinct = distinct;
-}

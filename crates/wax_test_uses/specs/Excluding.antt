@@ -1,29 +1,17 @@
--- What is kept of a glob's walk, without what other globs match and what lines ignore, and what it opens.
+-- What is kept of a glob's walk, without what two patterns match and what lines ignore, and what it opens.
 use Rattle.std.specs.List.{AllZip}
-use Rattle.std.specs.Prelude.{◌≡◌, ◌⊎◌, ◌&&◌, ℕ, List, [], ◌∷◌, ◌++◌, All, chars, filter}
-use Rattle.wax.specs.GlobView.{GlobView, IsMeant}
+use Rattle.std.specs.Prelude.{◌≡◌, ◌⊎◌, ℕ, List, [], ◌∷◌, ◌++◌, All, filter}
+use Rattle.wax.specs.GlobView.{GlobView}
 use Rattle.wax.specs.GlobWalks.{Beginning, wants, origin_from, within}
-use Rattle.wax.specs.Headline.{is_in, MayList, Wanted}
+use Rattle.wax.specs.Headline.{MayList, Wanted}
 use Rattle.wax.specs.Ignoring.{IsReadAs, Line, written_lines}
 use Rattle.wax.specs.Language.{Span, Tree}
 use Rattle.wax.specs.Patterns.{IsOnly}
 use Rattle.wax.specs.Queries.{Bounds, Depth}
 use Rattle.wax.specs.Walks.{ArePlain, behavior_at, behavior_range, Budget, ComesWanted, fault, Filter, Given}
-use Rattle.wax.specs.Walks.{glob_facts, GlobEntry, is_kept_entry, is_unfiltered, KeepsWanted, Law, CanBegin}
+use Rattle.wax.specs.Walks.{CanBegin, is_kept_entry, KeepsWanted, Law}
 use Rattle.wax.specs.Walks.{no_memory, not_ignored, not_meant, Shown, GlobRequest, request_excluding}
-use Rattle.wax.specs.Walks.{Unbounded, WalkView, wanted_entries, Origin, whole}
-
--- the path of the entry from the start, as characters
-abbrev pub path_of : GlobEntry → List ℕ
-path_of entry = chars (glob_facts entry).candidate
-
--- the glob means the path of the entry
-abbrev pub IsMeantEntry : GlobView → GlobEntry → Type 0
-IsMeantEntry g entry = IsMeant g (path_of entry)
-
--- the glob doesn't
-abbrev pub IsUnmeantEntry : GlobView → GlobEntry → Type 0
-IsUnmeantEntry g entry = ¬ (IsMeant g (path_of entry))
+use Rattle.wax.specs.Walks.{Origin, Unbounded, WalkView, wanted_entries}
 
 -- A directory of which it is known what it shows where the walk of the glob begins, and which folders were
 -- opened before.
@@ -83,10 +71,6 @@ module _ {D C : Type 0} {g : GlobView} {law : Law D C} {d : D} {start : List ℕ
   abbrev pub AreEntriesWanted : List (Filter Span) → List Given → Type 0
   AreEntriesWanted filters items = IsCutOff items ⊎ (filter is_kept_entry items ≡ entries_wanted filters)
 
-  -- those that the other glob doesn't mean
-  abbrev pub AreEntriesExcluding : GlobView → List Given → Type 0
-  AreEntriesExcluding other items = AreEntriesWanted (not_meant other.tree ∷ []) items
-
   -- The folders that were opened in between, each of which may be opened: its names match the leading
   -- components, and no filter excludes it with everything below it.
   pub record OpenedFew (filters : List (Filter Span)) (tells : List (List ℕ) → Type 0) : Type 0 where
@@ -103,13 +87,3 @@ module _ {D C : Type 0} {g : GlobView} {law : Law D C} {d : D} {start : List ℕ
       (items : List Given) : Type 0 where
     pub entries : AreEntriesWanted filters items
     pub folders : IsCutOff items ⊎ OpenedFew filters tells
-
--- ---- of a plain walk
-
--- Of the whole walk from a start, the entries among the items are exactly those that no filter leaves out, in
--- order, unless the items are cut off.
-abbrev pub AreEntriesLeft : List (Filter Span) → List ℕ → Shown → List Given → Type 0
-AreEntriesLeft filters start s items =
-    let range = behavior_range (behavior_at Unbounded) in
-    IsCutOff items ⊎ (filter is_kept_entry items
-    ≡ filter (λ x. is_in range x && is_unfiltered filters x) (whole start s))

@@ -1,5 +1,5 @@
+pub mod Empty
 pub mod Excluding
 pub mod Names
 pub mod Sets
 pub mod Sources
-pub mod Walks

@@ -9,7 +9,7 @@ use std::alloc::Global;
 use wax::{BuildError, Glob};
 
 /// Builds the glob of an expression. If neither `/` nor `**` is written in it, no text that matches
-/// contains a `/`.
+/// contains a `/`. It shows a promise about every glob of a kind: components are respected.
 ///
 /// # Errors
 ///

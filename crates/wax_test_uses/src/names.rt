@@ -5,7 +5,8 @@ ghost use Rattle.wax_test_uses.specs.Names.{IsMeantBy, IsPictureName};
 use std::alloc::Global;
 use wax::{BuildError, CandidatePath, Glob, Program};
 
-/// Returns whether the expression matches the path.
+/// Returns whether the expression matches the path. It shows how to state what an expression matches
+/// that is given as text: by the tree that it spells.
 ///
 /// # Errors
 ///
@@ -17,7 +18,8 @@ pub fn expression_matches(alloc: Global, expression: &str, path: &str) -> Result
     Ok(glob.is_match(alloc, &CandidatePath::from(path))?)
 }
 
-/// Returns whether the path is a name that ends with `.png`.
+/// Returns whether the path is a name that ends with `.png`. It shows a contract in words of your own
+/// about a pattern that is written out: a lemma says what `*.png` spells and matches.
 ///
 /// # Errors
 ///

@@ -9,7 +9,8 @@ use wax::walk::{Directory, Entry, TreeEntry, WalkError, collect, law_of_wanted};
 use wax::{Pattern, any};
 
 /// Collects what at least one of the patterns matches, in one walk: returns what is kept, in order,
-/// and the directory. The walk begins at the root if each pattern begins there.
+/// and the directory. The walk begins at the root if each pattern begins there. It shows what a set
+/// keeps of a walk, by what its patterns match.
 ///
 /// # Errors
 ///

@@ -1,80 +1,19 @@
-//! Walks without some of their entries.
+//! A chain of calls that excludes entries of a walk.
 ghost use Rattle.std.specs.Iterator.{IsFinite};
 ghost use Rattle.std.specs.List.{AllZip};
-ghost use Rattle.std.specs.Prelude.{◌≡◌, ◌∷◌, [], All, IfOk, List, map, ℕ};
-ghost use Rattle.wax_test_uses.specs.Excluding.{AreEntriesLeft, AreEntriesExcluding, AreFilters, IsKnownFrom};
-ghost use Rattle.wax_test_uses.specs.Excluding.{IsMeantEntry, IsUnmeantEntry, KeepsFiltered, KeepsExcluding};
-ghost use Rattle.wax_test_uses.specs.Walks.{KeepsByRule, link_mark};
+ghost use Rattle.std.specs.Prelude.{◌∷◌, [], IfOk, List, map};
+ghost use Rattle.wax_test_uses.specs.Excluding.{AreFilters, IsKnownFrom, KeepsExcluding, KeepsFiltered};
 ghost use Rattle.wax.specs.Ignoring.{IsReadAs, Line, written_lines};
 ghost use Rattle.wax.specs.Language.{Span, Tree};
 ghost use Rattle.wax.specs.Patterns.{IsOnly};
-ghost use Rattle.wax.specs.Walks.{facts_of, Filter, Given, given_outcome, KnownOutcome, mark_of};
-ghost use Rattle.wax.specs.Walks.{not_ignored, not_meant, Pending, Shown};
+ghost use Rattle.wax.specs.Walks.{Filter, given_outcome, not_ignored, not_meant};
 
 use std::alloc::{AllocFailed, Global};
 use wax::walk::{
-    Directory, Entry, EntryResidue, FileIterator, FileIteratorExt, FileType, GlobEntry,
-    IgnoreError, IgnoreList, PathExt, TreeEntry, WalkBehavior, WalkError, WalkFilter, collect,
-    law_of_plain_walks,
+    Directory, Entry, FileIterator, FileIteratorExt, GlobEntry, IgnoreError, IgnoreList, TreeEntry,
+    WalkError, collect,
 };
 use wax::{BuildError, Glob, NoMemory, Pattern};
-
-/// Collects a walk without its links: returns what is kept, and the directory.
-///
-/// # Errors
-///
-/// Returns `NoMemory` if allocation fails for the list itself.
-pub fn collect_excluding_links<I: FileIterator>(
-    alloc: Global,
-    walk: I,
-) -> Result<(Vec<Result<I::Entry, WalkError>>, I::Directory), NoMemory>
-    requires can { I.can_feed walk }
-    requires ends { IsFinite (I.left walk) }
-    ensures { IfOk result (λ r. (p : Pending Given) → (I.view walk).to_come p
-        → KeepsByRule (I.Directory.law.tells r.1) (I.view walk).listings_left link_mark p
-        (map (given_outcome I.Entry.facts I.Residue.facts) r.0.items)) }
-{
-    collect(alloc, walk.filter_entry(|entry| link_residue(entry)))
-}
-
-// Excludes a link by itself.
-fn link_residue(entry: &TreeEntry) -> Option<EntryResidue>
-    ensures { mark_of result ≡ link_mark (facts_of entry.now) }
-{
-    match entry.file_type() {
-        FileType::Link => Some(EntryResidue::File),
-        FileType::File | FileType::Folder => None,
-    }
-}
-
-/// Collects the walk of a glob without what another glob matches: returns what is kept, and the
-/// directory. The glob matches each entry. If it is known what the directory shows, the other glob
-/// matches none of them.
-///
-/// # Errors
-///
-/// Returns `Compile` if the program of the other glob would be too large, and `Memory` if
-/// allocation fails.
-pub fn collect_excluding_glob<D: Directory>(
-    alloc: Global,
-    glob: &Glob<'_>,
-    directory: D,
-    start: &str,
-    other: Glob<'_>,
-) -> Result<(Vec<Result<GlobEntry, WalkError>>, D), BuildError>
-    ensures meant { IfOk result (λ r. All (KnownOutcome (IsMeantEntry glob.now)) r.0.items) }
-    ensures unmeant { IfOk result (λ r. IsKnownFrom glob.now D.law directory start.now
-        → All (KnownOutcome (IsUnmeantEntry other.entry)) r.0.items) }
-    ensures entries { IfOk result (λ r. (known : IsKnownFrom glob.now D.law directory start.now)
-        → AreEntriesExcluding known other.entry
-        (map (given_outcome ⟦<GlobEntry as Entry>⟧.facts ⟦<TreeEntry as Entry>⟧.facts) r.0.items)) }
-{
-    let filter = WalkFilter::not(alloc, other)?;
-    let Ok(filters) = Vec::from_array(alloc, [filter]) else {
-        return Err(BuildError::Memory);
-    };
-    Ok(glob.collect_excluding(alloc, directory, start, WalkBehavior::default(), filters)?)
-}
 
 /// Why nothing is kept of a walk with filters.
 #[derive(Debug, Drop)]
@@ -132,7 +71,8 @@ impl<T: Drop> From<AllocFailed<T>> for NotKept {
 /// ignores, and returns what is kept and the directory. If it is known what the directory shows, the
 /// entries are exactly those of the whole walk that the glob matches, that neither of the patterns
 /// matches and that the list doesn't ignore, in order; and only folders were opened that may hold
-/// such entries.
+/// such entries. It shows a chain of `walk`, `not`, `not`, `ignore` and `collect`, whose contracts
+/// together say what is kept.
 ///
 /// # Errors
 ///
@@ -158,37 +98,6 @@ where
         (map (given_outcome ⟦<GlobEntry as Entry>⟧.facts ⟦<TreeEntry as Entry>⟧.facts) r.0.items))) }
 {
     let walk = glob.walk(alloc, directory, start);
-    collect_excluding_patterns(alloc, walk, first, second, list)
-}
-
-/// Walks from a start, without what two patterns match and what the list of the text ignores, and
-/// returns what is kept and the directory: the entries are exactly those of the whole walk that
-/// neither of the patterns matches and that the list doesn't ignore, in order.
-///
-/// # Errors
-///
-/// Returns `NotBuilt` if a pattern or the list has an error, and `NoMemory` if allocation fails for
-/// the list of entries.
-pub fn collect_plain_excluding<D, P, Q>(
-    alloc: Global,
-    directory: D,
-    start: &str,
-    first: P,
-    second: Q,
-    list: &str,
-) -> Result<(Vec<Result<TreeEntry, WalkError>>, D), NotKept>
-where
-    D: Directory,
-    P: Pattern + Drop,
-    Q: Pattern + Drop,
-    ensures { IfOk result (λ r. (filters : List (Filter Span))
-        × AreFilters (P.spells first) (Q.spells second) list.now filters
-        × ((s : Shown) (opened : List (List ℕ)) → D.law.shows directory start.now s
-        → D.law.tells directory opened → AreEntriesLeft filters start.now s
-        (map (given_outcome ⟦<TreeEntry as Entry>⟧.facts ⟦<TreeEntry as Entry>⟧.facts) r.0.items))) }
-{
-    let walk = start.walk(alloc, directory);
-    law_of_plain_walks(&walk);
     collect_excluding_patterns(alloc, walk, first, second, list)
 }
 
