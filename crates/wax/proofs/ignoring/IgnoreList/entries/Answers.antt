@@ -6,6 +6,7 @@ use Rattle.wax_exclude.proofs.Telling.{answered_before}
 use Rattle.wax_exclude.proofs.TreeRequests.{plain_comes}
 use Rattle.wax_exclude.specs.GlobRequests.{walk_for}
 use Rattle.wax_exclude.specs.TreeRequests.{tree_request}
+use Rattle.wax_exclude.specs.inner.Listed.{listed_mark}
 use Rattle.wax.proofs.IgnoreLines.{begins_so}
 use Rattle.wax.proofs.ignoring.IgnoreList.entries.Goals as goal
 
@@ -21,7 +22,8 @@ returns-clause-took g c =
     map_ok (λ r h. (
       h.0,
       let few = h.2 in omega (arith, few, most, budget),
-      took_ruled law d start (behavior_range c.args.behavior) _ begins _ r.1 h.0 h.1,
+      took_ruled law d start (behavior_range c.args.behavior) _ begins
+          (λ i. listed_mark c.args.self.rule i) r.1 h.0 h.1,
       h.3,
     ))
     c.collect_unignored.result c.collect_unignored.ensures.took
