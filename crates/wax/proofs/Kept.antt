@@ -13,7 +13,8 @@ use Rattle.wax_walk.specs.Ruled.{ruled_view}
 use Rattle.wax_walk.specs.View.{CountsFaults, WalkView}
 use Rattle.wax_walk.proofs.Following.{lacks_ruled}
 use Rattle.wax_walk.proofs.Seen.{seen_itself}
-use Rattle.wax_tree.proofs.Answered.{lacks_given}
+use Rattle.wax_tree.proofs.Answered.{lacks_given, lacks_only}
+use Rattle.wax_tree.specs.Begins.{OnlyLacks}
 use Rattle.wax_token.specs.Reads.{Span}
 use Rattle.wax_token.specs.Syntax.{Tree}
 use Rattle.wax_tree.specs.declared.steps.DepthRange.{DepthRange}
@@ -71,6 +72,14 @@ gave_within pruning t law d start asked v rule new xs begins took = let over = b
         (omega (arith, took.opens n, begins.none_to_open)),
   );
 }
+
+-- only the error came, if memory ran out before the walk began
+pub memory_only : {D C : Type 0} {law : Law D C} (v : WalkView D) (rule : Candidate → Mark) (new : D)
+    (xs : List Given) → OnlyLacks v → Took law (ruled_view v rule false) new xs → xs ≡ no_memory ∷ []
+memory_only v rule new xs lacks took =
+    let outer = ruled_view v rule false in
+    lacks_only outer took.told xs (lacks_ruled v outer rule (seen_itself outer) lacks) took.ends_there
+    took.course
 
 pub fails_at_folders : {D C : Type 0} (t : Tree Span) (law : Law D C) (d : D) (start : List ℕ)
     (asked : DepthRange) (v : WalkView D) (rule : Candidate → Mark) (new : D) (xs : List Given)

@@ -24,7 +24,7 @@ use Rattle.wax_walk.specs.Given.{Given, fault, no_memory}
 use Rattle.wax_walk.specs.View.{CountsFaults, WalkView, is_above}
 use Rattle.wax_exclude.specs.Leading.{leading_of}
 use Rattle.wax_exclude.specs.Premises.{IsUnmeant}
-use Rattle.wax_exclude.specs.Pruned.{CanWalkBy, Pruning, by_components, opening_by}
+use Rattle.wax_exclude.specs.Pruned.{CanWalkBy, Pruning, by_components, by_matches, opening_by}
 use Rattle.wax_exclude.specs.Pruned.{rules_by}
 use Rattle.wax_exclude.specs.Walked.{origin_walk}
 use Rattle.wax_exclude.specs.Wanted.{Filter, Wanted, stacked}
@@ -64,6 +64,11 @@ request_of start asked depth b filters = request_by by_components start asked de
 abbrev pub HasBrokenPrefix : Tree Span → Type 0
 HasBrokenPrefix t = (taken : ℕ) × (prefix : List ℕ) × Prefix t taken prefix × HasEmptyName prefix
 
+-- a walk with captures may begin nowhere since memory ran out before; one without them isn't made then
+abbrev pub LacksBeginning : {D : Type 0} → Pruning → WalkView D → Type 0
+LacksBeginning by_components view = OnlyLacks view
+LacksBeginning by_matches view = ⊥
+
 -- no candidate in range can match: two `/` are side by side in the prefix, or it has more names than the
 -- greatest depth
 pub data LeadsNowhere (t : Tree Span) (range : DepthRange) : Type 0 where
@@ -77,7 +82,7 @@ pub record BeginsBy (pruning : Pruning) {D C : Type 0} (t : Tree Span) (law : La
   pub depth : Bounds
   pub depth_is : Depth t depth
   -- there is a place where the walk begins, but for a broken prefix, and unless memory ran out before
-  pub begins : Beginning t ⊎ (HasBrokenPrefix t ⊎ OnlyLacks view)
+  pub begins : Beginning t ⊎ (HasBrokenPrefix t ⊎ LacksBeginning pruning view)
   -- less whatever filters, this is all that is wanted, as the law of glob walks says
   pub can : (b : Beginning t) (filters : List (Filter Span)) → ArePlain b.names
       → CanWalkBy pruning (wants t b filters) asked (walked_by pruning asked depth)

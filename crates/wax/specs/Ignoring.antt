@@ -17,7 +17,7 @@ use Rattle.wax.specs.declared.ignoring.IgnoreList.{IgnoreList}
 pub use Rattle.wax_exclude.specs.Deciding.{IsLastMatch, LastMatchDecides}
 pub use Rattle.wax_exclude.specs.Held.{HasLines, line_of}
 pub use Rattle.wax_exclude.specs.Ignored.{IgnoresBelow, Line, ignore_mark, is_ignored}
-pub use Rattle.wax_exclude.specs.Kept.{KeepsUnignored, PlainRequest}
+pub use Rattle.wax_exclude.specs.Kept.{KeepsUnignored, PlainRequest, unignored_request}
 pub use Rattle.wax_exclude.specs.Lines.{written_lines, written_of}
 pub use Rattle.wax_exclude.specs.Unignored.{GivesUnignored, LosesIgnored}
 

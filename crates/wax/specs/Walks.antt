@@ -63,7 +63,7 @@ pub use Rattle.wax_tree.specs.Programs.{any_mark, leading_mark}
 pub use Rattle.wax_tree.specs.declared.glob_walk.entry.GlobEntry.{GlobEntry}
 pub use Rattle.wax_tree.specs.declared.glob_walk.filter_any.FilterAny.{FilterAny}
 pub use Rattle.wax_tree.specs.Begins.{Begins, BeginsAt, EndsWithin, FailsFrom, FailsNowhere, HasEnded}
-pub use Rattle.wax_tree.specs.Begins.{IsPassed, LacksMemory, Origin, behavior_range}
+pub use Rattle.wax_tree.specs.Begins.{IsPassed, LacksMemory, Origin, behavior_range, start_view}
 pub use Rattle.wax_tree.specs.Depths.{HasBounds, IsUnbounded, IsUnboundedAt, behavior_at, greatest, least}
 pub use Rattle.wax_tree.specs.Depths.{no_bound, raised}
 pub use Rattle.wax_tree.specs.Lacking.{gives_at_most, tree_view}
@@ -75,8 +75,8 @@ pub use Rattle.wax_tree.specs.declared.behavior.WalkBehavior.{WalkBehavior}
 pub use Rattle.wax_tree.specs.declared.steps.DepthRange.{DepthRange}
 pub use Rattle.wax_walk.specs.Candidates.{Candidate, candidate_of, candidate_with, in_characters}
 pub use Rattle.wax_walk.specs.Candidates.{of_candidate}
-pub use Rattle.wax_walk.specs.Collected.{AreOfFolders, Yielded, HasFolder, IsCutShort, NoneLast, Took}
-pub use Rattle.wax_walk.specs.Collected.{count_to_open}
+pub use Rattle.wax_walk.specs.Collected.{AreOfFolders, Yielded, HasFolder, IsCutShort, NoneLast, SpendsWithin}
+pub use Rattle.wax_walk.specs.Collected.{Took, count_to_open}
 pub use Rattle.wax_walk.specs.Entries.{answer_of, entry_texts, error_depth, error_kind, error_path, facts_of}
 pub use Rattle.wax_walk.specs.Entries.{given_of, given_outcome, kind_of_fault}
 pub use Rattle.wax_walk.specs.Forest.{Forest, Pending, filtered, filtered_pending, item, lists, nothing}
@@ -87,7 +87,7 @@ pub use Rattle.wax_walk.specs.Left.{left_after, left_of, opened_items}
 pub use Rattle.wax_walk.specs.Known.{KeepsKnown, KnownItem, KnownOutcome, StaysKnown}
 pub use Rattle.wax_walk.specs.Laws.{closure_cancelling, closure_telling, nothing_known, ruled_cancelling}
 pub use Rattle.wax_walk.specs.Laws.{ruled_telling, selected_cancelling, selected_telling}
-pub use Rattle.wax_walk.specs.Opened.{opened_by, opened_folders}
+pub use Rattle.wax_walk.specs.Opened.{items_listed, opened_by, opened_folders}
 pub use Rattle.wax_walk.specs.Paths.{PathTexts, item_texts}
 pub use Rattle.wax_walk.specs.Pruned.{Opening, all_folders, selected_view, these_folders}
 pub use Rattle.wax_walk.specs.Ruled.{ruled_view}

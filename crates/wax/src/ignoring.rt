@@ -1,16 +1,24 @@
 //! Ignore lists: texts whose lines select what to exclude from a walk.
-ghost use Rattle.std.specs.Prelude.{◌≡◌, ◌↔◌, ◌++◌, ◌∷◌, [], ℕ, IsTrue, List, IfOk, MatchResult, map, true};
+ghost use Rattle.std.specs.Prelude.{◌≡◌, ◌≤◌, ◌↔◌, ◌+◌, ◌*◌, ◌++◌, ◌∷◌, [], ℕ, IsTrue, List, IfOk};
+ghost use Rattle.std.specs.Prelude.{MatchResult, false, filter, length, map, true};
 ghost use Rattle.wax_directory.specs.Shown.{Shown};
 ghost use Rattle.wax_exclude.specs.Candidates.{NoSlashAfterNames, folder_at};
 ghost use Rattle.wax_exclude.specs.Held.{line_of};
 ghost use Rattle.wax_exclude.specs.Idle.{AreIdle};
-ghost use Rattle.wax_exclude.specs.Kept.{KeepsUnignored};
+ghost use Rattle.wax_exclude.specs.GlobRequests.{walk_for};
+ghost use Rattle.wax_exclude.specs.Kept.{KeepsUnignored, unignored_request};
 ghost use Rattle.wax_exclude.specs.Lines.{written_of};
+ghost use Rattle.wax_exclude.specs.RuledWalks.{with_rule};
+ghost use Rattle.wax_exclude.specs.Told.{KeepsAnswered, LeavesAnswered};
+ghost use Rattle.wax_exclude.specs.TreeRequests.{tree_request};
 ghost use Rattle.wax_query.specs.Below.{IsBelow};
 ghost use Rattle.wax_token.specs.Reads.{Span};
-ghost use Rattle.wax_tree.specs.Begins.{behavior_range};
+ghost use Rattle.wax_tree.specs.Begins.{behavior_range, start_view};
+ghost use Rattle.wax_walk.specs.Candidates.{of_candidate};
+ghost use Rattle.wax_walk.specs.Collected.{Took};
 ghost use Rattle.wax_walk.specs.Entries.{given_outcome};
-ghost use Rattle.wax_walk.specs.Given.{with_tree};
+ghost use Rattle.wax_walk.specs.Given.{Given, is_kept, with_tree};
+ghost use Rattle.wax_walk.specs.Ruled.{ruled_view};
 ghost use Rattle.wax_exclude.specs.Ignored.{IgnoresBelow, Line, is_ignored};
 ghost use Rattle.wax.specs.Ignoring.{HoldsLines, IsListOf, IsNoList, IsReadAs, IsUnread};
 ghost use Rattle.wax.specs.Ignoring.{refusal_number, refused_at};
@@ -204,7 +212,9 @@ impl IgnoreList {
     /// order, errors included, and the directory. Over a lawful directory, the entries are exactly
     /// those of the whole walk, at the depths of `behavior`, that the list doesn't ignore, and only
     /// folders that may hold one are listed. If memory or the budget runs out, the list is a prefix of
-    /// that and then one error.
+    /// that and then one error. Over any directory, whatever it answered, the items are what such a walk
+    /// keeps of a tree that answers so, no more items than the budget allows are taken from folders, and
+    /// each error is of a folder that was yielded before or that the walk passes on its way.
     ///
     /// # Errors
     ///
@@ -217,10 +227,24 @@ impl IgnoreList {
         start: &str,
         behavior: WalkBehavior,
     ) -> Result<(Vec<Result<TreeEntry, WalkError>>, D), NoMemory>
-        ensures { IfOk result (λ r. (lines : List (Line Span)) (s : Shown) (listed : List (List ℕ))
+        ensures took { IfOk result (λ r. (xs : List Given) × (length xs ≤ 2 * behavior.budget + 3)
+            × Took D.law (ruled_view (start_view D.law directory start.now (behavior_range behavior))
+            (⟦<IgnoreList as Exclude>⟧.rule self) false) r.1 xs
+            × (map (given_outcome ⟦<TreeEntry as Entry>⟧.facts ⟦<TreeEntry as Entry>⟧.facts) r.0.items
+            ≡ filter is_kept xs)) }
+        ensures unignored { IfOk result (λ r. (lines : List (Line Span)) (s : Shown)
+            (listed : List (List ℕ))
             → HoldsLines self lines → D.law.shows directory start.now s → D.law.tells directory listed
             → KeepsUnignored (D.law.tells r.1)
             (record { lines = lines; range = behavior_range behavior; start = start.now }) s listed
+            (map (given_outcome ⟦<TreeEntry as Entry>⟧.facts ⟦<TreeEntry as Entry>⟧.facts) r.0.items)) }
+        ensures answered { IfOk result (λ r. (lines : List (Line Span)) → HoldsLines self lines
+            → KeepsAnswered D.law directory r.1 (unignored_request
+            (record { lines = lines; range = behavior_range behavior; start = start.now }))
+            (map (given_outcome ⟦<TreeEntry as Entry>⟧.facts ⟦<TreeEntry as Entry>⟧.facts) r.0.items)) }
+        ensures leaves { IfOk result (λ r. LeavesAnswered D.law directory r.1
+            (with_rule (walk_for (tree_request (behavior_range behavior) start.now))
+            (of_candidate (⟦<IgnoreList as Exclude>⟧.rule self)))
             (map (given_outcome ⟦<TreeEntry as Entry>⟧.facts ⟦<TreeEntry as Entry>⟧.facts) r.0.items)) }
     {
         let walk = start.walk_with_behavior(alloc, directory, behavior);

@@ -118,12 +118,19 @@ module _ {D C Z F : Type 0} (over : Environment D C Z F) (walk : WalkWords) (ask
       abbrev globs : WalkGlobs
       globs = record { glob = g; filters = built.0 }
 
-      all_built : AreBuilt over.answers asked globs
-      all_built = record { glob = glob_asked; filters = built.1 }
-
       begun : BeginsBy by_matches g.tree over.law over.directory asked.start (range_in asked.options) view
       begun = begins_so over.law over.directory asked globs view walk.start.now b read.start
           (range_read walk asked b read is) begins
+
+      all_built : AreBuilt over.answers asked globs
+      all_built = record {
+        glob = glob_asked;
+        begins = elim begun.begins [
+          | inl at ↦ inl at
+          | inr e ↦ elim e [ inl broken ↦ inr broken | inr never ↦ absurd never ]
+        ];
+        filters = built.1;
+      }
 
       abbrev old : Writers
       old = writers output faults

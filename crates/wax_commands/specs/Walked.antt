@@ -6,7 +6,7 @@ use Rattle.std.specs.List.{list_any}
 use Rattle.wax.specs.Headline.{IsGlob}
 use Rattle.wax.specs.Exclusions.{FitsAlone, NoExclusion}
 use Rattle.wax.specs.GlobView.{GlobView}
-use Rattle.wax.specs.GlobWalks.{Beginning, GaveBy, request_by, origin_from}
+use Rattle.wax.specs.GlobWalks.{Beginning, GaveBy, HasBrokenPrefix, request_by, origin_from}
 use Rattle.wax_exclude.specs.Pruned.{by_matches}
 use Rattle.wax.specs.Patterns.{Refuses, Spells}
 use Rattle.wax_set.specs.declared.error.build_error.BuildError.{BuildError}
@@ -88,9 +88,10 @@ module _ {Z : Type 0} (answers : FileAnswers Z) where
     pub after : List WalkOption
     pub all : options ≡ before ++ option ∷ after
 
-  -- the requested glob and filters were built
+  -- the requested glob and filters were built; a walk of the glob begins somewhere, but for a broken prefix
   pub record AreBuilt (asked : WalkRequest) (globs : WalkGlobs) : Type 0 where
     pub glob : IsGlob (chars asked.expression) globs.glob
+    pub begins : Beginning globs.glob.tree ⊎ HasBrokenPrefix globs.glob.tree
     pub filters : AreAskedByAll asked.options globs.filters
 
   -- the glob can't be built, or it was built and a filter can't be

@@ -6,7 +6,6 @@ use Rattle.std.proofs.lemmas.List.Elements.{All-nil}
 use Rattle.std.specs.List.{Contains}
 use Rattle.std.specs.Prelude.{if◌then◌else◌}
 use Rattle.std.proofs.lemmas.Bool.{ltb-false, ltb-true}
-use Rattle.wax_directory.specs.Counting.{grown}
 use Rattle.wax_directory.specs.Law.{Law}
 use Rattle.wax_directory.specs.Shown.{Shown}
 use Rattle.wax_token.specs.Reads.{Span}
@@ -15,19 +14,18 @@ use Rattle.wax_tree.specs.declared.steps.DepthRange.{DepthRange}
 use Rattle.wax_tree.specs.Follows.{AreDistinctAlong}
 use Rattle.wax_tree.specs.Plain.{count_shown}
 use Rattle.wax_walk.specs.Candidates.{Candidate, of_candidate}
-use Rattle.wax_walk.specs.Collected.{Yielded, whole, lacks_memory, over_budget, Took, count_to_open}
-use Rattle.wax_walk.specs.Collected.{AreOfFolders, HasFolder, all_fault_counts, all_items_lost}
+use Rattle.wax_walk.specs.Collected.{Yielded, whole, lacks_memory, over_budget, Took}
 use Rattle.wax_walk.specs.declared.error.FaultKind.TheVariants.{Budget}
 use Rattle.wax_walk.proofs.Filtered.{filtered_begins, ruled_course}
 use Rattle.wax_walk.proofs.Following.{lacks_filtered, take_ruled}
-use Rattle.wax_walk.proofs.Taking.{course_seen}
+use Rattle.wax_walk.proofs.TakenAs.{taken_seen, took_as}
 use Rattle.wax_walk.specs.Course.{Course, IsFiltered, IsStartOf, stop}
 use Rattle.wax_walk.specs.Forest.{Forest, Pending, filtered_pending, listings, nothing, pending, preorder}
 use Rattle.wax_walk.specs.Pruned.{opened_forest, opened_course}
 use Rattle.wax_walk.specs.Given.{Facts, Mark, Given, changed_by, combined_mark, cut_by, fault, no_memory}
 use Rattle.wax_walk.specs.Given.{is_kept}
 use Rattle.wax_walk.specs.Ruled.{IsMarkBy, ruled_view}
-use Rattle.wax_walk.specs.View.{WalkView, CountsFaults, IsSeenAs, MayFail, MayTake}
+use Rattle.wax_walk.specs.View.{WalkView, IsSeenAs, MayTake}
 use Rattle.wax_exclude.proofs.KeptItems.{cut_kept, kept_entries}
 use Rattle.wax_exclude.specs.Law.{WalkLaw}
 use Rattle.wax_exclude.specs.Premises.{IsPlainShown, IsWellNamed}
@@ -53,56 +51,10 @@ use Rattle.wax_exclude.proofs.Reaching.{distinct_along}
 -- ---- whatever comes
 
 module _ {D C : Type 0} (law : Law D C) where
-  folders_seen : (this that : WalkView D) (xs : List Given) → IsSeenAs this that
-      → AreOfFolders (MayFail that) that.may_open xs → AreOfFolders (MayFail this) this.may_open xs
-  folders_seen this that xs seen are before after x path depth e i =
-      elim (are before after x path depth e i) [
-        | inl may ↦ inl (elim may [
-          | inl f ↦ inl (seen.may_fail path depth f)
-          | inr f ↦ inr (seen.may_fail_below path depth f)
-        ])
-        | inr has ↦ inr (subst (λ most. HasFolder most path depth before) seen.may_open has)
-      ]
-
   -- what a walk yielded, by a view that this one implies
   pub took_seen : (this that : WalkView D) (new : D) (xs : List Given) → IsSeenAs this that
       → Took law that new xs → Took law this new xs
-  took_seen this that new xs seen took = record {
-    all = λ p h.
-        subst (λ n. Yielded (law.tells new) n p xs) seen.listings_left (took.all p (seen.to_come p h));
-    told = took.told;
-    answered = took.answered ∙ ap (λ d. law.answered d ++ took.told) seen.directory;
-    course = course_seen this that took.told xs seen took.course;
-    counts = subst (λ v. CountsFaults (all_fault_counts xs) (all_items_lost xs) (law.tally v) (law.tally new))
-        seen.directory took.counts;
-    taken = took.taken;
-    counted = took.counted ∙ ap (λ v. grown took.taken (law.tally v).items) seen.directory;
-    within = subst (λ n. took.taken ≤ n) seen.listings_left took.within;
-    spent = λ path depth h. took.spent path depth h ∙ seen.listings_left;
-    misplaced = λ path depth h. subst (λ n. 0 < n) seen.names_left (took.misplaced path depth h);
-    ends_there = took.ends_there;
-    of_folders = folders_seen this that xs seen took.of_folders;
-    unasked = λ i. took.unasked (seen.idles i) ∙ seen.directory;
-    passed = took.passed;
-    passes = λ e. took.passes (seen.yields_from ∙ e);
-    refused = took.refused;
-    refuses = took.refuses;
-    gives = λ n. omega (arith, took.gives n, seen.to_begin);
-    going = λ n i. omega (
-      arith,
-      took.going n (omega (arith, i, seen.listings_left)),
-      seen.listings_left,
-    );
-    folders = took.folders;
-    folders_passed = took.folders_passed;
-    opened = took.opened;
-    opened_is = took.opened_is ∙ ap (λ v. grown took.opened (law.tally v).opened) seen.directory;
-    ended = took.ended;
-    ended_is = took.ended_is ∙ ap (λ v. grown took.ended (law.tally v).ended) seen.directory;
-    opens = λ n. subst (λ m. took.opened ≡ this.to_open + (took.folders + count_to_open m xs)) seen.may_open
-        (omega (arith, took.opens n, seen.to_open));
-    closes = λ n. omega (arith, took.closes n, seen.listings_open);
-  }
+  took_seen this that new xs seen took = took_as law this that new xs (taken_seen this that xs seen) took
 
   -- what a walk gave that these rules filter
   pub took_less : (rules : List (Candidate → Mark)) (rule : Candidate → Mark) (v u : WalkView D) (new : D)
@@ -188,7 +140,7 @@ comes_filtered law d walk rule v u to_come takes left h = record {
       ∙ course_more walk.rules (rule ∷ []) c
 
 -- what one rule takes of a walk comes of it
-comes_by_rule : {D C : Type 0} (law : Law D C) (d : D) (walk : RuledWalk)
+pub comes_by_rule : {D C : Type 0} (law : Law D C) (d : D) (walk : RuledWalk)
     (rule : Candidate → Mark) (v u : WalkView D)
     → IsSeenAs (ruled_view v rule false) u → ComesRuled law d walk v
     → ComesRuled law d (with_rule walk (of_candidate rule)) u

@@ -1,23 +1,26 @@
 -- What was answered is what a tree answers.
-use Rattle.std.proofs.Common.{◌≡◌, ◌∙◌, ℕ, ◌+◌, ◌-◌, Bool, true, false, cond, nat_lt, List, [], ◌∷◌, ◌++◌}
-use Rattle.std.proofs.Common.{filter, arith}
+use Rattle.std.proofs.Common.{◌≡◌, ◌≤◌, ◌∙◌, ℕ, ◌+◌, ◌-◌, Bool, true, false, cond, nat_lt, List, [], ◌∷◌}
+use Rattle.std.proofs.Common.{◌++◌, filter, arith}
 use Rattle.std.proofs.Common.{refl, sym, ap, subst}
 use Rattle.std.proofs.lemmas.List.{append-nil}
+use Rattle.std.proofs.lemmas.List.Elements.{Contains-push}
+use Rattle.std.specs.List.{Contains}
 use Rattle.wax_directory.specs.History.{Answer}
 use Rattle.wax_directory.specs.Shown.{Items, end, leaf, folder, sealed, misnamed, unread, not_text, Shown}
 use Rattle.wax_directory.specs.Shown.{a_leaf, a_folder, a_sealed, child_in, missing, failing, join}
-use Rattle.wax_walk.specs.Collected.{EndsThere, NoMemoryError, TookCourse, whole, cut_short}
+use Rattle.wax_walk.specs.Collected.{EndsThere, NoMemoryError, NoneLast, SpendsWithin, TookCourse, cut_short}
+use Rattle.wax_walk.specs.Collected.{whole}
 use Rattle.wax_walk.specs.Course.{IsStartOf, DirectoryCall, Course, CutsShort, IsKnownWhole, answers, asks}
 use Rattle.wax_walk.specs.Course.{calls_of}
 use Rattle.wax_walk.specs.Course.{continued, items_of, stop, unknown, yields}
 use Rattle.wax_walk.specs.declared.error.FaultKind.TheVariants as K
-use Rattle.wax_walk.specs.Forest.{Forest, followed_by, item, listings, lists, nothing}
+use Rattle.wax_walk.specs.Forest.{Forest, followed_by, item, listings, lists, nothing, preorder}
 use Rattle.wax_walk.specs.Given.{Given, entry, fault, no_memory, is_kept}
 use Rattle.wax_walk.specs.View.{MayTake, WalkView}
 use Rattle.wax_walk.proofs.Courses.{begins_whole, comes_first}
 use Rattle.wax_walk.proofs.Filtered.{Yields, forest_continued, lists_each, forest_of, opened_first}
 use Rattle.wax_walk.proofs.Filtered.{yields_items, yields_opened}
-use Rattle.wax_walk.specs.Opened.{opened_by, opened_folders}
+use Rattle.wax_walk.specs.Opened.{items_listed, opened_by, opened_folders}
 use Rattle.wax_tree.specs.declared.steps.DepthRange.{DepthRange}
 use Rattle.wax_tree.specs.Begins.{OnlyLacks, StartTakes, lacking_start, scope_in, walks}
 use Rattle.wax_tree.specs.Courses.{below_course, course_above_max, course_at_depth}
@@ -25,10 +28,10 @@ use Rattle.wax_tree.specs.Courses.{along_course, items_course, place_course, pla
 use Rattle.wax_tree.specs.Plain.{WalkScope, Location, above_max, at_depth, below_forest, item_location}
 use Rattle.wax_tree.specs.Plain.{items_forest, one_deeper, plain, plain_at, start_location, unlisted}
 use Rattle.wax_tree.specs.Prefix.{walk_from}
-use Rattle.wax_tree.specs.Whole.{EntriesAnswered, as_told, calls_for, told_in_part, yielded}
+use Rattle.wax_tree.specs.Whole.{CutsWithin, EntriesAnswered, as_told, calls_for, told_in_part, yielded}
 use Rattle.wax_tree.specs.Whole as all
 use Rattle.wax_tree.proofs.InRange.{plain_yielded}
-use Rattle.wax_tree.proofs.Kept.{error_kept, first_kept}
+use Rattle.wax_tree.proofs.Kept.{error_kept, first_kept, plain_goes}
 
 no_calls : (before : List DirectoryCall) (q : DirectoryCall) → [] ≡ before ++ q ∷ [] → ⊥
 no_calls [] q e = cc
@@ -201,6 +204,38 @@ lacks_alone (yields y d a) x told xs ends b e f s =
       not_last [] e = cc
       not_last (z ∷ zs) e = cc
 
+-- and nothing else
+pub lacks_only : {D : Type 0} (view : WalkView D) (told : List Answer) (xs : List Given) → OnlyLacks view
+    → EndsThere xs → TookCourse view told xs → xs ≡ no_memory ∷ []
+lacks_only view told xs lacks ends (whole c t w e f) =
+    f ∙ ap items_of (begins_whole c (yields no_memory stop stop) w (lacks c t))
+lacks_only view told xs lacks ends (cut_short c x t first e f s) =
+    let l = lacks_alone c x told xs ends (lacks c t) e f s in l.1 ∙ ap (λ z. z ∷ []) (same x l.2) where
+      same : (x : Given) → CutsShort [] x → x ≡ no_memory
+      same no_memory s = refl
+      same (entry m g) s = absurd s
+      same (fault K.NotFound path depth) s = absurd s
+      same (fault K.NotAFolder path depth) s = absurd s
+      same (fault K.Listing path depth) s = absurd s
+      same (fault K.BadName path depth) s = absurd s
+      same (fault K.NotText path depth) s = absurd s
+      same (fault K.Budget path depth) s = absurd (no_calls s.0 _ s.2)
+
+-- an error that cuts a walk short came within the budget
+cuts_within : (budget : ℕ) (told : List Answer) (xs before : List Given) (calls : List DirectoryCall)
+    (x : Given) → SpendsWithin (budget + 1) told xs → xs ≡ before ++ x ∷ [] → CutsShort calls x
+    → CutsWithin budget told x
+cuts_within budget told xs before calls no_memory h e s = h.within
+cuts_within budget told xs before calls (entry m f) h e s = absurd s
+cuts_within budget told xs before calls (fault K.NotFound path depth) h e s = absurd s
+cuts_within budget told xs before calls (fault K.NotAFolder path depth) h e s = absurd s
+cuts_within budget told xs before calls (fault K.Listing path depth) h e s = absurd s
+cuts_within budget told xs before calls (fault K.BadName path depth) h e s = absurd s
+cuts_within budget told xs before calls (fault K.NotText path depth) h e s = absurd s
+cuts_within budget told xs before calls (fault K.Budget path depth) h e s =
+    h.spent path depth (subst (λ v. Contains v (fault K.Budget path depth)) (sym e)
+    (Contains-push before (fault K.Budget path depth)))
+
 module _ (range : DepthRange) (start : List ℕ) where
   plain_yields : (s : Shown) → Yields (plain_course (scope_in range) start s) (plain (scope_in range) start s)
   plain_yields s = place_yields (scope_in range) (start_location start) s
@@ -214,45 +249,85 @@ module _ (range : DepthRange) (start : List ℕ) where
       ≡ listings (plain (scope_in range) start s)
   plain_opened s = yields_opened (plain_course (scope_in range) start s) _ (plain_yields s)
 
+  -- a walk that wasn't cut short took no more than the budget
+  whole_within : (s : Shown) (told : List Answer) (xs : List Given) → told ≡ answers (calls_for range start s)
+      → xs ≡ preorder (plain (scope_in range) start s) → SpendsWithin (range.budget + 1) told xs
+      → items_listed told ≤ range.budget
+  whole_within s told xs e f h = go s e f where
+    there : (z : Shown) → ¬ (z ≡ missing) → xs ≡ preorder (plain (scope_in range) start z)
+        → items_listed told ≤ range.budget
+    there z n items =
+        let less = h.going (subst NoneLast (sym items) (plain_goes (scope_in range) start z n)) (omega arith)
+        in omega (arith, less)
+
+    go : (z : Shown) → told ≡ answers (calls_for range start z)
+        → xs ≡ preorder (plain (scope_in range) start z) → items_listed told ≤ range.budget
+    go (a_leaf link) asked items = there (a_leaf link) (λ i. (cc)) items
+    go (a_folder l) asked items = there (a_folder l) (λ i. (cc)) items
+    go a_sealed asked items = there a_sealed (λ i. (cc)) items
+    go missing asked items = let none : items_listed told ≡ 0 = ap items_listed asked in omega (arith, none)
+    go failing asked items = there failing (λ i. (cc)) items
+
   -- only an error came, and nothing was asked
   lacks_answered : (told : List Answer) (xs : List Given) (x : Given) → told ≡ [] → xs ≡ x ∷ []
-      → CutsShort [] x → EntriesAnswered range start told xs
-  lacks_answered told xs x e f s =
+      → CutsShort [] x → CutsWithin range.budget told x → EntriesAnswered range start told xs
+  lacks_answered told xs x e f s within =
       told_in_part missing [] (calls_for range start missing) x tt refl e
       (opened_folders (answers (calls_for range start missing)))
       (opened_first told [] (calls_for range start missing) _ e refl ∙ plain_opened missing)
-      ([], yielded range (all.whole start missing), f, refl) s
+      ([], yielded range (all.whole start missing), f, refl) s within
 
   pub entries_answered : {D : Type 0} (view : WalkView D) (told : List Answer) (xs ys : List Given)
       → ((c : Course) → MayTake view c → StartTakes (scope_in range) start c) → EndsThere xs
-      → TookCourse view told xs → ys ≡ filter is_kept xs → EntriesAnswered range start told ys
-  entries_answered view told xs ys takes ends (whole c t w e f) k = elim (takes c t) [
+      → TookCourse view told xs → SpendsWithin (range.budget + 1) told xs → ys ≡ xs
+      → EntriesAnswered range start told ys
+  entries_answered view told xs ys takes ends (whole c t w e f) h k = elim (takes c t) [
     | walks s n b ↦
         let same = begins_whole c (plain_course (scope_in range) start s) w b in
         let items = f ∙ ap items_of same in
-        let kept = first_kept (scope_in range) start s xs []
-        (append-nil xs ∙ (items ∙ yields_items _ _ (plain_yields s))) in
         let asked = e ∙ ap (λ z. answers (calls_of z)) same in
-        as_told s n asked (ap opened_folders asked ∙ plain_opened s) (k ∙ (kept ∙ (items ∙ items_plain s)))
+        as_told s n asked (ap opened_folders asked ∙ plain_opened s) (k ∙ (items ∙ items_plain s))
+        (whole_within s told xs asked (items ∙ yields_items _ _ (plain_yields s)) h)
     | lacking_start b ↦
         let same = begins_whole c (yields no_memory stop stop) w b in
         lacks_answered told ys no_memory (e ∙ ap (λ z. answers (calls_of z)) same)
-        (k ∙ ap (filter is_kept) (f ∙ ap items_of same)) tt
+        (k ∙ (f ∙ ap items_of same)) tt h.within
   ]
-  entries_answered view told xs ys takes ends (cut_short c x t first e f s) k = elim (takes c t) [
+  entries_answered view told xs ys takes ends (cut_short c x t first e f s) h k = elim (takes c t) [
     | walks d n b ↦
         let p = comes_first c (plain_course (scope_in range) start d) first b in
-        let kept = error_kept (scope_in range) start d (items_of c) p.items x (cutting_kept (calls_of c) x s)
-        (p.items_are ∙ yields_items _ _ (plain_yields d)) in
         told_in_part d (calls_of c) p.calls x n p.calls_are e (opened_folders (answers p.calls))
         (opened_first told (calls_of c) p.calls (calls_for range start d) e p.calls_are ∙ plain_opened d) (
           items_of c,
           p.items,
-          k ∙ (ap (filter is_kept) f ∙ kept),
+          k ∙ f,
           p.items_are ∙ items_plain d,
-        ) s
+        ) s (cuts_within range.budget told xs (items_of c) (calls_of c) x h f s)
     | lacking_start b ↦
         let l = lacks_alone c x told xs ends b e f s in
-        lacks_answered told ys x l.0
-        (k ∙ (ap (filter is_kept) l.1 ∙ ap (λ b. cond b (x ∷ []) []) (cutting_kept [] x l.2))) l.2
+        lacks_answered told ys x l.0 (k ∙ l.1) l.2
+        (cuts_within range.budget told xs [] [] x h l.1 l.2)
+  ]
+
+  -- a plain walk keeps all that it yields
+  pub all_kept : {D : Type 0} (view : WalkView D) (told : List Answer) (xs : List Given)
+      → ((c : Course) → MayTake view c → StartTakes (scope_in range) start c) → EndsThere xs
+      → TookCourse view told xs → filter is_kept xs ≡ xs
+  all_kept view told xs takes ends (whole c t w e f) = elim (takes c t) [
+    | walks s n b ↦
+        let same = begins_whole c (plain_course (scope_in range) start s) w b in
+        first_kept (scope_in range) start s xs []
+        (append-nil xs ∙ (f ∙ ap items_of same ∙ yields_items _ _ (plain_yields s)))
+    | lacking_start b ↦
+        let is = f ∙ ap items_of (begins_whole c (yields no_memory stop stop) w b) in
+        ap (filter is_kept) is ∙ sym is
+  ]
+  all_kept view told xs takes ends (cut_short c x t first e f s) = elim (takes c t) [
+    | walks d n b ↦
+        let p = comes_first c (plain_course (scope_in range) start d) first b in
+        ap (filter is_kept) f ∙ (error_kept (scope_in range) start d (items_of c) p.items x
+        (cutting_kept (calls_of c) x s) (p.items_are ∙ yields_items _ _ (plain_yields d)) ∙ sym f)
+    | lacking_start b ↦
+        let l = lacks_alone c x told xs ends b e f s in
+        ap (filter is_kept) l.1 ∙ (ap (λ b. cond b (x ∷ []) []) (cutting_kept [] x l.2) ∙ sym l.1)
   ]

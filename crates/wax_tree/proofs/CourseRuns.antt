@@ -1,32 +1,36 @@
 -- The course of a run of steps, up to an item or the end.
-use Rattle.std.proofs.Common.{◌≡◌, List, [], ◌++◌, refl, sym, subst, inl, inr}
+use Rattle.std.proofs.Common.{◌≡◌, ◌+◌, List, [], ◌++◌, refl, sym, subst, inl, inr}
 use Rattle.std.specs.Prelude.{Some, None}
 use Rattle.std.proofs.lemmas.List.{append-nil}
 use Rattle.wax_directory.specs.Law.{Law}
 use Rattle.wax_walk.specs.Course.{IsStartOf, DirectoryCall, Course, CutsShort, ahead, all_ahead, answers}
 use Rattle.wax_walk.specs.Course.{asking, stop}
 use Rattle.wax_walk.specs.Course.{unknown, yields}
-use Rattle.wax_walk.specs.View.{Follows, MayTake, ended_so, was_cut, went_on}
+use Rattle.wax_walk.specs.Opened.{items_listed}
+use Rattle.wax_walk.specs.View.{Follows, MayTake, Takes, ended_so, was_cut, went_on}
+use Rattle.wax_walk.proofs.Accounting.{takes_more}
 use Rattle.wax_walk.proofs.Courses.{asking_then, begins_asking, begins_itself, begins_parts, begins_trans}
-use Rattle.wax_walk.proofs.Taking.{answered_more, cuts_later}
+use Rattle.wax_walk.proofs.Taking.{answered_more, cuts_later, listed_more}
 use Rattle.wax_tree.specs.declared.steps.Step.{Step}
 use Rattle.wax_tree.specs.declared.steps.Step.TheVariants.{Ends, Gives, GoesOn}
 use Rattle.wax_tree.specs.declared.steps.Steps.{Steps}
 use Rattle.wax_tree.specs.Stepping.{ComesWhole, StepCourse}
-use Rattle.wax_tree.specs.Walking.{HasStopped, steps_view, tree_given}
-use Rattle.wax_tree.proofs.Coursing.{stopped_ahead}
+use Rattle.wax_tree.specs.Walking.{HasStopped, allowance, step_given, steps_view, tree_given}
+use Rattle.wax_tree.proofs.Coursing.{nothing_spent, stopped_ahead}
 
 module _ {D C : Type 0} (law : Law D C) where
   -- after these calls, without an item
   pub record CourseSoFar (old now : Steps D C) : Type 0 where
     pub calls : List DirectoryCall
     pub answered : law.answered now.directory ≡ law.answered old.directory ++ answers calls
+    pub spends : items_listed (answers calls) + allowance now ≡ allowance old
     pub goes : (c : Course) → ComesWhole now c → ComesWhole old (asking calls c)
 
   pub course_begun : (w : Steps D C) → CourseSoFar w w
   course_begun w = record {
     calls = [];
     answered = sym (append-nil (law.answered w.directory));
+    spends = nothing_spent w;
     goes = λ c h. h;
   }
 
@@ -37,7 +41,7 @@ module _ {D C : Type 0} (law : Law D C) where
       (ahead p.below p.after, (h.0, h.1, p.below_begins, p.after_begins), p.whole)
 
   module _ (w now new : Steps D C) (r : Step) (f : CourseSoFar w now)
-      (st : StepCourse law now.directory (ComesWhole now) r new) where
+      (st : StepCourse law now (ComesWhole now) r new) where
     abbrev pub run_calls : List DirectoryCall
     run_calls = f.calls ++ st.calls
 
@@ -45,6 +49,12 @@ module _ {D C : Type 0} (law : Law D C) where
     run_answered =
         answered_more law.answered w.directory now.directory new.directory f.calls st.calls
         f.answered st.answered
+
+    pub run_spends : Takes (step_given r) (allowance w) (items_listed (answers run_calls)) (allowance new)
+    run_spends =
+        takes_more (step_given r) (items_listed (answers f.calls)) (allowance now)
+        (items_listed (answers st.calls)) (allowance new) (allowance w) (items_listed (answers run_calls))
+        f.spends (listed_more f.calls st.calls) st.spends
 
     goes_so : (c : Course) → ComesWhole now (asking st.calls c) → ComesWhole w (asking run_calls c)
     goes_so c h = subst (ComesWhole w) (asking_then f.calls st.calls c) (f.goes (asking st.calls c) h)
@@ -56,10 +66,11 @@ module _ {D C : Type 0} (law : Law D C) where
         (begins_asking run_calls unknown s.0 tt)
 
   pub course_on : (w now new : Steps D C) → CourseSoFar w now
-      → StepCourse law now.directory (ComesWhole now) GoesOn new → CourseSoFar w new
+      → StepCourse law now (ComesWhole now) GoesOn new → CourseSoFar w new
   course_on w now new f st = record {
     calls = f.calls ++ st.calls;
     answered = run_answered w now new GoesOn f st;
+    spends = run_spends w now new GoesOn f st;
     goes = λ c h. subst (λ d. ComesWhole w (asking (f.calls ++ st.calls) d)) (sym h.2)
         (goes_so w now new GoesOn f st (all_ahead h.0) (elim st.uses.follows [
           | inl g ↦ g h.0 h.1
@@ -68,7 +79,7 @@ module _ {D C : Type 0} (law : Law D C) where
   }
 
   pub run_follows : (w now new : Steps D C) (x : _) (f : CourseSoFar w now)
-      (st : StepCourse law now.directory (ComesWhole now) (Gives x) new)
+      (st : StepCourse law now (ComesWhole now) (Gives x) new)
       → Follows (steps_view law w) (f.calls ++ st.calls) (Some (tree_given x)) (steps_view law new)
   run_follows w now new x f st = elim st.uses.follows [
     | inl g ↦ went_on (tree_given x) refl (λ a c m b.
@@ -87,7 +98,7 @@ module _ {D C : Type 0} (law : Law D C) where
   ]
 
   pub run_stops : (w now new : Steps D C) (f : CourseSoFar w now)
-      (st : StepCourse law now.directory (ComesWhole now) Ends new) → HasStopped new
+      (st : StepCourse law now (ComesWhole now) Ends new) → HasStopped new
       → Follows (steps_view law w) (f.calls ++ st.calls) None (steps_view law new)
   run_stops w now new f st h = elim st.uses.follows [
     | inl g ↦

@@ -19,8 +19,8 @@ use Rattle.wax_directory.specs.PlainNames.{not_plain, plain_of}
 use Rattle.wax_directory.specs.Shown.{IsPlain, Shown, a_folder, a_leaf, a_sealed, end, failing, folder, leaf}
 use Rattle.wax_directory.specs.Shown.{join, leaf_kind, misnamed, missing, named, no_item, no_name, not_text}
 use Rattle.wax_directory.specs.Shown.{sealed, unread}
-use Rattle.wax_walk.specs.Course.{Ahead, DirectoryCall, Course, CutsShort, ahead, all_ahead, asking, asks}
-use Rattle.wax_walk.specs.Course.{call, continued}
+use Rattle.wax_walk.specs.Course.{Ahead, DirectoryCall, Course, CutsShort, ahead, all_ahead, answers}
+use Rattle.wax_walk.specs.Course.{asking, asks, call, continued}
 use Rattle.wax_walk.specs.Course.{stop, yields}
 use Rattle.wax_walk.specs.declared.entry.TreeEntry.{TreeEntry}
 use Rattle.wax_walk.specs.declared.error.FaultKind.{FaultKind}
@@ -28,6 +28,8 @@ use Rattle.wax_walk.specs.declared.error.FaultKind.TheVariants as K
 use Rattle.wax_walk.specs.Entries.{facts_of}
 use Rattle.wax_walk.specs.declared.error.WalkError.TheVariants.{Memory}
 use Rattle.wax_walk.specs.Given.{Facts, Given, entry, fault, no_memory}
+use Rattle.wax_walk.specs.Opened.{items_listed}
+use Rattle.wax_walk.specs.View.{Takes}
 use Rattle.wax_walk.proofs.Courses.{continued_stop, continued_then}
 use Rattle.wax_tree.specs.declared.location.Location as code
 use Rattle.wax_tree.specs.declared.steps.OpenFolder.{OpenFolder}
@@ -48,7 +50,8 @@ use Rattle.wax_tree.specs.inner.Finding.{IsFound}
 use Rattle.wax_tree.specs.Prefix.{from_last}
 use Rattle.wax_tree.specs.declared.steps.FoundItem.TheVariants as Found
 use Rattle.wax_tree.specs.Walking.{AheadUnless, ComesAhead, EnteredComes, FirstComes, GoesAhead, LevelsCome}
-use Rattle.wax_tree.specs.Walking.{HasStopped, entry_location, located, scope_of, step_given, tree_given}
+use Rattle.wax_tree.specs.Walking.{HasStopped, allowance, entry_location, located, scope_of, step_given}
+use Rattle.wax_tree.specs.Walking.{tree_given}
 
 -- ---- the open folders
 
@@ -382,14 +385,30 @@ module _ {D C : Type 0} where
     follows = elim h.follows [ inl g ↦ inl (λ a i. f (next_course r a) (g a i)) | inr c ↦ inr c ];
   }
 
-  pub course_moved : (law : Law D C) (d : D) (this that : Course → Type 0) (r : Step) (new : Steps D C)
-      → ((c : Course) → this c → that c) → StepCourse law d this r new → StepCourse law d that r new
-  course_moved law d this that r new f h = record {
+  pub course_moved : (law : Law D C) (old w : Steps D C) (this that : Course → Type 0) (r : Step)
+      (new : Steps D C) → old.directory ≡ w.directory → allowance old ≡ allowance w
+      → ((c : Course) → this c → that c) → StepCourse law old this r new → StepCourse law w that r new
+  course_moved law old w this that r new d left f h = record {
     calls = h.calls;
-    answered = h.answered;
+    answered = h.answered ∙ ap (λ v. law.answered v ++ answers h.calls) d;
+    spends = subst (λ n. Takes (step_given r) n (items_listed (answers h.calls)) (allowance new)) left
+        h.spends;
     uses = uses_moved h.calls (λ c. this (asking h.calls c)) (λ c. that (asking h.calls c)) r new
         (λ c i. f (asking h.calls c) i) h.uses;
   }
+
+  -- a step that ends the walk with this item
+  pub ends_spends : (w new : Steps D C) (r : Step) (x : Given) (n : ℕ) → step_given r ≡ Some x
+      → new.has_ended ≡ true → Takes (Some x) (allowance w) n 0
+      → Takes (step_given r) (allowance w) n (allowance new)
+  ends_spends w new r x n e ended t =
+      let none : allowance new ≡ 0 = ap (λ b. cond b 0 (new.budget + 1)) ended in
+      subst (λ z. Takes z (allowance w) n (allowance new)) (sym e)
+      (subst (λ k. Takes (Some x) (allowance w) n k) (sym none) t)
+
+  -- a step that took nothing
+  pub nothing_spent : (w : Steps D C) → 0 + allowance w ≡ allowance w
+  nothing_spent w = omega arith
 
   pub some_opened : (w : Steps D C) (place : code.Location)
       → let at = located place in let calls = call at.path (opened at.path) ∷ [] in
@@ -416,12 +435,13 @@ module _ {D C : Type 0} where
     | inr i ↦ goes_nowhere w w.has_ended i
   ]
 
-  pub stops_so : (law : Law D C) (w new : Steps D C) → new.directory ≡ w.directory → HasStopped w
-      → StepCourse law w.directory (ComesWhole w) Ends new
-  stops_so law w new e h =
+  pub stops_so : (law : Law D C) (w new : Steps D C) → new.directory ≡ w.directory
+      → allowance new ≡ allowance w → HasStopped w → StepCourse law w (ComesWhole w) Ends new
+  stops_so law w new e left h =
       let nothing : ComesWhole w stop = (ahead stop stop, stopped_ahead w h, refl) in record {
         calls = [];
         answered = ap law.answered e ∙ sym (append-nil (law.answered w.directory));
+        spends = ap (λ n. 0 + n) left ∙ nothing_spent w;
         uses = record { some = (stop, nothing); follows = inl (λ a i. nothing) };
       }
 

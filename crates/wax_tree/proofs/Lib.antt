@@ -18,5 +18,6 @@ pub mod Reaching
 pub mod Resting
 pub mod Rules
 pub mod Showing
+pub mod StartViews
 pub mod Stepping
 pub mod UsingAnswers

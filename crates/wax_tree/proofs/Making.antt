@@ -31,7 +31,7 @@ use Rattle.wax_tree.specs.Lacking.{AheadUnlessLacking, MayCome, lacks, goes, tre
 use Rattle.wax_tree.specs.Plain.{HasKind, Location, WalkScope, count_shown, start_location}
 use Rattle.wax_tree.specs.Prefix.{ArePlain, from_last, walk_from}
 use Rattle.wax_tree.specs.Walking.{EnteredComes, FirstComes, LevelsCome}
-use Rattle.wax_tree.specs.Walking.{MayBeAhead, PlainToCome, scope_of, steps_view, located}
+use Rattle.wax_tree.specs.Walking.{MayBeAhead, PlainToCome, allowance, scope_of, steps_view, located}
 
 module _ {D C : Type 0} (law : Law D C) where
   made_comes : (w : Steps D C) (place : StartPoint) (s : Shown) (listed : List (List ℕ))
@@ -138,6 +138,7 @@ module _ {D C : Type 0} (law : Law D C) where
     gives = λ p c. known p c;
     calls = f.calls;
     answered = f.answered;
+    spends = f.spends;
     begins = taken w e (asking f.calls unknown) f.begins;
     follows = followed w v r f.calls e d f.follows;
     accounts = record {
@@ -196,6 +197,7 @@ lacking_fed law w e = record {
   gives = λ p h. lacks_memory refl;
   calls = [];
   answered = sym (append-nil (law.answered w.steps.directory));
+  spends = let t : 0 + 0 ≤ allowance w.steps = omega arith in t;
   begins = lacking_takes law w e unknown tt;
   follows = went_on no_memory refl (λ a c m b.
       let none : m.0 ≡ ahead stop stop = m.1 in

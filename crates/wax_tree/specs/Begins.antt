@@ -10,7 +10,7 @@ use Rattle.wax_tree.specs.declared.steps.DepthRange.{DepthRange}
 use Rattle.wax_tree.specs.Plain.{Location, WalkScope, plain, count_shown}
 use Rattle.wax_tree.specs.Prefix.{ArePlain, path_from, walk_from}
 use Rattle.wax_walk.specs.Forest.{Pending, pending, nothing}
-use Rattle.wax_walk.specs.Course.{Course, stop, yields}
+use Rattle.wax_walk.specs.Course.{Course, all_ahead, stop, yields}
 use Rattle.wax_walk.specs.Course as course
 use Rattle.wax_walk.specs.Given.{Given, no_memory}
 use Rattle.wax_walk.specs.View.{MayTake, WalkView, is_above}
@@ -88,6 +88,26 @@ pub record Begins {D C : Type 0} (law : Law D C) (d : D) (start : List ℕ) (ran
   pub may_open : view.may_open ≡ is_above range.max
   pub fails : FailsFrom range.min start [] view
   pub directory : view.directory ≡ d
+
+-- the view of a plain walk over the directory d that begins, as far as contracts say what a call took of it
+abbrev pub start_view : {D C : Type 0} → Law D C → D → List ℕ → DepthRange → WalkView D
+start_view law d start range = record {
+  to_come = λ p. (s : Shown) × (listed : List (List ℕ)) × law.shows d start s × law.tells d listed
+      × (p ≡ pending nothing (plain (scope_in range) start s) listed (count_shown s));
+  may_come = λ a. StartTakes (scope_in range) start (all_ahead a);
+  directory = d;
+  listings_left = range.budget + 1;
+  names_left = 0;
+  to_begin = 1;
+  listings_open = 0;
+  to_open = 0;
+  may_open = is_above range.max;
+  yields_from = range.min;
+  may_fail = IsPassed range.min start [];
+  may_fail_below = λ path depth. ⊥;
+  has_ended = ⊥;
+  is_idle = ⊥;
+}
 
 -- where a walk begins: the start that its entries report, the path that it queries first, the candidate of
 -- that path, and the names below it that the walk follows

@@ -14,6 +14,7 @@ use Rattle.wax_walk.specs.Course.{yields}
 use Rattle.wax_walk.specs.declared.error.FaultKind.TheVariants.{BadName, Listing, NotText}
 use Rattle.wax_walk.specs.Forest.{Forest, nothing, followed_by, Pending, pending}
 use Rattle.wax_walk.specs.Given.{Facts, Given, fault}
+use Rattle.wax_walk.specs.Opened.{items_listed}
 use Rattle.wax_walk.specs.View.{WalkView, Accounts, GivesOrStops, IsLast, IsMisplaced, Takes, is_above}
 use Rattle.wax_walk.specs.View.{fault_counts, IsErrorAt, IsFolderAt, items_lost, how_many, IsMemoryError}
 use Rattle.wax_walk.specs.View.{opens_one}
@@ -200,10 +201,11 @@ pub record UsesCourse {D C : Type 0} (calls : List DirectoryCall) (comes : Cours
   pub follows : ((a : Ahead) → ComesAhead new a → comes (next_course r a)) ⊎ CutsOff calls r new
 
 -- what a step does that asks the directory
-pub record StepCourse {D C : Type 0} (law : Law D C) (before : D) (comes : Course → Type 0) (r : Step)
+pub record StepCourse {D C : Type 0} (law : Law D C) (old : Steps D C) (comes : Course → Type 0) (r : Step)
     (new : Steps D C) : Type 0 where
   pub calls : List DirectoryCall
-  pub answered : law.answered new.directory ≡ law.answered before ++ answers calls
+  pub answered : law.answered new.directory ≡ law.answered old.directory ++ answers calls
+  pub spends : Takes (step_given r) (allowance old) (items_listed (answers calls)) (allowance new)
   pub uses : UsesCourse calls (λ c. comes (asking calls c)) r new
 
 -- what is to come of a folder's items, and after them of a walk at rest

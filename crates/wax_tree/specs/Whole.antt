@@ -1,5 +1,5 @@
 -- The whole plain walk, of all depths, and what a walk of some depths yields of it.
-use Rattle.std.specs.Prelude.{◌≡◌, ℕ, ◌+◌, ◌-◌, ◌<◌, Bool, false, ◌&&◌, not, nat_lt, filter, List}
+use Rattle.std.specs.Prelude.{◌≡◌, ℕ, ◌+◌, ◌-◌, ◌<◌, ◌≤◌, Bool, false, ◌&&◌, not, nat_lt, filter, List}
 use Rattle.std.specs.Prelude.{[], ◌∷◌, ◌++◌}
 use Rattle.wax_directory.specs.declared.directory.FileType.TheVariants.{Folder}
 use Rattle.wax_directory.specs.Shown.{Items, end, leaf, folder, sealed, misnamed, unread, not_text, Shown}
@@ -16,7 +16,7 @@ use Rattle.wax_walk.specs.declared.error.FaultKind.TheVariants.{NotFound, NotAFo
 use Rattle.wax_walk.specs.declared.error.FaultKind.TheVariants.{NotText, Budget}
 use Rattle.wax_walk.specs.Forest.{Pending, listings, nothing, pending}
 use Rattle.wax_walk.specs.Given.{Given, entry, fault, no_memory}
-use Rattle.wax_walk.specs.Opened.{opened_folders}
+use Rattle.wax_walk.specs.Opened.{items_listed, opened_folders}
 
 -- what is to come of a plain walk from a start where s is shown
 abbrev pub plain_pending : DepthRange → List ℕ → Shown → List (List ℕ) → Pending Given
@@ -84,17 +84,25 @@ pub data EntriesAre (range : DepthRange) (start : List ℕ) (s : Shown) (xs : Li
 abbrev pub calls_for : DepthRange → List ℕ → Shown → List DirectoryCall
 calls_for range start s = calls_of (plain_course (scope_in range) start s)
 
+-- before this error at most one item more than the budget was listed, and exactly so many if the budget was
+-- reached
+abbrev pub CutsWithin : ℕ → List Answer → Given → Type 0
+CutsWithin budget told (fault Budget path depth) = items_listed told ≡ budget + 1
+CutsWithin budget told x = items_listed told ≤ budget + 1
+
 -- whatever was answered: it is what some tree answers, the folders that were opened, or that couldn't be
--- listed, are those that the plain walk of this tree lists, in order, and the items are what these depths
--- leave of its whole walk; or it begins that, and the items are a prefix and then one error, because
--- allocation failed or the budget was reached in the folder that was asked last
+-- listed, are those that the plain walk of this tree lists, in order, the items are what these depths leave
+-- of its whole walk, and no more items than the budget were listed; or it begins that, and the items are a
+-- prefix and then one error, because allocation failed or the budget was reached in the folder that was asked
+-- last
 pub data EntriesAnswered (range : DepthRange) (start : List ℕ) (told : List Answer) (xs : List Given) : Type 0
   where
     as_told : (s : Shown) → IsNamed s → told ≡ answers (calls_for range start s)
         → opened_folders told ≡ listings (plain (scope_in range) start s)
-        → xs ≡ yielded range (whole start s) → EntriesAnswered range start told xs
+        → xs ≡ yielded range (whole start s) → items_listed told ≤ range.budget
+        → EntriesAnswered range start told xs
     told_in_part : (s : Shown) (calls rest : List DirectoryCall) (x : Given) → IsNamed s
         → calls ++ rest ≡ calls_for range start s → told ≡ answers calls
         → (later : List (List ℕ)) → opened_folders told ++ later ≡ listings (plain (scope_in range) start s)
         → IsCutShort (yielded range (whole start s)) x xs → CutsShort calls x
-        → EntriesAnswered range start told xs
+        → CutsWithin range.budget told x → EntriesAnswered range start told xs

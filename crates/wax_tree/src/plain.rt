@@ -1,14 +1,13 @@
 //! The plain walk as a list.
 
-ghost use Rattle.std.specs.Prelude.{◌≡◌, ◌+◌, ◌++◌, List, [], ℕ, IfOk, filter, map, ⊤};
+ghost use Rattle.std.specs.Prelude.{◌≡◌, ◌≤◌, ◌+◌, ◌*◌, ◌++◌, List, [], ℕ, IfOk, length, map, ⊤};
 ghost use Rattle.wax_directory.specs.History.{Answer};
 ghost use Rattle.wax_directory.specs.Shown.{Shown};
-ghost use Rattle.wax_tree.specs.Begins.{IsPassed, behavior_range};
+ghost use Rattle.wax_tree.specs.Begins.{IsPassed, behavior_range, start_view};
 ghost use Rattle.wax_tree.specs.Whole.{plain_pending, EntriesAnswered, EntriesAre};
-ghost use Rattle.wax_walk.specs.Collected.{AreOfFolders, Yielded};
+ghost use Rattle.wax_walk.specs.Collected.{AreOfFolders, Took, Yielded};
 ghost use Rattle.wax_walk.specs.View.{is_above};
 ghost use Rattle.wax_walk.specs.Entries.{given_outcome};
-ghost use Rattle.wax_walk.specs.Given.{Given, is_kept};
 
 use crate::behavior::WalkBehavior;
 use crate::path_ext::walk_from;
@@ -26,8 +25,9 @@ use wax_walk::{Entry, TreeEntry, WalkError, collect};
 /// folders together hold more items than the budget. Over any directory, whatever it answered, its
 /// answers are those of some tree, the items are the walk of that tree, and the folders that were
 /// opened, or couldn't be listed, are those that this walk lists; or all begin so, and one error
-/// comes. Each error is of a folder that was yielded before it, of the start, or of a folder above
-/// the least depth.
+/// comes. No more items than the budget are taken from folders, but for the one that error 16 is
+/// about. Each error is of a folder that was yielded before it, of the start, or of a folder above the
+/// least depth.
 ///
 /// # Errors
 ///
@@ -55,11 +55,13 @@ pub fn entries<D: Directory>(
         × (D.law.answered r.1 ≡ D.law.answered directory ++ told)
         × EntriesAnswered (behavior_range behavior) start.now told
         (map (given_outcome ⟦<TreeEntry as Entry>⟧.facts ⟦<TreeEntry as Entry>⟧.facts) r.0.items)) }
-    ensures errors { IfOk result (λ r. (xs : List Given)
-        × AreOfFolders (IsPassed (behavior_range behavior).min start.now [])
-        (is_above (behavior_range behavior).max) xs
-        × (map (given_outcome ⟦<TreeEntry as Entry>⟧.facts ⟦<TreeEntry as Entry>⟧.facts) r.0.items
-        ≡ filter is_kept xs)) }
+    ensures errors { IfOk result (λ r. AreOfFolders (IsPassed (behavior_range behavior).min start.now [])
+        (is_above (behavior_range behavior).max)
+        (map (given_outcome ⟦<TreeEntry as Entry>⟧.facts ⟦<TreeEntry as Entry>⟧.facts) r.0.items)) }
+    ensures took { IfOk result (λ r. Took D.law
+        (start_view D.law directory start.now (behavior_range behavior)) r.1
+        (map (given_outcome ⟦<TreeEntry as Entry>⟧.facts ⟦<TreeEntry as Entry>⟧.facts) r.0.items)) }
+    ensures few { IfOk result (λ r. length r.0.items ≤ 2 * behavior.budget + 3) }
 {
     collect(alloc, walk_from(alloc, directory, start, behavior))
 }

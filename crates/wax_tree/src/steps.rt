@@ -299,7 +299,7 @@ impl<D: Directory> Steps<D> {
         ensures course { (self.old.has_ended ≡ false) → (self.old.first ≡ None)
             → (self.old.entered ≡ None)
             → let comes = AlongComes (scope_of self.old) (from_last place.names.items) (located place.at) in
-            StepCourse D.law self.old.directory (ComesLast self.old comes) result self.new }
+            StepCourse D.law self.old (ComesLast self.old comes) result self.new }
         ensures measure { (self.old.entered ≡ None)
             → IncreasesByNames (length place.names.items) self.old result self.new }
     {
@@ -334,7 +334,7 @@ impl<D: Directory> Steps<D> {
         ensures course { (self.old.has_ended ≡ false) → (self.old.first ≡ None)
             → (self.old.entered ≡ None)
             → let comes = FolderComes (scope_of self.old) (located folder) in
-            StepCourse D.law self.old.directory (ComesLast self.old comes) result self.new }
+            StepCourse D.law self.old (ComesLast self.old comes) result self.new }
         ensures measure { IncreasesBy 0 1 self.old result self.new }
     {
         match self.directory.open(self.alloc, folder.path.as_str()) {
@@ -446,7 +446,7 @@ impl<D: Directory> Steps<D> {
         ensures course { (self.old.has_ended ≡ false) → (self.old.first ≡ None)
             → (self.old.entered ≡ None)
             → let comes = RestComes (scope_of self.old) (located level.folder) in
-            StepCourse D.law self.old.directory (ComesLast self.old comes) result self.new }
+            StepCourse D.law self.old (ComesLast self.old comes) result self.new }
         ensures measure { (self.old.entered ≡ None) → (self.old.has_ended ≡ false)
             → WeaklyDecreases self.old result self.new }
     {
@@ -465,7 +465,7 @@ impl<D: Directory> Steps<D> {
         ensures places { StepPlaces (MayReach self.old) (MayReach self.old) self.old.max result self.new }
         ensures step { (p : Pending Given) → PlainToCome D.law self.old p
             → StepIs D.law self.old p result self.new }
-        ensures course { StepCourse D.law self.old.directory (ComesWhole self.old) result self.new }
+        ensures course { StepCourse D.law self.old (ComesWhole self.old) result self.new }
         ensures measure { Decreases self.old result self.new }
     {
         if self.has_ended {

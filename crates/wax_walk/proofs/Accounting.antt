@@ -15,6 +15,7 @@ use Rattle.wax_walk.specs.View.{items_lost, how_many, opens_one, IsMemoryError}
 use Rattle.wax_walk.specs.View.{Follows, MayTake, GivesOrStops, Accounts, FeedStep, IsErrorAt, IsFolderAt}
 use Rattle.wax_walk.specs.View.{MayFail, Places}
 use Rattle.wax_walk.specs.Forest.{Pending}
+use Rattle.wax_walk.specs.Opened.{items_listed}
 
 -- so many items were taken before
 pub takes_more : (r : Option Given) (k allowed n left b m : ℕ) → k + allowed ≡ b → m ≡ k + n
@@ -320,6 +321,15 @@ module _ {D C : Type 0} (law : Law D C) where
     answered_moved calls e = ap law.answered a.directory
         ∙ (e ∙ ap (λ d. law.answered d ++ answers calls) (sym b.directory))
 
+    -- and took as many items
+    spends_moved : (x y : Option Given) → IsAs x y → (n : ℕ) → Takes x v.listings_left n w.listings_left
+        → Takes y outer.listings_left n new.listings_left
+    spends_moved x y s n t =
+        let L : ℕ → Type 0 = λ k. Takes y k n w.listings_left in
+        let M : ℕ → Type 0 = λ k. Takes y outer.listings_left n k in
+        subst M (sym a.listings_left)
+        (subst L (sym b.listings_left) (s.takes v.listings_left n w.listings_left t))
+
     pub step_ends : (f : FeedStep law v None w) → new.may_open ≡ outer.may_open → new.to_open ≡ 0
         → ((path : List ℕ) (depth : ℕ) → new.may_fail_below path depth → w.may_fail_below path depth)
         → ((p : Pending Given) → outer.to_come p → GivesOrStops outer p None new)
@@ -329,6 +339,7 @@ module _ {D C : Type 0} (law : Law D C) where
       gives = gives;
       calls = f.calls;
       answered = answered_moved f.calls f.answered;
+      spends = spends_moved None None (same_as None) (items_listed (answers f.calls)) f.spends;
       begins = begins;
       follows = follows;
       accounts = accounts_moved v w outer new None None (same_as None) f.accounts b a
@@ -364,6 +375,8 @@ module _ {D C : Type 0} (law : Law D C) where
           gives = gives;
           calls = f.calls;
           answered = answered_moved f.calls f.answered;
+          spends = spends_moved (Some x) (Some y) (subst A (sym e) (marked_as x m))
+              (items_listed (answers f.calls)) f.spends;
           begins = begins;
           follows = follows;
           accounts =

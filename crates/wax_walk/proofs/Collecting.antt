@@ -19,7 +19,7 @@ use Rattle.wax_walk.specs.declared.error.WalkError.TheVariants.{Fault, Memory}
 use Rattle.wax_walk.specs.declared.error.FaultKind.TheVariants.{NotAFolder, Budget}
 use Rattle.wax_walk.specs.Collected.{IsCutShort, Yielded, whole, Took, all_fault_counts, NoneLast}
 use Rattle.wax_walk.specs.Collected.{count_to_open}
-use Rattle.wax_walk.specs.Collected.{AreOfFolders, HasFolder, all_items_lost, NoMemoryError}
+use Rattle.wax_walk.specs.Collected.{AreOfFolders, HasFolder, SpendsWithin, all_items_lost, NoMemoryError}
 use Rattle.wax_walk.specs.Collected as all
 use Rattle.wax_walk.specs.Entries.{given_of, given_outcome, given_residue}
 use Rattle.wax_walk.specs.Forest.{Forest, nothing, item, lists, followed_by, Pending, pending, all_pending}
@@ -31,7 +31,10 @@ use Rattle.wax_walk.specs.View.{CountsFaults, fault_counts, IsLast, IsMisplaced,
 use Rattle.wax_walk.specs.View.{IsErrorAt, IsFolderAt, MayFail, Places, items_lost, opens_one}
 use Rattle.wax_walk.specs.View.{IsMemoryError}
 use Rattle.wax_walk.specs.Course.{DirectoryCall, answers}
+use Rattle.wax_walk.specs.Opened.{items_listed}
+use Rattle.wax_directory.specs.History.{Answer}
 use Rattle.wax_walk.proofs.Taking.{TakingCourse, answered_more, course_end, course_more, course_none}
+use Rattle.wax_walk.proofs.Taking.{listed_more}
 use Rattle.wax_walk.proofs.Accounting.{takes_within, takes_exactly, counts_faults_then, counts_then_none}
 use Rattle.wax_walk.proofs.Accounting.{counts_nothing, grown_then}
 
@@ -273,6 +276,11 @@ module _ {D C : Type 0} (law : Law D C) where
     pub calls : List DirectoryCall
     pub answered : law.answered now.directory ≡ law.answered walk.directory ++ answers calls
     pub course : TakingCourse walk now calls xs
+    pub listed_within : items_listed (answers calls) + now.listings_left ≤ walk.listings_left
+    pub listed_exactly : ¬ now.has_ended
+        → items_listed (answers calls) + now.listings_left ≡ walk.listings_left
+    pub listed_spent : (path : List ℕ) (depth : ℕ) → Contains xs (fault Budget path depth)
+        → items_listed (answers calls) ≡ walk.listings_left
     pub few : length xs + less ≤ most
     pub counts : CountsFaults (all_fault_counts xs) (all_items_lost xs) (law.tally walk.directory)
         (law.tally now.directory)
@@ -348,6 +356,9 @@ module _ {D C : Type 0} (law : Law D C) where
         let a = f.accounts in
         let n : mid.has_ended → ⊥ = λ i. let s : Some x ≡ None = (f.stays i).0 in cc in
         let e = h.exactly n in
+        let k = items_listed (answers f.calls) in
+        let listed = listed_more h.calls f.calls in
+        let all = h.listed_exactly n in
         let lost = all_items_lost xs + items_lost (Some x) in
         let P : Tally → Type 0 =
         λ c. CountsFaults c lost (law.tally walk.directory) (law.tally new.directory) in
@@ -361,6 +372,18 @@ module _ {D C : Type 0} (law : Law D C) where
           answered = answered_more law.answered walk.directory mid.directory new.directory h.calls f.calls
               h.answered f.answered;
           course = course_more walk mid new h.calls f.calls xs x n f.begins f.follows h.course;
+          listed_within =
+              let most = takes_within (Some x) mid.listings_left k new.listings_left f.spends in
+              omega (arith, listed, all, most);
+          listed_exactly = λ m. omega (
+            arith,
+            listed,
+            taken_exactly (items_listed (answers h.calls)) k x all f.spends (λ i. m (a.ends i)),
+          );
+          listed_spent = λ path depth c.
+              listed
+              ∙ taken_all (items_listed (answers h.calls)) k x path depth all f.spends
+              (h.listed_spent path depth) c;
           few = let long = length-append xs (x ∷ []) in omega (arith, h.few, l, long);
           counts = subst Q (sym (lost_more xs x))
               (subst P (sym (faults_more xs x)) (counts_faults_then _ _ _ _ _ _ _ h.counts a.counts));
@@ -407,6 +430,29 @@ module _ {D C : Type 0} (law : Law D C) where
           above = f.above ∙ h.above;
         }
 
+    -- the answers are those of all calls, or the last call had none
+    spends_end : (h : Taking walk mid most less xs) (f : FeedStep law mid None new) (told : List Answer)
+        → (told ≡ answers (h.calls ++ f.calls)) ⊎ (told ≡ answers h.calls)
+        → SpendsWithin walk.listings_left told xs
+    spends_end h f told same =
+        let j = items_listed (answers h.calls) in
+        let k = items_listed (answers f.calls) in
+        let left : k + new.listings_left ≡ mid.listings_left = f.spends in
+        let n = items_listed told in
+        let between : (j ≤ n) × (n ≤ j + k) = elim same [
+          | inl e ↦
+              let i = ap items_listed e in
+              let l = listed_more h.calls f.calls in (omega (arith, i, l), omega (arith, i, l))
+          | inr e ↦ let i = ap items_listed e in (omega (arith, i), omega (arith, i))
+        ] in
+        record {
+          within = omega (arith, between.1, left, h.listed_within);
+          spent = λ path depth c.
+              omega (arith, between.0, between.1, h.listed_spent path depth c, h.listed_within, left);
+          going = λ m i.
+              omega (arith, between.1, left, h.listed_within, f.accounts.going (λ l. l) (h.going m i));
+        }
+
     pub taking_end : Taking walk mid most less xs → FeedStep law mid None new
         → ((q : Pending Given) → new.to_come q → law.tells new.directory q.listed)
         → Took law walk new.directory xs
@@ -421,6 +467,7 @@ module _ {D C : Type 0} (law : Law D C) where
           told = told.0;
           answered = told.1;
           course = told.2;
+          spends = spends_end h f told.0 told.3;
           counts = counts_then_none _ _ _ _ _ h.counts a.counts;
           passed = h.passed + a.passed;
           passes = λ e. omega (arith, h.passes e, a.passes (h.from ∙ e));
@@ -452,6 +499,9 @@ module _ {D C : Type 0} (law : Law D C) where
     calls = [];
     answered = sym (append-nil (law.answered walk.directory));
     course = course_none walk;
+    listed_within = omega arith;
+    listed_exactly = λ e. omega arith;
+    listed_spent = λ path depth c. absurd (contains_none (fault Budget path depth) c);
     few = omega arith;
     counts = counts_nothing (law.tally walk.directory);
     taken = 0;

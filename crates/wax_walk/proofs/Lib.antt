@@ -2,6 +2,7 @@ pub mod Filtering
 pub mod Courses
 pub mod Following
 pub mod Filtered
+pub mod TakenAs
 pub mod Taking
 pub mod Accounting
 pub mod Collecting

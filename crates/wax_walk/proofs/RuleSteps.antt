@@ -1,11 +1,13 @@
 -- Steps of a filter by a rule.
-use Rattle.std.proofs.Common.{◌≡◌, ◌∙◌, Bool, true, false, [], refl, sym, ap, subst, inl, inr, cond, arith}
+use Rattle.std.proofs.Common.{◌≡◌, ◌∙◌, ◌+◌, Bool, true, false, [], refl, sym, ap, subst, inl, inr, cond}
+use Rattle.std.proofs.Common.{arith}
 use Rattle.std.specs.Prelude.{Some, None}
 use Rattle.std.proofs.lemmas.List.{append-nil}
 use Rattle.wax_directory.specs.Law.{Law}
 use Rattle.wax_walk.specs.Candidates.{Candidate, of_candidate}
-use Rattle.wax_walk.specs.Course.{Ahead, AheadFiltered, ahead, stop, unknown}
+use Rattle.wax_walk.specs.Course.{Ahead, AheadFiltered, ahead, answers, stop, unknown}
 use Rattle.wax_walk.specs.Forest.{cancelled}
+use Rattle.wax_walk.specs.Opened.{items_listed}
 use Rattle.wax_directory.specs.declared.tally.Tally.{Tally}
 use Rattle.wax_walk.specs.Given.{Given, Mark, entry, fault, no_memory, mark_by, with_mark, is_cut, is_entry}
 use Rattle.wax_walk.specs.Ruled.{AheadRuled, IsMarkBy, ruled_view}
@@ -147,6 +149,7 @@ module _ {D C : Type 0} (law : Law D C) (rule : Candidate → Mark) where
     gives = λ p h. lacks_memory refl;
     calls = f.calls;
     answered = f.answered;
+    spends = takes_within (Some x) v.listings_left (items_listed (answers f.calls)) w.listings_left f.spends;
     begins =
         begins_filtered v w (ruled_view v rule b) (ruled_view w later true) _ (IsMarkBy (of_candidate rule))
         (outside v b e) f.calls f.begins;
@@ -200,6 +203,7 @@ module _ {D C : Type 0} (law : Law D C) (rule : Candidate → Mark) where
         gives = λ p h. absurd (let t : true ≡ false = h.0 in (cc));
         calls = [];
         answered = sym (append-nil (law.answered v.directory));
+        spends = let e : 0 + v.listings_left ≡ v.listings_left = omega arith in e;
         begins = (ahead stop unknown, (refl, tt), refl);
         follows = ended_so refl (ahead stop stop, (refl, refl), refl);
         accounts = accounts_nothing law (ruled_view v rule true);

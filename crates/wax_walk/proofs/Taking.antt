@@ -1,6 +1,7 @@
 -- The course of what a loop has taken of a walk.
-use Rattle.std.proofs.Common.{◌≡◌, ◌∙◌, List, [], ◌∷◌, ◌++◌, append_assoc, refl, sym, ap, subst}
-use Rattle.std.specs.Prelude.{Some, None}
+use Rattle.std.proofs.Common.{◌≡◌, ◌∙◌, List, [], ◌∷◌, ◌++◌, append_assoc, refl, sym, ap, subst, inl, inr}
+use Rattle.std.proofs.Common.{◌+◌, arith}
+use Rattle.std.specs.Prelude.{◌⊎◌, Some, None}
 use Rattle.std.proofs.lemmas.List.{append-nil, map-append}
 use Rattle.wax_directory.specs.History.{Answer}
 use Rattle.wax_walk.specs.declared.error.FaultKind.TheVariants as F
@@ -9,15 +10,9 @@ use Rattle.wax_walk.specs.Course.{Ahead, IsStartOf, DirectoryCall, Course, CutsS
 use Rattle.wax_walk.specs.Course.{IsKnownWhole, all_ahead}
 use Rattle.wax_walk.specs.Course.{answers, asking, calls_of, items_of, stop, unknown, yields}
 use Rattle.wax_walk.specs.Given.{Given, entry, fault, no_memory}
-use Rattle.wax_walk.specs.View.{WalkView, Follows, IsSeenAs, MayTake, went_on, ended_so, was_cut}
+use Rattle.wax_walk.specs.Opened.{item_by, items_listed}
+use Rattle.wax_walk.specs.View.{WalkView, Follows, MayTake, went_on, ended_so, was_cut}
 use Rattle.wax_walk.proofs.Courses.{calls_asking, first_asking, items_asking, known_parts, whole_asking}
-
--- a course that a walk took, by a view that this one implies
-pub course_seen : {D : Type 0} (this that : WalkView D) (told : List Answer) (xs : List Given)
-    → IsSeenAs this that → TookCourse that told xs → TookCourse this told xs
-course_seen this that told xs seen (whole c t w e f) = whole c (t.0, seen.may_come t.0 t.1, t.2) w e f
-course_seen this that told xs seen (cut_short c x t first e f s) =
-    cut_short c x (t.0, seen.may_come t.0 t.1, t.2) first e f s
 
 -- a course of the walk that goes on as c after these calls and items
 pub record GoesOnAs {D : Type 0} (walk : WalkView D) (calls : List DirectoryCall) (xs : List Given)
@@ -55,6 +50,18 @@ pub answered_more : {D : Type 0} (answered : D → List Answer) (walk mid new : 
 answered_more answered walk mid new before calls h i =
     i ∙ (ap (λ z. z ++ answers calls) h ∙ (append_assoc (answered walk) (answers before) (answers calls)
     ∙ ap (λ z. answered walk ++ z) (sym (map-append (λ q. q.answer) before calls))))
+
+-- the items that two lists of calls returned
+pub listed_more : (calls more : List DirectoryCall)
+    → items_listed (answers (calls ++ more)) ≡ items_listed (answers calls) + items_listed (answers more)
+listed_more [] more = omega arith
+listed_more (q ∷ calls) more =
+    let e = listed_more calls more in
+    let all : items_listed (answers ((q ∷ calls) ++ more))
+    ≡ item_by q.answer + items_listed (answers (calls ++ more)) = refl in
+    let first : items_listed (answers (q ∷ calls))
+    ≡ item_by q.answer + items_listed (answers calls) = refl in
+    omega (arith, e, all, first)
 
 -- calls that went before
 pub cuts_later : (before calls : List DirectoryCall) (x : Given) → CutsShort calls x
@@ -123,7 +130,7 @@ module _ {D : Type 0} (walk mid new : WalkView D) (before calls : List Directory
       → (mid.is_idle → new.directory ≡ mid.directory) → Follows mid calls None new
       → TakingCourse walk mid before xs
       → (told : List Answer) × (answered new.directory ≡ answered walk.directory ++ told)
-      × TookCourse walk told xs
+      × TookCourse walk told xs × ((told ≡ answers (before ++ calls)) ⊎ (told ≡ answers before))
   course_end answered h i idle (went_on z e k) (going g) = absurd (let j : None ≡ Some z = e in (cc))
   course_end answered h i idle (ended_so e t) (going g) =
       let r = after_calls stop (g (asking calls stop) t) in (
@@ -132,6 +139,7 @@ module _ {D : Type 0} (walk mid new : WalkView D) (before calls : List Directory
         whole r.course r.takes (r.whole tt)
             (ap answers (sym (r.calls_are ∙ append-nil (before ++ calls))))
             (sym (r.items_are ∙ append-nil xs)),
+        inl refl,
       )
   course_end answered h i idle (was_cut z e s ended idle') (going g) =
       absurd (let j : None ≡ Some z = e in (cc))
@@ -139,4 +147,5 @@ module _ {D : Type 0} (walk mid new : WalkView D) (before calls : List Directory
     answers before,
     ap answered (idle still) ∙ h,
     cut_short c x t l (ap answers j) k (subst (λ z. CutsShort z x) j s),
+    inr refl,
   )

@@ -1,7 +1,6 @@
 -- The entries that are kept are those of the whole walk that the filters want.
-use Rattle.std.proofs.Common.{◌≡◌, Bool, true, false, cond, List, [], ◌∷◌, ◌++◌, refl, sym, ap, ◌∙◌}
+use Rattle.std.proofs.Common.{◌≡◌, Bool, cond, []}
 use Rattle.std.specs.Prelude.{filter}
-use Rattle.std.proofs.lemmas.List.Elements.{filter-append}
 use Rattle.wax_walk.specs.Forest.{Forest, nothing, preorder, filtered}
 
 -- nothing that lies below is wanted

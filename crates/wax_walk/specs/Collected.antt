@@ -9,6 +9,7 @@ use Rattle.wax_walk.specs.declared.error.FaultKind.TheVariants.{NotAFolder, Budg
 use Rattle.wax_walk.specs.Course.{Course, CutsShort, IsKnownFirst, IsKnownWhole, answers, calls_of, items_of}
 use Rattle.wax_walk.specs.Forest.{Pending, all_pending, preorder, listings}
 use Rattle.wax_walk.specs.Given.{Facts, Given, fault, no_memory}
+use Rattle.wax_walk.specs.Opened.{items_listed}
 use Rattle.wax_walk.specs.View.{WalkView, CountsFaults, IsLast, IsErrorAt, IsFolderAt, MayFail, fault_counts}
 use Rattle.wax_walk.specs.View.{is_to_open, items_lost, IsMemoryError, MayTake}
 
@@ -78,12 +79,21 @@ pub data TookCourse {D : Type 0} (walk : WalkView D) (told : List Answer) (xs : 
   cut_short : (c : Course) (x : Given) → MayTake walk c → IsKnownFirst c → told ≡ answers (calls_of c)
       → xs ≡ items_of c ++ x ∷ [] → CutsShort (calls_of c) x → TookCourse walk told xs
 
+-- among these answers are at most as many items of folders as were allowed: all of these if the budget is
+-- reached, and fewer if no item ended the walk
+pub record SpendsWithin (allowed : ℕ) (told : List Answer) (xs : List Given) : Type 0 where
+  pub within : items_listed told ≤ allowed
+  pub spent : (path : List ℕ) (depth : ℕ) → Contains xs (fault Budget path depth)
+      → items_listed told ≡ allowed
+  pub going : NoneLast xs → 0 < allowed → items_listed told < allowed
+
 -- a walk yielded these items to its end, and left the directory as `new`, unchanged if the walk was idle
 pub record Took {D C : Type 0} (law : Law D C) (walk : WalkView D) (new : D) (xs : List Given) : Type 0 where
   pub all : (p : Pending Given) → walk.to_come p → Yielded (law.tells new) walk.listings_left p xs
   pub told : List Answer
   pub answered : law.answered new ≡ law.answered walk.directory ++ told
   pub course : TookCourse walk told xs
+  pub spends : SpendsWithin walk.listings_left told xs
   pub counts : CountsFaults (all_fault_counts xs) (all_items_lost xs) (law.tally walk.directory)
       (law.tally new)
   pub taken : ℕ

@@ -13,6 +13,7 @@ use Rattle.wax_walk.specs.Course.{all_ahead}
 use Rattle.wax_walk.specs.Course.{answers, asking, stop, unknown, yields}
 use Rattle.wax_walk.specs.Forest.{Pending, all_pending, cancelled, FirstIs, IsListed}
 use Rattle.wax_walk.specs.Given.{Facts, Given, entry, fault, no_memory, kept, alone, with_tree}
+use Rattle.wax_walk.specs.Opened.{items_listed}
 
 -- what is to come; what may be ahead, by what the directory will answer; the directory; at most how many more
 -- items may be taken from listings; how many names are left to follow to where the walk begins; 1 if the
@@ -211,6 +212,7 @@ module _ {D : Type 0} where
     pub gives : (p : Pending Given) → old.to_come p → GivesOrStops old p r new
     pub calls : List DirectoryCall
     pub answered : law.answered new.directory ≡ law.answered old.directory ++ answers calls
+    pub spends : Takes r old.listings_left (items_listed (answers calls)) new.listings_left
     pub begins : MayTake old (asking calls unknown)
     pub follows : Follows old calls r new
     pub accounts : Accounts law old r new

@@ -224,18 +224,19 @@ fn walk_in<'g, 't, D: Directory>(
 }
 
 impl<'t> Glob<'t> {
-    ghost use Rattle.std.specs.Prelude.{All, filter};
+    ghost use Rattle.std.specs.Prelude.{◌⊎◌, ◌∷◌, [], All, filter};
     ghost use Rattle.wax_exclude.specs.GlobRequests.{AreRulesOf, KeepsWanted};
     ghost use Rattle.wax_exclude.specs.Premises.{IsUnmeant};
     ghost use Rattle.wax_directory.specs.Shown.{Shown};
     ghost use Rattle.wax_token.specs.Reads.{Span};
     ghost use Rattle.wax_tree.specs.Prefix.{ArePlain};
     ghost use Rattle.wax_walk.specs.Entries.{given_outcome};
-    ghost use Rattle.wax_walk.specs.Given.{Given, is_kept};
+    ghost use Rattle.wax_walk.specs.Given.{Given, is_kept, no_memory};
     ghost use Rattle.wax_walk.specs.Known.{KnownOutcome};
     ghost use Rattle.wax_exclude.specs.Told.{KeepsAnswered};
     ghost use Rattle.wax_exclude.specs.Wanted.{Filter};
-    ghost use Rattle.wax.specs.GlobWalks.{Beginning, FailsAtFolders, GaveWithin, KeepsNothing};
+    ghost use Rattle.wax.specs.GlobWalks.{Beginning, FailsAtFolders, GaveWithin, HasBrokenPrefix};
+    ghost use Rattle.wax.specs.GlobWalks.{KeepsNothing};
     ghost use Rattle.wax.specs.GlobWalks.{LeadsNowhere, request_of};
 
     /// Collects the walk of the glob from `start` without what the rules exclude: returns what is
@@ -283,6 +284,9 @@ impl<'t> Glob<'t> {
             × FailsAtFolders self.now.tree start.now (behavior_range behavior) xs
             × (map (given_outcome ⟦<GlobEntry as Entry>⟧.facts ⟦<TreeEntry as Entry>⟧.facts) r.0.items
             ≡ filter is_kept xs)) }
+        ensures begins { IfOk result (λ r. Beginning self.now.tree ⊎ (HasBrokenPrefix self.now.tree
+            ⊎ (map (given_outcome ⟦<GlobEntry as Entry>⟧.facts ⟦<TreeEntry as Entry>⟧.facts) r.0.items
+            ≡ no_memory ∷ []))) }
         ensures unmeant { IfOk result (λ r. (taken : ℕ) (prefix : List ℕ) (path : List ℕ) (s : Shown)
             (listed : List (List ℕ)) → Prefix self.now.tree taken prefix → HasEmptyName prefix
             → D.law.shows directory path s → D.law.tells directory listed

@@ -1,4 +1,4 @@
-use Rattle.std.proofs.Common.{[], map, refl, subst, ◌∙◌, inr, arith}
+use Rattle.std.proofs.Common.{[], ap, filter, map, refl, subst, ◌∙◌, inl, inr, arith}
 use Rattle.wax_exclude.proofs.Telling.{answered_before}
 use Rattle.wax_exclude.specs.GlobRequests.{goes}
 use Rattle.wax_tree.specs.Programs.{any_mark}
@@ -7,9 +7,10 @@ use Rattle.wax_walk.proofs.Collecting.{map_ok}
 use Rattle.wax_walk.proofs.Knowing.{all_before}
 use Rattle.wax_walk.specs.Collected.{Yielded}
 use Rattle.wax_walk.specs.Forest.{nothing, pending}
+use Rattle.wax_walk.specs.Given.{is_kept}
 use Rattle.wax_exclude.specs.Pruned.{by_components}
 use Rattle.wax.specs.GlobWalks.{request_of}
-use Rattle.wax.proofs.Kept.{fails_at_folders, gave_within, keeps_nothing}
+use Rattle.wax.proofs.Kept.{fails_at_folders, gave_within, keeps_nothing, memory_only}
 use Rattle.wax.proofs.glob.Glob.collect_excluding.Goals as goal
 
 pub returns-clause-took : goal.returns-clause-took
@@ -26,6 +27,18 @@ returns-clause-took g c =
           (behavior_range c.args.behavior) _ rule r.1 k.0 h k.1,
       k.3,
     ))
+    c.collect_excluding.result c.collect_excluding.ensures.took
+
+pub returns-clause-begins : goal.returns-clause-begins
+returns-clause-begins g c =
+    let rule = any_mark (map g.R.Exclude.rule c.args.rules.items) in
+    map_ok (λ r k. elim c.walk_in-walk.ensures.begins.begins [
+      | inl b ↦ inl b
+      | inr e ↦ elim e [
+        | inl broken ↦ inr (inl broken)
+        | inr lacks ↦ inr (inr (k.3 ∙ ap (filter is_kept) (memory_only _ rule r.1 k.0 lacks k.1)))
+      ]
+    ])
     c.collect_excluding.result c.collect_excluding.ensures.took
 
 pub returns-clause-unmeant : goal.returns-clause-unmeant

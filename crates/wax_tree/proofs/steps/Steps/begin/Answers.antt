@@ -4,10 +4,11 @@ use Rattle.wax_directory.specs.declared.directory.DirectoryFault.TheVariants as 
 use Rattle.wax_directory.specs.Counting.{kind_counts}
 use Rattle.wax_walk.specs.declared.error.FaultKind.TheVariants.{NotFound, Listing}
 use Rattle.wax_walk.specs.declared.error.WalkError.TheVariants.{Fault}
-use Rattle.wax_walk.specs.Given.{fault}
+use Rattle.wax_walk.specs.Given.{fault, no_memory}
 use Rattle.wax_walk.specs.View.{IsLast}
 use Rattle.wax_tree.specs.Prefix.{from_last}
 use Rattle.wax_tree.specs.Walking.{scope_of, located, cursors_of, begins, names_left, open_lists}
+use Rattle.wax_tree.specs.Walking.{step_given}
 use Rattle.wax_tree.proofs.Showing.{has_kind, begins_missing, begins_failing}
 use Rattle.wax_tree.proofs.Resting.{rest_moved, comes_rest}
 use Rattle.wax_tree.proofs.UsingAnswers.{counted_same, answer_used, failed_uses_answer, gives_uses_answer}
@@ -16,7 +17,8 @@ use Rattle.wax_tree.proofs.UsingAnswers.{step_from}
 use Rattle.wax_tree.proofs.Stepping.{gives_fault}
 use Rattle.wax_tree.specs.Reaching.{OfAny, OnWay, ReachesFrom, no_folders}
 use Rattle.wax_tree.proofs.Reaching.{fault_places, leads_here, reaches_more, stopped_places, way_here}
-use Rattle.wax_tree.proofs.Coursing.{fault_uses, memory_uses, stopped_uses, uses_more, some_along}
+use Rattle.wax_tree.proofs.Coursing.{ends_spends, fault_uses, memory_uses, nothing_spent, stopped_uses}
+use Rattle.wax_tree.proofs.Coursing.{some_along, uses_more}
 use Rattle.std.proofs.Common.{[], ◌∷◌, ◌∙◌, ◌++◌}
 use Rattle.wax_directory.specs.History.{absent, found, unseen}
 use Rattle.wax_walk.specs.Course.{asking, call}
@@ -170,6 +172,7 @@ returns-in-Ok-Some-clause-course g c going first entered =
       answered = ap g.D.Directory.law.answered (c.follow.ensures.uses_answer going first).directory
           ∙ (o.answered ∙ ap (λ p. g.D.Directory.law.answered w.directory ++ found p c.in-Ok-Some.kind ∷ [])
           c.as_str.ensures);
+      spends = (c.follow.ensures.uses_answer going first).takes;
       uses = uses_more calls _ _ c.follow.result c.follow.new.self
           (λ d h. (h.0, h.1, is_there c.in-Ok-Some.kind d h.2 refl))
           (c.follow.ensures.course going first entered);
@@ -184,6 +187,8 @@ returns-in-Ok-None-clause-course g c going first entered =
       calls = calls;
       answered = ap (λ v. g.D.Directory.law.answered v.directory) c.stop.ensures.ended
           ∙ (o.answered ∙ ap (λ p. g.D.Directory.law.answered w.directory ++ absent p ∷ []) c.as_str.ensures);
+      spends = ends_spends w c.stop.new.self c.stop.result (fault NotFound path c.args.place.at.depth) 0
+          c.stop.ensures.gives (ap (λ v. v.has_ended) c.stop.ensures.ended) (omega arith);
       uses = let l = some_along w c.args.place in stopped_uses calls _ c.stop.result c.stop.new.self
           (fault NotFound path c.args.place.at.depth) c.stop.ensures.gives
           (ap (λ v. v.has_ended) c.stop.ensures.ended) (l.1.0, l.1.1, is_missing refl);
@@ -199,6 +204,7 @@ returns-in-Err-Failed-clause-course g c going first entered =
       calls = calls;
       answered =
           o.answered ∙ ap (λ p. g.D.Directory.law.answered w.directory ++ unseen p ∷ []) c.as_str.ensures;
+      spends = nothing_spent w;
       uses = fault_uses calls
           (λ rest d.
           AlongComes (scope_of w) (from_last c.args.place.names.items) (located c.args.place.at) rest
@@ -214,6 +220,8 @@ returns-in-Err-Memory-clause-course g c going first entered =
     let o = rw (c.as_str.ensures, c.in-Err-Memory.field-0-is) at c.in-Err-Memory.ensures in record {
       calls = [];
       answered = ap (λ v. g.D.Directory.law.answered v.directory) c.fail.ensures.ended ∙ o.answered;
+      spends = ends_spends w c.fail.new.self c.fail.result no_memory 0 (ap step_given c.fail.ensures.memory)
+          (ap (λ v. v.has_ended) c.fail.ensures.ended) (omega arith);
       uses = memory_uses [] _ c.fail.result c.fail.new.self (some_along w c.args.place) c.fail.ensures.memory
           (ap (λ v. v.has_ended) c.fail.ensures.ended);
     }

@@ -2,7 +2,7 @@ use Rattle.std.specs.Prelude.{Some}
 use Rattle.std.proofs.Common.{subst, refl, sym, ap, inl, Err, ◌++◌, ◌∷◌, []}
 use Rattle.wax_walk.specs.declared.error.FaultKind.TheVariants.{Listing}
 use Rattle.wax_walk.specs.declared.error.WalkError.TheVariants.{Fault, Memory}
-use Rattle.wax_walk.specs.Given.{fault}
+use Rattle.wax_walk.specs.Given.{fault, no_memory}
 use Rattle.wax_walk.specs.View.{lacks_memory}
 use Rattle.wax_tree.specs.Walking.{cursors_of, located}
 use Rattle.wax_tree.proofs.Resting.{rest_moved, listed_more}
@@ -10,7 +10,8 @@ use Rattle.wax_tree.proofs.Stepping.{enters, enters_sealed}
 use Rattle.wax_tree.specs.Reaching.{IsOf, OfAny, ReachesFrom, no_folders}
 use Rattle.wax_tree.proofs.Reaching.{failed_places, fault_places, leads_here, pushed_reaches, reaches_more}
 use Rattle.wax_tree.proofs.Reaching.{silent_places}
-use Rattle.wax_tree.proofs.Coursing.{fault_uses, memory_uses, opened_uses, some_folder, some_opened}
+use Rattle.wax_tree.proofs.Coursing.{ends_spends, fault_uses, memory_uses, nothing_spent, opened_uses}
+use Rattle.wax_tree.proofs.Coursing.{some_folder, some_opened}
 use Rattle.wax_directory.specs.History.{opened, refused}
 use Rattle.wax_walk.specs.Course.{asking, asks, call, stop, yields}
 use Rattle.wax_directory.specs.Shown.{a_sealed}
@@ -18,11 +19,11 @@ use Rattle.wax_tree.specs.Stepping.{FolderComes}
 use Rattle.wax_tree.specs.Walking.{scope_of}
 use Rattle.wax_tree.proofs.steps.Steps.enter.Goals as goal
 use Rattle.wax_tree.proofs.steps.Steps.enter.Goals.{in-Ok-push, in-Err}
-use Rattle.std.proofs.Common.{◌≡◌, ◌+◌, ◌∙◌, arith, cond, length, length-append, true}
+use Rattle.std.proofs.Common.{◌≡◌, ◌+◌, ◌≤◌, ◌∙◌, arith, cond, length, length-append, true}
 use Rattle.wax_directory.specs.Counting.{no_counts}
 use Rattle.wax_tree.specs.Stepping.{Asked}
 use Rattle.wax_tree.specs.declared.steps.Step.TheVariants.{GoesOn, Gives}
-use Rattle.wax_tree.specs.Walking.{begins, names_left, open_lists}
+use Rattle.wax_tree.specs.Walking.{allowance, begins, names_left, open_lists, step_given}
 use Rattle.wax_tree.proofs.UsingAnswers.{answer_used, counted_same, failed_uses_answer, failure_counted}
 use Rattle.wax_tree.proofs.UsingAnswers.{gives_uses_answer, memory_uses_answer, opening_counted, opening_lost}
 use Rattle.wax_tree.proofs.UsingAnswers.{none_enters, silent_uses_answer}
@@ -172,6 +173,7 @@ returns-after-push-clause-course g c going first entered =
       | in-Ok-push v ↦ rw (v.self-is, v.result-is) (record {
         calls = calls;
         answered = answered;
+        spends = nothing_spent w;
         uses = opened_uses w (record w { directory = d; levels = c.push.new.self })
             (record { folder = c.args.folder; cursor = c.in-Ok.cursor }) v.in-Ok-push.ensures.items refl going
             first entered;
@@ -179,6 +181,7 @@ returns-after-push-clause-course g c going first entered =
       | in-Err v ↦ rw (v.self-is, v.result-is, v.fail.ensures.memory, v.fail.ensures.ended) (record {
         calls = calls;
         answered = answered;
+        spends = let t : 0 + 0 ≤ allowance w = omega arith in t;
         uses = memory_uses calls _ (Gives (Err Memory)) _ (some_opened w c.args.folder) refl refl;
       })
     ]
@@ -193,6 +196,7 @@ returns-in-Err-Failed-clause-course g c going first entered =
     let calls = call path (refused path) ∷ [] in record {
       calls = calls;
       answered = o.answered ∙ ap (λ p. law.answered w.directory ++ refused p ∷ []) c.as_str.ensures;
+      spends = nothing_spent w;
       uses = fault_uses calls
           (λ rest d. FolderComes (scope_of w) (located c.args.folder) rest (asking calls d)) v v _
           (fault Listing path c.saturating_sub-depth.result)
@@ -215,6 +219,9 @@ returns-in-Err-Memory-clause-course g c going first entered =
       calls = [];
       answered =
           ap (λ v. g.D.Directory.law.answered v.directory) c.fail-in-Err-Memory.ensures.ended ∙ o.answered;
+      spends = ends_spends w c.fail-in-Err-Memory.new.self c.fail-in-Err-Memory.result no_memory 0
+          (ap step_given c.fail-in-Err-Memory.ensures.memory)
+          (ap (λ v. v.has_ended) c.fail-in-Err-Memory.ensures.ended) (omega arith);
       uses = memory_uses [] _ c.fail-in-Err-Memory.result c.fail-in-Err-Memory.new.self
           (some_folder w c.args.folder)
           c.fail-in-Err-Memory.ensures.memory (ap (λ v. v.has_ended) c.fail-in-Err-Memory.ensures.ended);

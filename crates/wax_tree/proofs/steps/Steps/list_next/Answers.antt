@@ -5,7 +5,9 @@ use Rattle.wax_tree.proofs.Resting.{rest_moved}
 use Rattle.wax_tree.proofs.UsingAnswers.{step_from}
 use Rattle.wax_tree.proofs.Showing.{shows_in_moved, shows_rest}
 use Rattle.wax_tree.proofs.Stepping.{goes_up}
-use Rattle.wax_tree.proofs.Coursing.{closed_uses, item_taken, memory_uses, some_rest, uses_moved}
+use Rattle.wax_tree.proofs.Coursing.{closed_uses, ends_spends, item_taken, memory_uses, nothing_spent}
+use Rattle.wax_tree.proofs.Coursing.{some_rest, uses_moved}
+use Rattle.wax_walk.specs.Given.{no_memory}
 use Rattle.std.proofs.Common.{ap, ◌∙◌, [], ◌∷◌}
 use Rattle.wax_directory.specs.Answers.{listed_of}
 use Rattle.wax_directory.specs.History.{at_end, listed}
@@ -15,7 +17,7 @@ use Rattle.wax_tree.proofs.steps.Steps.list_next.Goals as goal
 use Rattle.std.proofs.Common.{◌+◌}
 use Rattle.wax_directory.specs.Counting.{end_counts, item_counts, no_counts}
 use Rattle.wax_tree.specs.declared.steps.Step.TheVariants.{GoesOn}
-use Rattle.wax_tree.specs.Walking.{begins, names_left, open_lists}
+use Rattle.wax_tree.specs.Walking.{begins, names_left, open_lists, step_given}
 use Rattle.wax_tree.proofs.Finding.{one_item}
 use Rattle.wax_tree.proofs.UsingAnswers.{answer_used, counted_same, ending_counted, failed_uses_answer}
 use Rattle.wax_tree.proofs.UsingAnswers.{none_enters, silent_uses_answer}
@@ -98,6 +100,8 @@ returns-in-Err-clause-course g c going first entered =
       calls = [];
       answered = ap (λ v. g.D.Directory.law.answered v.directory) c.fail.ensures.ended
           ∙ c.in-Err.ensures.answered;
+      spends = ends_spends w c.fail.new.self c.fail.result no_memory 0 (ap step_given c.fail.ensures.memory)
+          (ap (λ v. v.has_ended) c.fail.ensures.ended) (omega arith);
       uses = memory_uses [] _ c.fail.result c.fail.new.self (some_rest w c.args.level.folder)
           c.fail.ensures.memory
           (ap (λ v. v.has_ended) c.fail.ensures.ended);
@@ -110,6 +114,7 @@ returns-in-Ok-None-clause-course g c going first entered =
     let o = rw c.in-Ok-None.field-0-is at c.in-Ok-None.ensures in record {
       calls = call path at_end ∷ [];
       answered = o.answered;
+      spends = nothing_spent w;
       uses =
           closed_uses w (record w { directory = c.next.new.self }) c.args.level.folder refl refl going first
           entered;
@@ -125,6 +130,7 @@ returns-in-Ok-Some-clause-course g c going first entered =
       calls = calls;
       answered =
           ap g.D.Directory.law.answered (c.take_from.ensures.uses_answer going first).directory ∙ o.answered;
+      spends = (c.take_from.ensures.uses_answer going first).takes;
       uses = uses_moved calls _ _ c.take_from.result c.take_from.new.self (λ d h. (
         h.0,
         h.1,

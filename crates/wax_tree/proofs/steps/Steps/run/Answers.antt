@@ -8,7 +8,7 @@ use Rattle.wax_tree.specs.Walking.{step_given, entering}
 use Rattle.wax_walk.specs.View.{opens_one, is_above}
 use Rattle.std.proofs.Common.{◌++◌}
 use Rattle.wax_tree.proofs.CourseRuns.{course_begun, course_on, run_answered, run_begins, run_follows}
-use Rattle.wax_tree.proofs.CourseRuns.{run_stops}
+use Rattle.wax_tree.proofs.CourseRuns.{run_spends, run_stops}
 use Rattle.wax_tree.proofs.steps.Steps.run.Goals as goal
 
 pub loop-item-init : goal.loop-item-init
@@ -39,6 +39,9 @@ returns-in-Gives g c =
         calls = i.course.calls ++ c.in-Gives.ensures.course.calls;
         answered =
             run_answered law c.args.self.now c.loop-item.self c.step.new.self (Gives c.in-Gives.item) i.course
+            c.in-Gives.ensures.course;
+        spends =
+            run_spends law c.args.self.now c.loop-item.self c.step.new.self (Gives c.in-Gives.item) i.course
             c.in-Gives.ensures.course;
         begins =
             run_begins law c.args.self.now c.loop-item.self c.step.new.self (Gives c.in-Gives.item) i.course
@@ -75,6 +78,8 @@ returns-in-Ends g c =
             q.0 _ q.2 q.3 (c.in-Ends.ensures.step q.0 q.1);
         calls = i.course.calls ++ c.in-Ends.ensures.course.calls;
         answered = run_answered law c.args.self.now c.loop-item.self c.step.new.self Ends i.course
+            c.in-Ends.ensures.course;
+        spends = run_spends law c.args.self.now c.loop-item.self c.step.new.self Ends i.course
             c.in-Ends.ensures.course;
         begins = run_begins law c.args.self.now c.loop-item.self c.step.new.self Ends i.course
             c.in-Ends.ensures.course;

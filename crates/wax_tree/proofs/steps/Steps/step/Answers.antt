@@ -178,7 +178,7 @@ returns-in-Some-pop-clause-is_step g c =
 
 pub returns-then-self-clause-course : goal.returns-then-self-clause-course
 returns-then-self-clause-course g c =
-    stops_so g.D.Directory.law c.args.self.now c.args.self.now refl (inl c.if-self.true)
+    stops_so g.D.Directory.law c.args.self.now c.args.self.now refl refl (inl c.if-self.true)
 
 pub returns-in-Some-clause-course : goal.returns-in-Some-clause-course
 returns-in-Some-clause-course g c =
@@ -186,7 +186,8 @@ returns-in-Some-clause-course g c =
     let scope = scope_of w in
     let going : w.has_ended ≡ false = c.if-self.false in
     let some : w.first ≡ Some c.in-Some.place = sym c.take.ensures.value ∙ c.in-Some.is in
-    course_moved g.D.Directory.law w.directory _ _ c.begin.result c.begin.new.self (λ d h. (
+    let mid = record w { first = c.take.new.self; entered = None } in
+    course_moved g.D.Directory.law mid w _ _ c.begin.result c.begin.new.self refl refl (λ d h. (
       ahead stop d,
       comes_ahead w (ahead stop d) going (record {
         back = h.0;
@@ -204,7 +205,8 @@ returns-in-Some-take-clause-course g c =
     let going : w.has_ended ≡ false = c.if-self.false in
     let first : w.first ≡ None = sym c.take.ensures.value ∙ c.in_default.is in
     let some = sym c.take-2.ensures.value ∙ c.in-Some-take.is in
-    course_moved g.D.Directory.law w.directory _ _ c.enter.result c.enter.new.self (λ d h.
+    let mid = record w { first = c.take.new.self; entered = c.take-2.new.self } in
+    course_moved g.D.Directory.law mid w _ _ c.enter.result c.enter.new.self refl refl (λ d h.
     let below = entered_course scope (located c.in-Some-take.folder) h.2.0 in (
       ahead below h.0,
       comes_ahead w (ahead below h.0) going (record {
@@ -224,7 +226,8 @@ returns-in-Some-pop-clause-course g c =
     let going : w.has_ended ≡ false = c.if-self.false in
     let first : w.first ≡ None = sym c.take.ensures.value ∙ c.in_default.is in
     let entered : w.entered ≡ None = sym c.take-2.ensures.value ∙ c.in_default-take.is in
-    course_moved g.D.Directory.law w.directory _ _ c.list_next.result c.list_next.new.self (λ d h. (
+    let mid = record w { first = c.take.new.self; entered = c.take-2.new.self; levels = c.pop.new.self } in
+    course_moved g.D.Directory.law mid w _ _ c.list_next.result c.list_next.new.self refl refl (λ d h. (
       ahead stop d,
       comes_ahead w (ahead stop d) going (record {
         back = d;
@@ -243,7 +246,7 @@ returns-in-None-clause-course g c =
     let none : w.levels.items ≡ [] =
     none_left w.levels.items
     (λ i. let bad : false ≡ true = c.in-None.ensures.variant.1 (omega (arith, i, w.levels.ok.0)) in (cc)) in
-    stops_so g.D.Directory.law w _ refl (inr (
+    stops_so g.D.Directory.law w _ refl refl (inr (
       sym c.take.ensures.value ∙ c.in_default.is,
       sym c.take-2.ensures.value ∙ c.in_default-take.is,
       none,
