@@ -1,11 +1,13 @@
 -- What is written for a walk without what filters exclude.
-use Rattle.std.specs.Prelude.{◌≡◌, ℕ, Bool, false, List, ◌++◌, Option, filter}
+use Rattle.std.specs.Prelude.{◌≡◌, ℕ, Bool, false, List, [], ◌++◌, Option, filter}
 use Rattle.std.specs.Io.KnownBytes.{Appends}
 use Rattle.std.specs.List.{list_any}
 use Rattle.wax_exclude.specs.GlobRequests.{AreRulesOf, ComesWanted, KeepsWanted, CanBegin, GlobRequest}
 use Rattle.wax_exclude.specs.GlobRequests.{request_excluding, request_walk}
 use Rattle.wax_directory.specs.Law.{Law}
 use Rattle.wax_directory.specs.Shown.{Shown}
+use Rattle.wax_lines.specs.declared.lines.LinesError.{LinesError}
+use Rattle.wax_lines.specs.declared.lines.LinesError.TheVariants.{Memory}
 use Rattle.wax_token.specs.Reads.{Span}
 use Rattle.wax_tree.specs.Programs.{any_mark}
 use Rattle.wax_walk.specs.Collected.{Took}
@@ -28,6 +30,14 @@ module _ {D C : Type 0} (law : Law D C) (walk : WalkView D) (rules : List (Candi
       → law.shows d request.origin.path s → law.tells d listed
       → P (request_excluding request filters) s listed
 
+  -- whichever of these walks it is, these items are what it keeps of a tree that answers as the directory did
+  -- until it was `new`
+  abbrev pub KeepsOnRequests : D → List Given → Type 0
+  KeepsOnRequests new items = (d : D) (request : GlobRequest) (filters : List (Filter Span))
+      → ComesWanted law d request walk → AreRulesOf filters rules
+      → CanBegin (request_excluding request filters)
+      → KeepsAnswered law walk.directory new (request_excluding request filters) items
+
   -- the walk by these rules was taken to its end; what was kept of it is what is wanted of what the directory
   -- shows, and of what it answered; and the lines of these items were written
   pub record WroteWanted (held held' : Option (List ℕ)) (has_errors : Bool) : Type 0 where
@@ -37,15 +47,21 @@ module _ {D C : Type 0} (law : Law D C) (walk : WalkView D) (rules : List (Candi
     pub items : List Given
     pub kept : items ≡ filter is_kept given
     pub wanted : OnRequests (λ request s listed. KeepsWanted (law.tells directory) request s listed items)
-    pub answered : (d : D) (request : GlobRequest) (filters : List (Filter Span))
-        → ComesWanted law d request walk → AreRulesOf filters rules
-        → CanBegin (request_excluding request filters)
-        → KeepsAnswered law walk.directory directory (request_excluding request filters) items
+    pub answered : KeepsOnRequests directory items
     pub writes : Appends held held' (candidate_lines items)
     pub errors : has_errors ≡ list_any is_error items
 
-  -- a prefix of the lines of what is wanted was written
-  abbrev pub WroteFirst : Option (List ℕ) → Option (List ℕ) → Type 0
-  WroteFirst held held' = (bytes : List ℕ) × Appends held held' bytes
-      × OnRequests (λ request s _. (unwritten : List ℕ)
-      × (bytes ++ unwritten ≡ candidate_lines (preorder (request_walk request s))))
+  -- a prefix of the lines was written: of what is wanted of what the directory shows; and of what is kept of
+  -- a tree that answers as the directory did so far, cut short there as if memory ran out. If it did, these
+  -- lines were written whole
+  pub record WroteFirst (held held' : Option (List ℕ)) (error : LinesError) : Type 0 where
+    pub bytes : List ℕ
+    pub writes : Appends held held' bytes
+    pub starts : OnRequests (λ request s _. (unwritten : List ℕ)
+        × (bytes ++ unwritten ≡ candidate_lines (preorder (request_walk request s))))
+    pub directory : D
+    pub items : List Given
+    pub answered : KeepsOnRequests directory items
+    pub unwritten : List ℕ
+    pub lines : bytes ++ unwritten ≡ candidate_lines items
+    pub whole : error ≡ Memory → unwritten ≡ []

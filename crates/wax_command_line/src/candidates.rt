@@ -1,13 +1,12 @@
 //! The candidates of a walk, as lines.
 ghost use Rattle.std.specs.Prelude.{◌≡◌, ◌<◌, ◌≤◌, ◌∷◌, ◌++◌, ◌⊎◌, [], IfOk, IfErr, IsErrOf, OnOk};
-ghost use Rattle.std.specs.Prelude.{OnErr, false, map};
+ghost use Rattle.std.specs.Prelude.{false, map};
 ghost use Rattle.std.specs.Iterator.{IsFinite};
 ghost use Rattle.wax_command_line.specs.Wanted.{WroteFirst};
-ghost use Rattle.wax_command_line.specs.inner.Written.{MovesBytes, WroteAll, WroteSome};
+ghost use Rattle.wax_command_line.specs.inner.Written.{MovesBytes, StopsAt, WroteAll, WroteSome};
 ghost use Rattle.wax_command_line.specs.Wanted.{WroteWanted};
 ghost use Rattle.wax_command_line.specs.Candidates.{candidate_line, is_error};
 ghost use Rattle.wax_lines.specs.Counts.{greatest_count};
-ghost use Rattle.wax_lines.specs.Written.{WritesPart};
 ghost use Rattle.wax_walk.specs.Entries.{given_of};
 
 use std::alloc::Global;
@@ -45,7 +44,7 @@ where
     requires ends { IsFinite (I.left walk) }
     ensures done { IfOk result (WroteWanted I.Directory.law (I.view walk) (map R.rule rules.items)
         (W.contents output.old.inner) (W.contents output.new.inner)) }
-    ensures stopped { OnErr result (WroteFirst I.Directory.law (I.view walk) (map R.rule rules.items)
+    ensures stopped { IfErr result (WroteFirst I.Directory.law (I.view walk) (map R.rule rules.items)
         (W.contents output.old.inner) (W.contents output.new.inner)) }
     ensures unread { IsErrOf result LinesError.Read → ⊥ }
     ensures write_failed { IsErrOf result LinesError.Write →
@@ -57,7 +56,8 @@ where
     write_candidates(alloc, kept, output, faults)
 }
 
-// Writes a walk that is already filtered.
+// Writes a walk that is already filtered. Lines are written before the line of the item that came last
+// is added, so that after an error they are of items that another call of `feed` followed.
 fn write_candidates<I, W, F>(
     alloc: Global,
     mut walk: I,
@@ -72,7 +72,7 @@ where
     requires ends { IsFinite (I.left walk) }
     ensures done { IfOk result (WroteAll I.Directory.law (I.view walk)
         (W.contents output.old.inner) (W.contents output.new.inner)) }
-    ensures stopped { OnErr result (WroteSome (I.view walk)
+    ensures stopped { IfErr result (WroteSome I.Directory.law (I.view walk)
         (W.contents output.old.inner) (W.contents output.new.inner)) }
     ensures unread { IsErrOf result LinesError.Read → ⊥ }
     ensures write_failed { IsErrOf result LinesError.Write →
@@ -82,10 +82,29 @@ where
     let mut lines = Vec::new(alloc);
     let mut has_errors = false;
     while let Some(item) = walk.feed() {
+        write_if_long(&mut lines, output)?;
         has_errors |= write_item(item, &mut lines, output, faults)?;
     }
     write_whole(output, &lines)?;
     Ok(has_errors)
+}
+
+// Writes the lines that wait, once they are long.
+fn write_if_long<W: Write>(lines: &mut Vec<u8>, output: &mut Counted<W>) -> Result<(), LinesError>
+    ensures ok { OnOk result (MovesBytes (W.contents output.old.inner) (W.contents output.new.inner)
+        lines.old.items lines.new.items []) }
+    ensures err { IfErr result (StopsAt (W.contents output.old.inner) (W.contents output.new.inner)
+        lines.old.items) }
+    ensures unread { IsErrOf result LinesError.Read → ⊥ }
+    ensures write_failed { IsErrOf result LinesError.Write →
+        (output.old.failures < output.new.failures) ⊎ (output.new.failures ≡ greatest_count) }
+    ensures steady { output.old.failures ≤ output.new.failures }
+{
+    if lines.len() >= CHUNK {
+        write_whole(output, lines)?;
+        lines.clear();
+    }
+    Ok(())
 }
 
 // Adds the line of an item, and returns whether it was an error, which goes to `faults`.
@@ -104,8 +123,8 @@ where
     ensures ok { OnOk result (MovesBytes (W.contents output.old.inner) (W.contents output.new.inner)
         lines.old.items lines.new.items (candidate_line (given_of T.facts R.facts separation))) }
     ensures error { IfOk result (λ was. was ≡ is_error (given_of T.facts R.facts separation)) }
-    ensures err { OnErr result (WritesPart (W.contents output.old.inner) (W.contents output.new.inner)
-        (lines.old.items ++ candidate_line (given_of T.facts R.facts separation))) }
+    ensures err { IfErr result (StopsAt (W.contents output.old.inner) (W.contents output.new.inner)
+        lines.old.items) }
     ensures unread { IsErrOf result LinesError.Read → ⊥ }
     ensures write_failed { IsErrOf result LinesError.Write →
         (output.old.failures < output.new.failures) ⊎ (output.new.failures ≡ greatest_count) }
@@ -127,8 +146,8 @@ where
     }
 }
 
-// Adds a candidate and a line feed to the lines that wait, and writes these once they are long. If
-// allocation fails for a line, the earlier ones are still written.
+// Adds a candidate and a line feed to the lines that wait. If allocation fails for it, these are still
+// written.
 fn write_candidate<E: Entry, W: Write>(
     entry: &E,
     lines: &mut Vec<u8>,
@@ -136,8 +155,8 @@ fn write_candidate<E: Entry, W: Write>(
 ) -> Result<(), LinesError>
     ensures ok { OnOk result (MovesBytes (W.contents output.old.inner) (W.contents output.new.inner)
         lines.old.items lines.new.items ((E.facts entry.now).candidate ++ 10 ∷ [])) }
-    ensures err { OnErr result (WritesPart (W.contents output.old.inner) (W.contents output.new.inner)
-        (lines.old.items ++ ((E.facts entry.now).candidate ++ 10 ∷ []))) }
+    ensures err { IfErr result (StopsAt (W.contents output.old.inner) (W.contents output.new.inner)
+        lines.old.items) }
     ensures unread { IsErrOf result LinesError.Read → ⊥ }
     ensures write_failed { IsErrOf result LinesError.Write →
         (output.old.failures < output.new.failures) ⊎ (output.new.failures ≡ greatest_count) }
@@ -148,9 +167,5 @@ fn write_candidate<E: Entry, W: Write>(
         write_whole(output, lines)?;
         return Err(LinesError::Memory);
     };
-    if lines.len() >= CHUNK {
-        write_whole(output, lines)?;
-        lines.clear();
-    }
     Ok(())
 }

@@ -13,7 +13,7 @@ use Rattle.wax_tree.specs.Begins.{or_greatest, behavior_range}
 use Rattle.wax_tree.specs.Depths.{behavior_at}
 use Rattle.wax_tree.specs.declared.behavior.WalkBehavior.{WalkBehavior}
 use Rattle.wax_walk.specs.Candidates.{Candidate}
-use Rattle.wax_walk.specs.Given.{Mark}
+use Rattle.wax_walk.specs.Given.{Given, Mark}
 use Rattle.wax_walk.specs.View.{WalkView}
 use Rattle.wax_exclude.specs.Wanted.{Filter}
 use Rattle.wax.specs.GlobWalks.{BeginsBy, request_by}
@@ -26,14 +26,14 @@ use Rattle.wax_lines.specs.declared.counted.Counted.{Counted}
 use Rattle.wax_lines.specs.declared.lines.LinesError.{LinesError}
 use Rattle.wax_lines.specs.declared.lines.LinesError.TheVariants.{Read, Write, Memory}
 use Rattle.wax_commands.specs.Streams.{HasFailedWrite, SaysNoMemory, Stream, Writers, stream_of, writers}
-use Rattle.wax_commands.specs.Walked.{EndsInNoMemory, KeepsAllWanted, WroteStart}
+use Rattle.wax_commands.specs.Walked.{EndsInNoMemory, KeepsAllWanted, KeepsOnWalk, WroteStart}
 use Rattle.wax.specs.Walks.{any_mark}
 use Rattle.wax.proofs.Kept.{gave_within}
 use Rattle.wax_commands.specs.Walked.{AreAskedByAll, AreBuilt, Environment, HasRefused, OnWalk, WalkEnds}
 use Rattle.wax_commands.specs.Walked.{WalkGlobs, cut_short, done, faulty, lacks_memory, no_filter}
 use Rattle.wax_commands.specs.Walked.{range_in, refused, stopped}
 use Rattle.wax_command_line.specs.declared.walk_words.WalkWords.{WalkWords}
-use Rattle.wax_command_line.specs.Wanted.{OnRequests, WroteFirst, WroteWanted}
+use Rattle.wax_command_line.specs.Wanted.{KeepsOnRequests, OnRequests, WroteFirst, WroteWanted}
 use Rattle.wax_command_line.specs.WalkWords.{IsRead}
 
 module _ {D C : Type 0} (law : Law D C) (d : D) (asked : WalkRequest) (globs : WalkGlobs)
@@ -138,6 +138,18 @@ module _ {D C Z F : Type 0} (over : Environment D C Z F) (walk : WalkWords) (ask
       abbrev new : Writers
       new = writers output' faults'
 
+      keeps_on : (new : D) (items : List Given) → KeepsOnRequests over.law view rules new items
+          → KeepsOnWalk over.law over.directory asked globs new items
+      keeps_on new items kept = (
+        begun.depth,
+        begun.depth_is,
+        λ b plain.
+            answered_before over.law _ _ new _ begun.directory
+            (kept over.directory
+            (request_by by_matches asked.start (range_in asked.options) begun.depth b []) built.0
+            (begun.comes b plain) built.2 (goes (begun.can b built.0 plain))),
+      )
+
       all_kept : (has : Bool) → (w : WroteWanted over.law view rules output.bytes output'.bytes has)
           → KeepsAllWanted over.law over.directory asked globs w.items
       all_kept has w = record {
@@ -145,15 +157,7 @@ module _ {D C Z F : Type 0} (over : Environment D C Z F) (walk : WalkWords) (ask
         wanted = on_walk over.law over.directory asked globs view rules
             (λ request s listed. KeepsWanted (over.law.tells w.directory) request s listed w.items)
             begun built.2 w.wanted;
-        answered = (
-          begun.depth,
-          begun.depth_is,
-          λ b plain.
-              answered_before over.law _ _ w.directory _ begun.directory
-              (w.answered over.directory
-              (request_by by_matches asked.start (range_in asked.options) begun.depth b []) built.0
-              (begun.comes b plain) built.2 (goes (begun.can b built.0 plain))),
-        );
+        answered = keeps_on w.directory w.items w.answered;
         given = w.given;
         within = gave_within by_matches g.tree over.law over.directory asked.start
             (range_in asked.options) view (any_mark rules)
@@ -173,19 +177,25 @@ module _ {D C Z F : Type 0} (over : Environment D C Z F) (walk : WalkWords) (ask
           → WalkEnds over asked old new 3
       ends_faulty w = faulty globs w.items all_built (all_kept true w) w.writes (sym w.errors) refl
 
-      started : WroteFirst over.law view rules output.bytes output'.bytes
+      abbrev started : (e : LinesError) → WroteFirst over.law view rules output.bytes output'.bytes e
           → WroteStart over.law over.directory asked globs output.bytes output'.bytes
-      started w = record {
-        bytes = w.0;
-        writes = w.1;
+      started e w = record {
+        bytes = w.bytes;
+        writes = w.writes;
         starts = on (λ request s _. (rest : List ℕ)
-            × (w.0 ++ rest ≡ candidate_lines (preorder (request_walk request s)))) w.2;
+            × (w.bytes ++ rest ≡ candidate_lines (preorder (request_walk request s)))) w.starts;
+        new = w.directory;
+        items = w.items;
+        answered = keeps_on w.directory w.items w.answered;
+        unwritten = w.unwritten;
+        lines = w.lines;
       }
 
-      pub ends_stopped : WroteFirst over.law view rules output.bytes output'.bytes
+      pub ends_stopped : (e : LinesError) → WroteFirst over.law view rules output.bytes output'.bytes e
           → HasFailedWrite output output' → WalkEnds over asked old new 1
-      ends_stopped w f = stopped globs all_built (started w) f refl
+      ends_stopped e w f = stopped globs all_built (started e w) f refl
 
-      pub ends_cut_short : WroteFirst over.law view rules output.bytes output'.bytes
+      pub ends_cut_short : (e : LinesError) → e ≡ Memory
+          → WroteFirst over.law view rules output.bytes output'.bytes e
           → EndsInNoMemory over.reports faults' → WalkEnds over asked old new 1
-      ends_cut_short w m = cut_short globs all_built (started w) m refl
+      ends_cut_short e is w m = cut_short globs all_built (started e w) (w.whole is) m refl

@@ -118,15 +118,20 @@ module _ {D C : Type 0} (law : Law D C) (d : D) (asked : WalkRequest) (globs : W
       → law.shows d (origin_from asked.start b.rooted b.names).path s → law.tells d listed
       → P (request_by by_matches asked.start (range_in asked.options) depth b globs.filters) s listed)
 
+  -- wherever the requested walk begins, these items are what it keeps of a tree that answers as the directory
+  -- did until it was `new`
+  abbrev pub KeepsOnWalk : D → List Given → Type 0
+  KeepsOnWalk new items = (depth : Bounds) × Depth globs.glob.tree depth
+      × ((b : Beginning globs.glob.tree) → ArePlain b.names → KeepsAnswered law d new
+      (request_by by_matches asked.start (range_in asked.options) depth b globs.filters) items)
+
   -- The walk was taken to its end, and kept these items of those that it gave. Whatever the directory shows,
   -- its counts account for what was given, and what was kept is what is wanted of a tree that answers as the
   -- directory did.
   pub record KeepsAllWanted (items : List Given) : Type 0 where
     pub new : D
     pub wanted : OnWalk (λ request s listed. KeepsWanted (law.tells new) request s listed items)
-    pub answered : (depth : Bounds) × Depth globs.glob.tree depth
-        × ((b : Beginning globs.glob.tree) → ArePlain b.names → KeepsAnswered law d new
-        (request_by by_matches asked.start (range_in asked.options) depth b globs.filters) items)
+    pub answered : KeepsOnWalk new items
     pub given : List Given
     pub within : GaveBy by_matches globs.glob.tree law d (range_in asked.options) new given
     pub kept : items ≡ filter is_kept given
@@ -136,11 +141,17 @@ module _ {D C : Type 0} (law : Law D C) (d : D) (asked : WalkRequest) (globs : W
   StartsLines bytes = OnWalk (λ request s listed.
       (rest : List ℕ) × (bytes ++ rest ≡ candidate_lines (preorder (request_walk request s))))
 
-  -- a prefix of the lines was written
+  -- a prefix of the lines was written: of all that the walk keeps of what the directory shows; and of what it
+  -- keeps of a tree that answers as the directory did so far, cut short there as if memory ran out
   pub record WroteStart (held held' : Option (List ℕ)) : Type 0 where
     pub bytes : List ℕ
     pub writes : Appends held held' bytes
     pub starts : StartsLines bytes
+    pub new : D
+    pub items : List Given
+    pub answered : KeepsOnWalk new items
+    pub unwritten : List ℕ
+    pub lines : bytes ++ unwritten ≡ candidate_lines items
 
 -- the last that was written is that memory ran out, or the writer has counted a failed write
 abbrev pub EndsInNoMemory : {F : Type 0} → (F → Option (List ℕ)) → Stream → Type 0
@@ -164,10 +175,11 @@ pub data WalkEnds {D C Z F : Type 0} (over : Environment D C Z F) (asked : WalkR
   stopped : (globs : WalkGlobs) → AreBuilt over.answers asked globs
       → WroteStart over.law over.directory asked globs old.output.bytes new.output.bytes
       → HasFailedWrite old.output new.output → status ≡ 1 → WalkEnds over asked old new status
-  -- a prefix of the lines was written, and then memory ran out
+  -- the lines of all that was kept so far were written, and then memory ran out
   cut_short : (globs : WalkGlobs) → AreBuilt over.answers asked globs
-      → WroteStart over.law over.directory asked globs old.output.bytes new.output.bytes
-      → EndsInNoMemory over.reports new.faults → status ≡ 1 → WalkEnds over asked old new status
+      → (start : WroteStart over.law over.directory asked globs old.output.bytes new.output.bytes)
+      → start.unwritten ≡ [] → EndsInNoMemory over.reports new.faults → status ≡ 1
+      → WalkEnds over asked old new status
   -- an expression or an ignore list has an error, and nothing was written
   refused : IsUnbuilt over.answers asked → new.output ≡ old.output → status ≡ 1
       → WalkEnds over asked old new status

@@ -1,6 +1,6 @@
 -- What a walk yielded is the walk of a tree that answers as the directory did.
-use Rattle.std.proofs.Common.{◌≡◌, ◌∙◌, ◌⊎◌, Bool, true, false, List, [], ◌∷◌, filter, refl, sym, ap, subst}
-use Rattle.std.proofs.Common.{inl, inr, arith}
+use Rattle.std.proofs.Common.{◌≡◌, ◌∙◌, ◌⊎◌, Bool, true, false, List, [], ◌∷◌, ◌++◌, filter, refl, sym, ap}
+use Rattle.std.proofs.Common.{inl, inr, arith, subst}
 use Rattle.std.specs.Prelude.{if◌then◌else◌}
 use Rattle.std.proofs.lemmas.Bool.{le-ltb, lt-ltb}
 use Rattle.wax_directory.specs.History.{Answer}
@@ -27,12 +27,12 @@ use Rattle.wax_walk.specs.Ruled.{IsMarkBy}
 use Rattle.wax_walk.specs.Collected.{EndsThere, Took, TookCourse, cut_short, whole}
 use Rattle.wax_walk.specs.Course.{Course, CutsShort, IsFiltered, IsStartOf, answers, calls_of, items_of}
 use Rattle.wax_walk.specs.Opened.{opened_folders}
-use Rattle.wax_walk.specs.Course.{stop, yields}
+use Rattle.wax_walk.specs.Course.{stop, unknown, yields}
 use Rattle.wax_walk.specs.Forest.{nothing}
 use Rattle.wax_walk.specs.Given.{Facts, Given, Mark, is_kept, no_memory}
 use Rattle.wax_walk.specs.View.{MayTake, WalkView}
 use Rattle.wax_exclude.proofs.Feeding.{feeds_by_walk}
-use Rattle.wax_exclude.proofs.KeptItems.{cut_kept, kept_entries}
+use Rattle.wax_exclude.proofs.KeptItems.{cut_kept, kept_entries, kept_last, kept_twice}
 use Rattle.wax_exclude.proofs.StackingRequests.{stacked_any}
 use Rattle.wax_exclude.proofs.Wanting.{entries_wanted, few_listed}
 use Rattle.wax_exclude.specs.Feeds.{ruled_feed}
@@ -168,12 +168,15 @@ module _ (walk : RuledWalk) where
     shown = missing;
     named = tt;
     distinct = distinct_missing walk.origin.names;
-    calls = [];
+    course = unknown;
+    starts = tt;
+    known = tt;
+    told_is = e;
     rest = walk_calls walk missing;
     calls_are = refl;
-    told_is = e;
     error = x;
     items = ([], ruled_feed walk missing, f, refl);
+    came = kept_last xs [] x (cutting_kept [] x s) f;
     cut = s;
   }
 
@@ -201,12 +204,15 @@ module _ (walk : RuledWalk) where
           shown = d;
           named = n;
           distinct = a;
-          calls = calls_of c;
+          course = c;
+          starts = b;
+          known = first;
+          told_is = e;
           rest = p.calls;
           calls_are = p.calls_are;
-          told_is = e;
           error = x;
           items = (items_of c, p.items, f, p.items_are ∙ items_fed d);
+          came = kept_last xs (items_of c) x (cutting_kept (calls_of c) x s) f;
           cut = s;
         })
     | lacking b ↦
@@ -220,12 +226,16 @@ module _ (walk : RuledWalk) where
     shown = p.shown;
     named = p.named;
     distinct = p.distinct;
-    calls = p.calls;
+    course = p.course;
+    starts = p.starts;
+    known = p.known;
+    told_is = p.told_is;
     rest = p.rest;
     calls_are = p.calls_are;
-    told_is = p.told_is;
     error = p.error;
-    items = cut_kept (ruled_feed walk p.shown) p.error xs (cutting_kept p.calls p.error p.cut) p.items;
+    items = cut_kept (ruled_feed walk p.shown) p.error xs
+        (cutting_kept (calls_of p.course) p.error p.cut) p.items;
+    came = kept_twice xs ∙ p.came;
     cut = p.cut;
   }
 
@@ -277,16 +287,17 @@ module _ (laws : WalkLaw) (request : GlobRequest) (can : CanBegin request) (s : 
       subst (AreOpened request s) (sym (opens_listed its_walk s))
       (few_listed laws request s can (plain_named s named) (is_beyond request) refl)
 
--- so it is of a glob's walk
-pub keeps_answered : WalkLaw → (request : GlobRequest) {D C : Type 0} (law : Law D C)
-    (view : WalkView D) (new : D) (xs : List Given) → CanBegin request
+-- so it is of a glob's walk, by what was answered to it and by its course
+pub keeps_told : WalkLaw → (request : GlobRequest) {D C : Type 0} (law : Law D C)
+    (view : WalkView D) (new : D) (told : List Answer) (xs : List Given) → CanBegin request
     → ((c : Course) → MayTake view c → WalkTakes (walk_for request) c)
-    → Took law view new xs → KeepsAnswered law view.directory new request (filter is_kept xs)
+    → law.answered new ≡ law.answered view.directory ++ told → EndsThere xs → TookCourse view told xs
+    → KeepsAnswered law view.directory new request (filter is_kept xs)
 unfolding part_kept
-keeps_answered laws request law view new xs can takes took = record {
-  told = took.told;
-  answered = took.answered;
-  holds_of = elim (fed (walk_for request) law view new xs takes took) [
+keeps_told laws request law view new told xs can takes answered ends took = record {
+  told = told;
+  answered = answered;
+  holds_of = elim (fed_so (walk_for request) view told xs takes ends took) [
     | inl t ↦
         let s = t.shown in
         let kept = ap (filter is_kept) t.items in
@@ -296,13 +307,21 @@ keeps_answered laws request law view new xs can takes took = record {
         (calls_opened laws request can s t.named))
     | inr p ↦
         let s = p.shown in
-        keeps_in_part (part_kept (walk_for request) took.told xs p)
+        keeps_in_part (part_kept (walk_for request) told xs p)
         (kept_wanted laws request can s p.named p.distinct) (opened_folders (answers p.rest))
         (subst (AreOpened request s)
-        (sym (opened_first took.told p.calls p.rest (walk_calls (walk_for request) s) p.told_is p.calls_are))
+        (sym (opened_first told (calls_of p.course) p.rest (walk_calls (walk_for request) s) p.told_is
+        p.calls_are))
         (calls_opened laws request can s p.named))
   ];
 }
+
+pub keeps_answered : WalkLaw → (request : GlobRequest) {D C : Type 0} (law : Law D C)
+    (view : WalkView D) (new : D) (xs : List Given) → CanBegin request
+    → ((c : Course) → MayTake view c → WalkTakes (walk_for request) c)
+    → Took law view new xs → KeepsAnswered law view.directory new request (filter is_kept xs)
+keeps_answered laws request law view new xs can takes took =
+    keeps_told laws request law view new took.told xs can takes took.answered took.ends_there took.course
 
 -- over a walk that another one is seen as
 pub answered_before : {D C : Type 0} (law : Law D C) (old other new : D) (holds : List Answer → Type 0)

@@ -1,12 +1,13 @@
 -- What a walk yields to its end, whatever the directory answers.
-use Rattle.std.specs.Prelude.{◌≡◌, ◌++◌, ℕ, List, filter}
+use Rattle.std.specs.Prelude.{◌≡◌, ◌++◌, ℕ, List, [], ◌∷◌, filter}
 use Rattle.wax_directory.specs.History.{Answer}
 use Rattle.wax_directory.specs.Law.{Law}
 use Rattle.wax_directory.specs.Shown.{Shown}
 use Rattle.wax_tree.specs.Courses.{IsNamed}
 use Rattle.wax_tree.specs.Follows.{AreDistinctAlong}
 use Rattle.wax_walk.specs.Collected.{IsCutShort}
-use Rattle.wax_walk.specs.Course.{CutsShort, DirectoryCall, answers, calls_of}
+use Rattle.wax_walk.specs.Course.{Course, CutsShort, DirectoryCall, IsKnownFirst, IsStartOf, answers}
+use Rattle.wax_walk.specs.Course.{calls_of, items_of}
 use Rattle.wax_walk.specs.Forest.{listings}
 use Rattle.wax_walk.specs.Given.{Given, is_kept}
 use Rattle.wax_walk.specs.Opened.{opened_folders}
@@ -28,20 +29,25 @@ abbrev pub request_kept : GlobRequest → Shown → List Given
 request_kept request s = ruled_kept (walk_for request) s
 
 -- what was answered begins what a tree answers, in which each name of the origin is looked up among distinct
--- names, and the items begin what is due of that tree; then one error came, because allocation failed or the
--- budget was reached in the folder that was asked last
+-- names, and the items begin what is due of that tree: the kept ones are those that its walk yields before it
+-- asks more than that. Then one error came, because allocation failed or the budget was reached in the folder
+-- that was asked last
 pub record ToldInPart (walk : RuledWalk) (due : Shown → List Given) (told : List Answer)
     (xs : List Given) : Type 0 where
   pub shown : Shown
   pub named : IsNamed shown
   pub distinct : AreDistinctAlong walk.origin.names shown
-  pub calls : List DirectoryCall
+  -- the walk of the tree, as far as it went
+  pub course : Course
+  pub starts : IsStartOf course (walk_course walk shown)
+  pub known : IsKnownFirst course
+  pub told_is : told ≡ answers (calls_of course)
   pub rest : List DirectoryCall
-  pub calls_are : calls ++ rest ≡ walk_calls walk shown
-  pub told_is : told ≡ answers calls
+  pub calls_are : calls_of course ++ rest ≡ walk_calls walk shown
   pub error : Given
   pub items : IsCutShort (due shown) error xs
-  pub cut : CutsShort calls error
+  pub came : filter is_kept xs ≡ filter is_kept (items_of course) ++ error ∷ []
+  pub cut : CutsShort (calls_of course) error
 
 -- what was answered is what a tree answers, call by call, and the items are what is due of that tree; or both
 -- in part

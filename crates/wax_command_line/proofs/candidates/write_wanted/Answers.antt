@@ -2,7 +2,7 @@ use Rattle.std.proofs.Common.{map, refl, subst, ◌∙◌}
 use Rattle.std.specs.Prelude.{filter}
 use Rattle.std.specs.Io.KnownBytes.{Appends}
 use Rattle.wax_exclude.specs.GlobRequests.{request_excluding, request_pending, walk_for}
-use Rattle.wax_exclude.proofs.Telling.{answered_before, keeps_answered}
+use Rattle.wax_exclude.proofs.Telling.{answered_before, keeps_answered, keeps_told}
 use Rattle.wax_exclude.proofs.Wanting.{all_gave, keeps_wanted, filters_come, took_less}
 use Rattle.wax_walk.proofs.Collecting.{map_ok}
 use Rattle.wax_walk.specs.Given.{is_kept}
@@ -48,13 +48,24 @@ pub returns-clause-stopped : goal.returns-clause-stopped
 returns-clause-stopped g c =
     let law = g.I.Directory.Directory.law in
     let rules = map g.R.Exclude.rule c.args.rules.items in
-    map_err (λ wrote. (
-      wrote.0,
-      wrote.1,
-      λ d request filters s listed comes are can shows told.
+    map_err (λ error wrote. record {
+      bytes = wrote.bytes;
+      writes = wrote.writes;
+      starts = λ d request filters s listed comes are can shows told.
           let excluding = request_excluding request filters in
           let come = filters_come law d request filters rules _ _ _ are c.new.ensures comes
           c.excluding-kept.ensures.view in
-          wrote.2 (request_pending excluding s listed) (come.comes s listed shows told),
-    ))
+          wrote.starts (request_pending excluding s listed) (come.comes s listed shows told);
+      directory = wrote.directory;
+      items = filter is_kept wrote.given;
+      answered = λ d request filters comes are can.
+          let come = filters_come law d request filters rules _ _ _ are c.new.ensures comes
+          c.excluding-kept.ensures.view in
+          answered_before law _ _ wrote.directory _ c.excluding-kept.ensures.view.directory
+          (keeps_told c.law_of_walks.ensures (request_excluding request filters) law _ wrote.directory
+          wrote.told wrote.given can come.takes wrote.answered wrote.ends_there wrote.course);
+      unwritten = wrote.unwritten;
+      lines = wrote.lines ∙ lines_kept wrote.given;
+      whole = wrote.whole;
+    })
     c.write_candidates.result c.write_candidates.ensures.stopped

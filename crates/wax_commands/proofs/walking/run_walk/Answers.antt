@@ -59,7 +59,7 @@ returns-in-Err-Memory-clause-ends g c asked read =
     let is : c.from-behavior.result ≡ behavior_at c.args.walk.depth = c.from-behavior.ensures in
     ends_cut_short over c.args.walk asked read c.in-Some.glob c.in-Some.ensures.some _
     c.in-Some-built_filters.ensures.some c.from-behavior.result is _ c.in-Ok.ensures.begins output output' _ _
-    c.in-Err-Memory.ensures.stopped
+    _ c.in-Err-Memory.field-0-is c.in-Err-Memory.ensures.stopped
     (ends_in_no_memory g.F.Write.contents c.write_wanted.new.faults
     (stream_of g.F.Write.contents c.say_no_memory-in-Err-Memory.new.faults)
     c.say_no_memory-in-Err-Memory.ensures)
@@ -75,6 +75,6 @@ returns-clause-ends g c asked read =
     let other : c.in-Err.error ≢ Memory = search rules in
     ends_stopped over c.args.walk asked read c.in-Some.glob c.in-Some.ensures.some _
     c.in-Some-built_filters.ensures.some c.from-behavior.result is _ c.in-Ok.ensures.begins output output' _ _
-    c.in-Err.ensures.stopped
+    _ c.in-Err.ensures.stopped
     (write_shown c.in-Err.error other (λ e. c.write_wanted.ensures.unread (c.in-Err.is ∙ ap Err e))
     (λ e. c.write_wanted.ensures.write_failed (c.in-Err.is ∙ ap Err e)))
