@@ -12,7 +12,8 @@ pub use Rattle.wax_lazy.specs.Numbers.{IsLastNumber, IsLastNumberFrom, IsLastWhe
 pub use Rattle.wax_lazy.specs.Verdict.{AcceptsBelow, IsVerdict}
 pub use Rattle.wax_match.specs.Numbered.{MeansNumbered}
 pub use Rattle.wax_lines.specs.Counts.{greatest_count}
-pub use Rattle.wax_lines.specs.Lines.{Filtered, Filters, Stopped, WritesCaptures, WritesMeant, lines}
+pub use Rattle.wax_lines.specs.Lines.{Filtered, Filters, Stopped, StoppedShort, WritesCaptures, WritesMeant}
+pub use Rattle.wax_lines.specs.Lines.{lines}
 pub use Rattle.wax_lines.specs.Written.{WritesPart}
 pub use Rattle.wax_program.specs.Closed.{IsClosed, LeadsWithin}
 pub use Rattle.wax_program.specs.Machine.{Accepts, mark}

@@ -1,6 +1,7 @@
 //! Counting how often instructions of programs and characters of texts are looked at.
-ghost use Rattle.std.specs.Prelude.{◌≡◌, ◌+◌, ◌*◌, ◌^◌, ◌<◌, ◌≤◌, OnOk, drop, length};
+ghost use Rattle.std.specs.Prelude.{◌≡◌, ◌+◌, ◌*◌, ◌≤◌, OnOk, drop, length, min};
 ghost use Rattle.wax_lengths.specs.Ends.{MarksBeginnings};
+ghost use Rattle.wax_program.specs.Meter.{most_ticks};
 
 use crate::ends::run_ends;
 use crate::text::Text;
@@ -17,11 +18,12 @@ pub struct Visits {
 }
 
 impl Model for Visits {
-    ghost use Rattle.std.specs.Prelude.{ℕ, ◌+◌};
+    ghost use Rattle.std.specs.Prelude.{ℕ, ◌+◌, min};
+    ghost use Rattle.wax_program.specs.Meter.{most_ticks};
 
     ghost Value = { ℕ };
 
-    ghost view = { λ v. v.meter + v.characters };
+    ghost view = { λ v. min (v.meter + v.characters) most_ticks };
 }
 
 impl Visits {
@@ -37,8 +39,7 @@ impl Visits {
 
     /// Returns the number of visits so far.
     pub fn count(&self) -> u128
-        ensures above { result ≤ self.now }
-        ensures exact { result + 1 < 2 ^ 128 → self.now ≤ result }
+        ensures { result ≡ self.now }
     {
         self.meter.ticks().saturating_add(self.characters)
     }
@@ -46,15 +47,16 @@ impl Visits {
     /// Counts characters that were looked at.
     #[inline]
     pub(crate) fn add(&mut self, characters: usize)
+        ensures counted { self.new ≡ min (self.old + characters) most_ticks }
         ensures above { self.new ≤ self.old + characters }
         ensures steady { self.old ≤ self.new }
-        ensures below { characters ≤ self.new }
     {
         self.characters = self.characters.saturating_add(characters as u128);
     }
 
     /// Counts each character of a text that was split into parts.
     pub fn add_text(&mut self, text: &Text<'_>)
+        ensures counted { self.new ≡ min (self.old + length text.now) most_ticks }
         ensures above { self.new ≤ self.old + length text.now }
         ensures steady { self.old ≤ self.new }
         ensures below { length text.now ≤ self.new }

@@ -34,20 +34,22 @@ module _ (Writes : List ℕ → List ℕ → Type 0) where
   }
 
   -- a chunk was read, and a beginning of it taken in
-  pub Came-part : (left mid left' held held' : Option (List ℕ)) (old new : Sieve) (chunk : List ℕ)
-      → length chunk ≤ 65536
+  pub Came-part : (left mid left' held held' : Option (List ℕ)) (last_len : ℕ) (old new : Sieve)
+      (chunk : List ℕ) → length chunk ≤ last_len → length chunk ≤ 65536
       → Came Writes left mid held held' old → Consumes mid left' chunk → TakesInPart Writes chunk old new
-      → CameShort Writes left left' held held' new
-  Came-part left mid left' held held' old new chunk few h read (front, rest, splits, takes) = record {
-    front = h.taken ++ front;
-    rest = rest;
-    of_one_read = omega (arith, ap length splits, length-append front rest);
-    written = h.written;
-    reads = subst (Consumes left left') (ap (λ z. h.taken ++ z) splits
-        ∙ sym (append_assoc h.taken front rest)) (Consumes-trans _ _ _ _ _ h.reads read);
-    writes = h.writes;
-    sifted = takes h.taken h.written h.sifted;
-  }
+      → CameShort Writes left left' held held' last_len new
+  Came-part left mid left' held held' last_len old new chunk one few h read (front, rest, splits, takes) =
+      record {
+        front = h.taken ++ front;
+        rest = rest;
+        of_one_read = omega (arith, one, ap length splits, length-append front rest);
+        of_one_chunk = omega (arith, few, ap length splits, length-append front rest);
+        written = h.written;
+        reads = subst (Consumes left left') (ap (λ z. h.taken ++ z) splits
+            ∙ sym (append_assoc h.taken front rest)) (Consumes-trans _ _ _ _ _ h.reads read);
+        writes = h.writes;
+        sifted = takes h.taken h.written h.sifted;
+      }
 
   -- a failed read
   pub Came-kept : (left mid left' held held' : Option (List ℕ)) (s : Sieve)
@@ -75,10 +77,10 @@ module _ (Writes : List ℕ → List ℕ → Type 0) where
   }
 
   -- a beginning of what waited was written
-  pub Short-writing : (left left' held mid held' : Option (List ℕ)) (s : Sieve)
-      → CameShort Writes left left' held mid s → WritesPart mid held' s.kept.bytes.items
+  pub Short-writing : (left left' held mid held' : Option (List ℕ)) (last_len : ℕ) (s : Sieve)
+      → CameShort Writes left left' held mid last_len s → WritesPart mid held' s.kept.bytes.items
       → StoppedWriting Writes left left' held held'
-  Short-writing left left' held mid held' s h w = record {
+  Short-writing left left' held mid held' last_len s h w = record {
     has_ended = false;
     front = h.front;
     rest = h.rest;
@@ -94,12 +96,13 @@ module _ (Writes : List ℕ → List ℕ → Type 0) where
   }
 
   -- all that was read was taken in, so a beginning was
-  pub came_short : (left left' held held' : Option (List ℕ)) (s : Sieve) → Came Writes left left' held held' s
-      → CameShort Writes left left' held held' s
-  came_short left left' held held' s h = record {
+  pub came_short : (left left' held held' : Option (List ℕ)) (last_len : ℕ) (s : Sieve)
+      → Came Writes left left' held held' s → CameShort Writes left left' held held' last_len s
+  came_short left left' held held' last_len s h = record {
     front = h.taken;
     rest = [];
     of_one_read = omega arith;
+    of_one_chunk = omega arith;
     written = h.written;
     reads = subst (Consumes left left') (sym (append-nil h.taken)) h.reads;
     writes = h.writes;
@@ -165,14 +168,14 @@ module _ (Writes : List ℕ → List ℕ → Type 0) where
     filters = sifted_whole Writes h.taken h.written s.carry.items s.kept.bytes.items s.kept.not_text h.sifted;
   }
 
-  -- the last write, after a failed allocation
-  pub Short-stopped : (left left' held mid held' : Option (List ℕ)) (s : Sieve)
-      → CameShort Writes left left' held mid s → Appends mid held' s.kept.bytes.items
-      → StoppedShort Writes left left' held held'
-  Short-stopped left left' held mid held' s h written = record {
+  -- the last write, after a failed allocation, for each number of bytes that bounds the rest
+  pub Short-stopped : (left left' held mid held' : Option (List ℕ)) (last_len most : ℕ) (s : Sieve)
+      → (h : CameShort Writes left left' held mid last_len s) → length h.rest ≤ most
+      → Appends mid held' s.kept.bytes.items → StoppedShort Writes left left' held held' most
+  Short-stopped left left' held mid held' last_len most s h few written = record {
     front = h.front;
     rest = h.rest;
-    of_one_read = h.of_one_read;
+    of_one_read = few;
     out = h.written ++ s.kept.bytes.items;
     bad = h.sifted.bad;
     reads = h.reads;
@@ -181,8 +184,9 @@ module _ (Writes : List ℕ → List ℕ → Type 0) where
   }
 
   -- allocation failed before the first read
-  pub stopped_at_once : (left held : Option (List ℕ)) → StoppedShort Writes left left held held
-  stopped_at_once left held = record {
+  pub stopped_at_once : (left held : Option (List ℕ)) (last_len : ℕ)
+      → StoppedShort Writes left left held held last_len
+  stopped_at_once left held last_len = record {
     front = [];
     rest = [];
     of_one_read = omega arith;
@@ -212,31 +216,46 @@ module _ (Writes : List ℕ → List ℕ → Type 0) where
   }
 
   -- the last writing, after an error
-  pub Halted-written : (left left' held mid held' : Option (List ℕ)) (s : Sieve) (e : LinesError)
-      → Halted Writes left left' held mid s e → Appends mid held' s.kept.bytes.items
+  pub Halted-written : (left left' held mid held' : Option (List ℕ)) (last_len : ℕ) (s : Sieve)
+      (e : LinesError) → Halted Writes left left' held mid last_len s e → Appends mid held' s.kept.bytes.items
       → Stopped Writes left left' held held' e
-  Halted-written left left' held mid held' s Read h w = Came-stopped left left' held mid held' s h w
-  Halted-written left left' held mid held' s Write h w =
+  Halted-written left left' held mid held' last_len s Read h w = Came-stopped left left' held mid held' s h w
+  Halted-written left left' held mid held' last_len s Write h w =
       still_writing left left' held mid held' s.kept.bytes.items h.0 h.1 w
-  Halted-written left left' held mid held' s Memory h w = Short-stopped left left' held mid held' s h w
+  Halted-written left left' held mid held' last_len s Memory h w =
+      Short-stopped left left' held mid held' last_len 65536 s h h.of_one_chunk w
 
-  pub Halted-writing : (left left' held mid held' : Option (List ℕ)) (s : Sieve) (e : LinesError)
-      → Halted Writes left left' held mid s e → WritesPart mid held' s.kept.bytes.items
-      → StoppedWriting Writes left left' held held'
-  Halted-writing left left' held mid held' s Read h w =
-      Short-writing left left' held mid held' s (came_short left left' held mid s h) w
-  Halted-writing left left' held mid held' s Write h w = still_writing left left' held mid held' w.front h.0
+  -- the last writing, after a failed allocation
+  pub Halted-short : (left left' held mid held' : Option (List ℕ)) (last_len : ℕ) (s : Sieve) (e : LinesError)
+      → Halted Writes left left' held mid last_len s e → e ≡ Memory → Appends mid held' s.kept.bytes.items
+      → StoppedShort Writes left left' held held' last_len
+  Halted-short left left' held mid held' last_len s Memory h e w =
+      Short-stopped left left' held mid held' last_len last_len s h h.of_one_read w
+  Halted-short left left' held mid held' last_len s Read h e w = let no : ⊥ = cc in absurd no
+  Halted-short left left' held mid held' last_len s Write h e w = let no : ⊥ = cc in absurd no
+
+  pub Halted-writing : (left left' held mid held' : Option (List ℕ)) (last_len : ℕ) (s : Sieve)
+      (e : LinesError) → Halted Writes left left' held mid last_len s e
+      → WritesPart mid held' s.kept.bytes.items → StoppedWriting Writes left left' held held'
+  Halted-writing left left' held mid held' last_len s Read h w =
+      Short-writing left left' held mid held' last_len s (came_short left left' held mid last_len s h) w
+  Halted-writing left left' held mid held' last_len s Write h w =
+      still_writing left left' held mid held' w.front h.0
       (front_nil w.front w.rest (sym w.splits ∙ h.1)) w.writes
     where
       front_nil : (xs ys : List ℕ) → xs ++ ys ≡ [] → xs ≡ []
       front_nil [] ys e = refl
       front_nil (x ∷ xs) ys e = cc
-  Halted-writing left left' held mid held' s Memory h w = Short-writing left left' held mid held' s h w
+  Halted-writing left left' held mid held' last_len s Memory h w =
+      Short-writing left left' held mid held' last_len s h w
 
   -- the last writing, whatever came before
-  pub Ended-writing : (left left' held mid held' : Option (List ℕ)) (s : Sieve)
+  pub Ended-writing : (left left' held mid held' : Option (List ℕ)) (last_len : ℕ) (s : Sieve)
       (r : Result (Unit {0}) LinesError)
-      → OnOk r (Finished Writes left left' held mid s) → IfErr r (Halted Writes left left' held mid s)
+      → OnOk r (Finished Writes left left' held mid s)
+      → IfErr r (Halted Writes left left' held mid last_len s)
       → WritesPart mid held' s.kept.bytes.items → StoppedWriting Writes left left' held held'
-  Ended-writing left left' held mid held' s (Ok x) h k w = Finished-writing left left' held mid held' s h w
-  Ended-writing left left' held mid held' s (Err e) h k w = Halted-writing left left' held mid held' s e k w
+  Ended-writing left left' held mid held' last_len s (Ok x) h k w =
+      Finished-writing left left' held mid held' s h w
+  Ended-writing left left' held mid held' last_len s (Err e) h k w =
+      Halted-writing left left' held mid held' last_len s e k w

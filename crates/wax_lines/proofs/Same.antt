@@ -57,9 +57,9 @@ module _ (V W : List ℕ → List ℕ → Type 0) (alike : (s out : List ℕ) �
     filters = filters_as _ _ h.bad h.filters;
   }
 
-  short_as : (left left' held held' : Option (List ℕ))
-      → StoppedShort V left left' held held' → StoppedShort W left left' held held'
-  short_as left left' held held' h = record {
+  pub short_as : (left left' held held' : Option (List ℕ)) (last_len : ℕ)
+      → StoppedShort V left left' held held' last_len → StoppedShort W left left' held held' last_len
+  short_as left left' held held' last_len h = record {
     front = h.front;
     rest = h.rest;
     out = h.out;
@@ -74,7 +74,7 @@ module _ (V W : List ℕ → List ℕ → Type 0) (alike : (s out : List ℕ) �
       → Stopped V left left' held held' error → Stopped W left left' held held' error
   stopped_as left left' held held' Read h = reading_as left left' held held' h
   stopped_as left left' held held' Write h = writing_as left left' held held' h
-  stopped_as left left' held held' Memory h = short_as left left' held held' h
+  stopped_as left left' held held' Memory h = short_as left left' held held' 65536 h
 
 -- a matcher that decides what a program does, and a program that means what it decides
 module _ (d e : List ℕ → Bool) (Means : List ℕ → Type 0) (same : d ≡ e)

@@ -17,3 +17,8 @@ one_more_if b n = if b then one_more n else n
 abbrev pub is_failed_write : {E : Type 0} → Result ℕ E → List ℕ → Bool
 is_failed_write (Ok n) bytes = n == 0 && not (length bytes == 0)
 is_failed_write (Err e) bytes = true
+
+-- how many bytes a call read or wrote: none if it failed
+abbrev pub bytes_passed : {E : Type 0} → Result ℕ E → ℕ
+bytes_passed (Ok n) = n
+bytes_passed (Err e) = 0

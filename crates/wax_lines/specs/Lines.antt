@@ -105,15 +105,16 @@ pub record StoppedWriting (Writes : List ℕ → List ℕ → Type 0)
   pub writes : Appends held held' out
   pub filters : Filters Writes (complete_lines has_ended front) (out ++ unwritten) bad
 
--- The output of the whole lines was written, of all bytes read except a rest no longer than one read.
+-- The output of the whole lines was written, of all bytes that were read except a rest, which is no longer
+-- than so many bytes. If these are the bytes of the last read, the rest is of that read.
 pub record StoppedShort (Writes : List ℕ → List ℕ → Type 0)
-    (left left' held held' : Option (List ℕ)) : Type 0 where
+    (left left' held held' : Option (List ℕ)) (last_len : ℕ) : Type 0 where
   pub front : List ℕ
   pub rest : List ℕ
   pub out : List ℕ
   pub bad : ℕ
   pub reads : Consumes left left' (front ++ rest)
-  pub of_one_read : length rest ≤ 65536
+  pub of_one_read : length rest ≤ last_len
   pub writes : Appends held held' out
   pub filters : Filters Writes (whole_lines front) out bad
 
@@ -122,4 +123,4 @@ abbrev pub Stopped : (List ℕ → List ℕ → Type 0) → (left left' held hel
     → LinesError → Type 0
 Stopped Writes left left' held held' Read = StoppedReading Writes left left' held held'
 Stopped Writes left left' held held' Write = StoppedWriting Writes left left' held held'
-Stopped Writes left left' held held' Memory = StoppedShort Writes left left' held held'
+Stopped Writes left left' held held' Memory = StoppedShort Writes left left' held held' 65536

@@ -4,8 +4,10 @@
 
 mod counted;
 mod lines;
+mod once;
 mod writing;
 
 pub use counted::Counted;
 pub use lines::{LineWriter, LinesError, capture_lines, filter_lines, filter_lines_by};
+pub use once::{ReadOnce, WriteOnce};
 pub use writing::{push_line, write_whole};

@@ -1,7 +1,7 @@
 //! Lines that a program matches, and what it captures of them.
 ghost use Rattle.std.specs.Prelude.{◌≡◌, ◌≤◌, ◌<◌, ◌⊎◌, [], length, IfOk, IfErr, OnOk, IsErrOf};
 ghost use Rattle.wax_lines.specs.Counts.{greatest_count};
-ghost use Rattle.wax_lines.specs.Lines.{Filtered, Stopped, WritesCaptures, WritesMeant};
+ghost use Rattle.wax_lines.specs.Lines.{Filtered, Stopped, StoppedShort, WritesCaptures, WritesMeant};
 ghost use Rattle.wax_lines.specs.inner.Progress.{Finished, Halted, SieveSifted};
 
 use crate::counted::Counted;
@@ -86,6 +86,10 @@ pub fn filter_lines<'p, R: Read, W: Write, P: BuildMatcher<'p>>(
     ensures stopped { IfErr result (Stopped (WritesMeant (P.means program.now))
         (R.remaining input.old.inner) (R.remaining input.new.inner)
         (W.contents output.old.inner) (W.contents output.new.inner)) }
+    ensures of_last_read { IsErrOf result LinesError.Memory
+        → StoppedShort (WritesMeant (P.means program.now))
+        (R.remaining input.old.inner) (R.remaining input.new.inner)
+        (W.contents output.old.inner) (W.contents output.new.inner) input.new.last_len }
     ensures read_failed { IsErrOf result LinesError.Read →
         (input.old.failures < input.new.failures) ⊎ (input.new.calls ≡ greatest_count) }
     ensures write_failed { IsErrOf result LinesError.Write →
@@ -119,6 +123,10 @@ pub fn capture_lines<'p, R: Read, W: Write, P: BuildMatcher<'p>>(
     ensures stopped { IfErr result (Stopped (WritesCaptures (P.means program.now) (P.captured program.now))
         (R.remaining input.old.inner) (R.remaining input.new.inner)
         (W.contents output.old.inner) (W.contents output.new.inner)) }
+    ensures of_last_read { IsErrOf result LinesError.Memory
+        → StoppedShort (WritesCaptures (P.means program.now) (P.captured program.now))
+        (R.remaining input.old.inner) (R.remaining input.new.inner)
+        (W.contents output.old.inner) (W.contents output.new.inner) input.new.last_len }
     ensures read_failed { IsErrOf result LinesError.Read →
         (input.old.failures < input.new.failures) ⊎ (input.new.calls ≡ greatest_count) }
     ensures write_failed { IsErrOf result LinesError.Write →
@@ -154,6 +162,10 @@ pub fn filter_lines_by<R: Read, W: Write, L: LineWriter>(
     ensures stopped { IfErr result (Stopped (L.writes (L.view line_writer.old))
         (R.remaining input.old.inner) (R.remaining input.new.inner)
         (W.contents output.old.inner) (W.contents output.new.inner)) }
+    ensures of_last_read { IsErrOf result LinesError.Memory
+        → StoppedShort (L.writes (L.view line_writer.old))
+        (R.remaining input.old.inner) (R.remaining input.new.inner)
+        (W.contents output.old.inner) (W.contents output.new.inner) input.new.last_len }
     ensures read_failed { IsErrOf result LinesError.Read →
         (input.old.failures < input.new.failures) ⊎ (input.new.calls ≡ greatest_count) }
     ensures write_failed { IsErrOf result LinesError.Write →
@@ -184,7 +196,7 @@ fn take_all<R: Read, W: Write, L: LineWriter>(
         (W.contents output.old.inner) (W.contents output.new.inner) sieve.new) }
     ensures stopped { IfErr result (Halted (L.writes (L.view line_writer.old))
         (R.remaining input.old.inner) (R.remaining input.new.inner)
-        (W.contents output.old.inner) (W.contents output.new.inner) sieve.new) }
+        (W.contents output.old.inner) (W.contents output.new.inner) input.new.last_len sieve.new) }
     ensures read_failed { IsErrOf result LinesError.Read →
         (input.old.failures < input.new.failures) ⊎ (input.new.calls ≡ greatest_count) }
     ensures write_failed { IsErrOf result LinesError.Write →

@@ -47,14 +47,15 @@ pub record Came (Writes : List ℕ → List ℕ → Type 0) (left left' held hel
   pub writes : Appends held held' written
   pub sifted : SieveSifted Writes taken written s
 
--- what was read was taken in, except a rest of the last read
+-- what was read was taken in, except a rest of the last read, which was of so many bytes
 pub record CameShort (Writes : List ℕ → List ℕ → Type 0) (left left' held held' : Option (List ℕ))
-    (s : Sieve) : Type 0 where
+    (last_len : ℕ) (s : Sieve) : Type 0 where
   pub front : List ℕ
   pub rest : List ℕ
   pub written : List ℕ
   pub reads : Consumes left left' (front ++ rest)
-  pub of_one_read : length rest ≤ 65536
+  pub of_one_read : length rest ≤ last_len
+  pub of_one_chunk : length rest ≤ 65536
   pub writes : Appends held held' written
   pub sifted : SieveSifted Writes front written s
 
@@ -69,9 +70,9 @@ pub record Finished (Writes : List ℕ → List ℕ → Type 0) (left left' held
   pub sifted : AllSifted Writes taken written s
 
 -- what happened until an error, before the waiting bytes are written; after a failed write nothing waits
-abbrev pub Halted : (List ℕ → List ℕ → Type 0) → (left left' held held' : Option (List ℕ)) → Sieve
-    → LinesError → Type 0
-Halted Writes left left' held held' s Read = Came Writes left left' held held' s
-Halted Writes left left' held held' s Write =
+abbrev pub Halted : (List ℕ → List ℕ → Type 0) → (left left' held held' : Option (List ℕ)) (last_len : ℕ)
+    → Sieve → LinesError → Type 0
+Halted Writes left left' held held' last_len s Read = Came Writes left left' held held' s
+Halted Writes left left' held held' last_len s Write =
     StoppedWriting Writes left left' held held' × (s.kept.bytes.items ≡ [])
-Halted Writes left left' held held' s Memory = CameShort Writes left left' held held' s
+Halted Writes left left' held held' last_len s Memory = CameShort Writes left left' held held' last_len s

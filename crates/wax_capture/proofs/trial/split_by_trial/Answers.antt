@@ -31,10 +31,9 @@ returns-in_err-take_next-clause-above c =
     omega (
       arith,
       c.if-count-last.false,
-      c.count-else-index-pieces.ensures.exact
-          (omega (arith, c.if-count-last.false, c.saturating_add-last.type_inv)),
+      c.count-else-index-pieces.ensures,
       c.saturating_add-last.ensures,
-      c.count.ensures.above,
+      c.count.ensures,
     ) in
     let read : c.take_next.new.visits ≤ c.args.visits.now + c.args.limit + 2 * (all_sizes ps * n) =
     reads_next ps i p c.if-index-pieces.false c.index-pieces-index.is c.args.visits.now c.loop.visits
@@ -53,10 +52,9 @@ returns-in_default-clause-above c =
     omega (
       arith,
       c.if-count-last.false,
-      c.count-else-index-pieces.ensures.exact
-          (omega (arith, c.if-count-last.false, c.saturating_add-last.type_inv)),
+      c.count-else-index-pieces.ensures,
       c.saturating_add-last.ensures,
-      c.count.ensures.above,
+      c.count.ensures,
     ) in
     let read : c.take_next.new.visits ≤ c.args.visits.now + c.args.limit + 2 * (all_sizes ps * n) =
     reads_next ps i p c.if-index-pieces.false c.index-pieces-index.is c.args.visits.now c.loop.visits
@@ -75,10 +73,9 @@ returns-in_err-push-clause-above c =
     omega (
       arith,
       c.if-count-last.false,
-      c.count-else-index-pieces.ensures.exact
-          (omega (arith, c.if-count-last.false, c.saturating_add-last.type_inv)),
+      c.count-else-index-pieces.ensures,
       c.saturating_add-last.ensures,
-      c.count.ensures.above,
+      c.count.ensures,
     ) in
     let read : c.take_next.new.visits ≤ c.args.visits.now + c.args.limit + 2 * (all_sizes ps * n) =
     reads_next ps i p c.if-index-pieces.false c.index-pieces-index.is c.args.visits.now c.loop.visits
@@ -97,10 +94,9 @@ returns-in_err-push-2-clause-above c =
     omega (
       arith,
       c.if-count-last.false,
-      c.count-else-index-pieces.ensures.exact
-          (omega (arith, c.if-count-last.false, c.saturating_add-last.type_inv)),
+      c.count-else-index-pieces.ensures,
       c.saturating_add-last.ensures,
-      c.count.ensures.above,
+      c.count.ensures,
     ) in
     let read : c.take_next.new.visits ≤ c.args.visits.now + c.args.limit + 2 * (all_sizes ps * n) =
     reads_next ps i p c.if-index-pieces.false c.index-pieces-index.is c.args.visits.now c.loop.visits
@@ -119,10 +115,9 @@ returns-then-place_after-len-clause-above c =
     omega (
       arith,
       c.if-count-last.false,
-      c.count-else-index-pieces.ensures.exact
-          (omega (arith, c.if-count-last.false, c.saturating_add-last.type_inv)),
+      c.count-else-index-pieces.ensures,
       c.saturating_add-last.ensures,
-      c.count.ensures.above,
+      c.count.ensures,
     ) in
     let read : c.take_next.new.visits ≤ c.args.visits.now + c.args.limit + 2 * (all_sizes ps * n) =
     reads_next ps i p c.if-index-pieces.false c.index-pieces-index.is c.args.visits.now c.loop.visits
@@ -288,10 +283,9 @@ loop-preserved c =
     omega (
       arith,
       c.if-count-last.false,
-      c.count-else-index-pieces.ensures.exact
-          (omega (arith, c.if-count-last.false, c.saturating_add-last.type_inv)),
+      c.count-else-index-pieces.ensures,
       c.saturating_add-last.ensures,
-      c.count.ensures.above,
+      c.count.ensures,
     ) in
     let read : c.take_next.new.visits ≤ c.args.visits.now + c.args.limit + 2 * (all_sizes ps * n) =
     reads_next ps i p c.if-index-pieces.false c.index-pieces-index.is c.args.visits.now c.loop.visits

@@ -2,7 +2,7 @@ use Rattle.std.proofs.Common.{sym, subst}
 use Rattle.std.proofs.lemmas.Result.{IfOk-weaker, IfErr-weaker}
 use Rattle.wax_lines.specs.Lines.{Stopped, WritesCaptures}
 use Rattle.wax_lines.proofs.Runs.{stopped_at_once}
-use Rattle.wax_lines.proofs.Same.{filtered_as, stopped_as, captured_as}
+use Rattle.wax_lines.proofs.Same.{filtered_as, short_as, stopped_as, captured_as}
 use Rattle.wax_lines.proofs.Sifting.{if_err}
 use Rattle.wax_lines.proofs.lines.capture_lines.Goals as goal
 
@@ -13,7 +13,14 @@ returns-in_err-matcher-clause-stopped g c =
     let Writes =
     WritesCaptures (g.P.Program.means c.args.program.now) (g.P.Program.captured c.args.program.now) in
     if_err _ c.from_residual.result c.from_residual.ensures.1
-    (λ e q. subst (Stopped Writes left left held held) (sym q) (stopped_at_once Writes left held))
+    (λ e q. subst (Stopped Writes left left held held) (sym q) (stopped_at_once Writes left held 65536))
+
+pub returns-in_err-matcher-clause-of_last_read : goal.returns-in_err-matcher-clause-of_last_read
+returns-in_err-matcher-clause-of_last_read g c _ =
+    stopped_at_once (WritesCaptures (g.P.Program.means c.args.program.now)
+    (g.P.Program.captured c.args.program.now))
+    (g.R.Read.remaining c.args.input.now.inner) (g.W.Write.contents c.args.output.now.inner)
+    c.args.input.now.last_len
 
 pub returns-clause-done : goal.returns-clause-done
 returns-clause-done g c =
@@ -28,3 +35,9 @@ returns-clause-stopped g c =
     (g.met.P.Program.is_decided c.args.program.now) (g.P.Program.captured c.args.program.now) in
     IfErr-weaker c.filter_lines_by.result _ _ (λ error h. stopped_as _ _ alike _ _ _ _ error h)
     c.filter_lines_by.ensures.stopped
+
+pub returns-clause-of_last_read : goal.returns-clause-of_last_read
+returns-clause-of_last_read g c is_memory =
+    let alike = captured_as _ _ (g.P.Program.means c.args.program.now) c.in_ok-matcher.ensures.decides
+    (g.met.P.Program.is_decided c.args.program.now) (g.P.Program.captured c.args.program.now) in
+    short_as _ _ alike _ _ _ _ _ (c.filter_lines_by.ensures.of_last_read is_memory)

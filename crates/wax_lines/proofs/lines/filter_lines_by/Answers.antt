@@ -2,7 +2,8 @@ use Rattle.std.proofs.Common.{◌∙◌, sym, ap, subst, Err, arith}
 use Rattle.wax_lines.specs.Lines.{Stopped}
 use Rattle.wax_lines.proofs.Counting.{grew_after, grew_before}
 use Rattle.wax_lines.proofs.Sifting.{if_err, same_err}
-use Rattle.wax_lines.proofs.Runs.{stopped_at_once, Ended-writing, Halted-written, Finished-written}
+use Rattle.wax_lines.proofs.Runs.{stopped_at_once, Ended-writing, Halted-short, Halted-written}
+use Rattle.wax_lines.proofs.Runs.{Finished-written}
 use Rattle.wax_lines.proofs.lines.filter_lines_by.Goals as goal
 
 pub returns-in_err-chunk-clause-stopped : goal.returns-in_err-chunk-clause-stopped
@@ -11,7 +12,13 @@ returns-in_err-chunk-clause-stopped g c =
     let held = g.W.Write.contents c.args.output.now.inner in
     if_err _ c.from_residual.result c.from_residual.ensures.1 (λ e q. subst (Stopped
     (g.L.LineWriter.writes (g.L.LineWriter.view c.args.line_writer.now)) left left held held) (sym q)
-    (stopped_at_once (g.L.LineWriter.writes (g.L.LineWriter.view c.args.line_writer.now)) left held))
+    (stopped_at_once (g.L.LineWriter.writes (g.L.LineWriter.view c.args.line_writer.now)) left held 65536))
+
+pub returns-in_err-chunk-clause-of_last_read : goal.returns-in_err-chunk-clause-of_last_read
+returns-in_err-chunk-clause-of_last_read g c _ =
+    stopped_at_once (g.L.LineWriter.writes (g.L.LineWriter.view c.args.line_writer.now))
+    (g.R.Read.remaining c.args.input.now.inner) (g.W.Write.contents c.args.output.now.inner)
+    c.args.input.now.last_len
 
 pub returns-in_err-write_out-clause-stopped : goal.returns-in_err-write_out-clause-stopped
 returns-in_err-write_out-clause-stopped g c =
@@ -24,7 +31,8 @@ returns-in_err-write_out-clause-stopped g c =
     (Stopped (g.L.LineWriter.writes (g.L.LineWriter.view c.args.line_writer.now)) left left' held held')
     (sym (q ∙ is_write))
     (Ended-writing (g.L.LineWriter.writes (g.L.LineWriter.view c.args.line_writer.now)) left left'
-    held _ held' c.take_all-taken.new.sieve c.take_all-taken.result c.take_all-taken.ensures.done
+    held _ held' c.take_all-taken.new.input.last_len c.take_all-taken.new.sieve c.take_all-taken.result
+    c.take_all-taken.ensures.done
     c.take_all-taken.ensures.stopped part))
 
 pub returns-in_err-write_out-clause-write_failed : goal.returns-in_err-write_out-clause-write_failed
@@ -41,8 +49,17 @@ returns-in_err-taken-clause-stopped g c =
     if_err _ c.from_residual-in_err-taken.result c.from_residual-in_err-taken.ensures.1 (λ e q. subst (Stopped
     (g.L.LineWriter.writes (g.L.LineWriter.view c.args.line_writer.now)) left left' held held') (sym q)
     (Halted-written (g.L.LineWriter.writes (g.L.LineWriter.view c.args.line_writer.now)) left left'
-    held _ held' c.take_all-taken.new.sieve c.in_err-taken.field-0.0 c.in_err-taken.ensures.stopped
-    c.in_ok-write_out.ensures.ok))
+    held _ held' c.take_all-taken.new.input.last_len c.take_all-taken.new.sieve c.in_err-taken.field-0.0
+    c.in_err-taken.ensures.stopped c.in_ok-write_out.ensures.ok))
+
+pub returns-in_err-taken-clause-of_last_read : goal.returns-in_err-taken-clause-of_last_read
+returns-in_err-taken-clause-of_last_read g c is_memory =
+    Halted-short (g.L.LineWriter.writes (g.L.LineWriter.view c.args.line_writer.now))
+    (g.R.Read.remaining c.args.input.now.inner) (g.R.Read.remaining c.take_all-taken.new.input.inner)
+    (g.W.Write.contents c.args.output.now.inner) _ (g.W.Write.contents c.write_out.new.output.inner)
+    c.take_all-taken.new.input.last_len c.take_all-taken.new.sieve c.in_err-taken.field-0.0
+    c.in_err-taken.ensures.stopped (same_err c.from_residual-in_err-taken.result c.in_err-taken.field-0.0 _
+    c.from_residual-in_err-taken.ensures.1 is_memory) c.in_ok-write_out.ensures.ok
 
 pub returns-in_err-taken-clause-read_failed : goal.returns-in_err-taken-clause-read_failed
 returns-in_err-taken-clause-read_failed g c is_read =

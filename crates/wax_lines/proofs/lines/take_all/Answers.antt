@@ -12,9 +12,9 @@ returns-in_err-take_last-clause-stopped g c =
     let none = subst (λ n. Consumes (g.R.Read.remaining c.loop-input.input.inner) (g.R.Read.remaining
     c.read.new.self.inner) (take n c.read.new.buf)) c.if-count-eq0.true c.in-Ok.ensures.bytes.0 in
     if_err _ c.from_residual.result c.from_residual.ensures.1 (λ e q. subst (Halted (g.L.LineWriter.writes
-    (g.L.LineWriter.view c.args.line_writer.now)) _ _ _ _ c.take_last.new.self) (sym q)
+    (g.L.LineWriter.view c.args.line_writer.now)) _ _ _ _ _ c.take_last.new.self) (sym q)
     (came_short (g.L.LineWriter.writes (g.L.LineWriter.view c.args.line_writer.now)) _ _ _
-    _ c.take_last.new.self
+    _ _ c.take_last.new.self
     (Came-chunk (g.L.LineWriter.writes (g.L.LineWriter.view c.args.line_writer.now)) _ _ _ _ _
     c.loop-input.sieve c.take_last.new.self [] c.loop-input.invariant.0 none
     (subst (λ v. TakesIn (g.L.LineWriter.writes v) [] c.loop-input.sieve c.take_last.new.self)
@@ -23,9 +23,10 @@ returns-in_err-take_last-clause-stopped g c =
 pub returns-in_err-take-clause-stopped : goal.returns-in_err-take-clause-stopped
 returns-in_err-take-clause-stopped g c =
     if_err _ c.from_residual-in_err-take.result c.from_residual-in_err-take.ensures.1 (λ e q. subst (Halted
-    (g.L.LineWriter.writes (g.L.LineWriter.view c.args.line_writer.now)) _ _ _ _ c.take.new.self) (sym q)
-    (Came-part (g.L.LineWriter.writes (g.L.LineWriter.view c.args.line_writer.now)) _ _ _ _ _
+    (g.L.LineWriter.writes (g.L.LineWriter.view c.args.line_writer.now)) _ _ _ _ _ c.take.new.self) (sym q)
+    (Came-part (g.L.LineWriter.writes (g.L.LineWriter.view c.args.line_writer.now)) _ _ _ _ _ _
     c.loop-input.sieve c.take.new.self (take c.in-Ok.count c.read.new.buf)
+    (omega (arith, length-take c.in-Ok.count c.read.new.buf, c.in-Ok.ensures.last_len))
     (omega (arith, length-take c.in-Ok.count c.read.new.buf, c.read.auto.buf)) c.loop-input.invariant.0
     c.in-Ok.ensures.bytes.0
     (subst (λ v. TakesInPart (g.L.LineWriter.writes v) (take c.in-Ok.count c.read.new.buf) c.loop-input.sieve
@@ -57,10 +58,10 @@ returns-in_err-write_out-clause-stopped g c =
     let (is_write, part) = c.in_err-write_out.ensures.err in
     if_err _ c.from_residual-in_err-write_out.result
     c.from_residual-in_err-write_out.ensures.1 (λ e q. subst (Halted (g.L.LineWriter.writes
-    (g.L.LineWriter.view c.args.line_writer.now)) _ _ _ _ c.write_out.new.self) (sym (q ∙ is_write)) (
-      Short-writing (g.L.LineWriter.writes (g.L.LineWriter.view c.args.line_writer.now)) _ _ _ _ _
+    (g.L.LineWriter.view c.args.line_writer.now)) _ _ _ _ _ c.write_out.new.self) (sym (q ∙ is_write)) (
+      Short-writing (g.L.LineWriter.writes (g.L.LineWriter.view c.args.line_writer.now)) _ _ _ _ _ 0
           c.take.new.self (came_short (g.L.LineWriter.writes (g.L.LineWriter.view c.args.line_writer.now)) _ _
-          _ _ c.take.new.self came) part,
+          _ _ 0 c.take.new.self came) part,
       c.in_err-write_out.ensures.empty,
     ))
 

@@ -32,7 +32,7 @@ returns-in_default-clause-square c = λ ts are.
     rw text at c.split.ensures.above in
     visits_square (all_sizes ps) (costs ts) c.count.result m
     (pieces_few ts false false ps (subst (ArePieces ts false false) (sym same) are))
-    (omega (arith, read, c.new-visits.ensures, c.count.ensures.above))
+    (omega (arith, read, c.new-visits.ensures, c.count.ensures))
 
 pub returns-in_default-clause-above : goal.returns-in_default-clause-above
 returns-in_default-clause-above c = λ ts are. visits_cube (costs ts) c.count.result
@@ -79,7 +79,7 @@ returns-clause-square c = λ ts are.
     visits_taken (all_sizes ps) (costs ts) c.count-2.result m
     (pieces_few ts false false ps (subst (ArePieces ts false false) (sym same) are))
     (captured_length ps (chars c.args.text.now) _ captured)
-    (omega (arith, read, taken, c.new-visits.ensures, c.count-2.ensures.above))
+    (omega (arith, read, taken, c.new-visits.ensures, c.count-2.ensures))
 
 pub returns-clause-above : goal.returns-clause-above
 returns-clause-above c = λ ts are. visits_cube (costs ts) c.count-2.result (length (chars c.args.text.now))
