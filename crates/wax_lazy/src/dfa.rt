@@ -1,5 +1,6 @@
 //! Deciding many texts by one program.
-ghost use Rattle.std.specs.Prelude.{◌≡◌, ◌≤◌, ◌↔◌, IfOk, IsFalse, IsTrue, List, chars, is_some, length};
+ghost use Rattle.std.specs.Prelude.{◌≡◌, ◌≤◌, ◌↔◌, IfOk, IsFalse, IsTrue, List, None, Some, chars};
+ghost use Rattle.std.specs.Prelude.{is_some, length};
 ghost use Rattle.wax_lazy.specs.Dfa.{IsDfaOf};
 ghost use Rattle.wax_lazy.specs.Numbers.{AreNumbers};
 ghost use Rattle.wax_lazy.specs.Verdict.{IsVerdict};
@@ -7,14 +8,16 @@ ghost use Rattle.wax_lazy.specs.inner.Cached.{IsFollowed, IsKeptFor, numbers_kno
 ghost use Rattle.wax_program.specs.Closed.{IsClosed};
 ghost use Rattle.wax_program.specs.Last.{ReadsLast};
 ghost use Rattle.wax_program.specs.Machine.{Accepts};
-ghost use Rattle.wax_program.specs.Onward.{AreFlagsOf};
+ghost use Rattle.wax_program.specs.Onward.{AreFlagsOf, AreLevelsOf, HasLevel};
 ghost use Rattle.wax_program.specs.declared.instruction.Instruction.{Instruction};
 
 use crate::cache::Cache;
 use crate::ends::{accepts, find_numbers, verdict_at};
 use crate::following::follow_text;
 use std::alloc::{AllocError, Global};
-use wax_program::{Ahead, CompiledProgram, Meter, Onward, last_name, reads_last, run, run_last};
+use wax_program::{
+    Ahead, CompiledProgram, Levels, Meter, Onward, last_name, reads_last, run, run_last,
+};
 use wax_query::diagnostics::NoMemory;
 use wax_query::query::Verdict;
 use wax_states::StateId;
@@ -39,8 +42,10 @@ pub struct LazyDfa {
     most_bytes: usize,
     /// The states that texts led to, from the first text on.
     cache: Option<Cache>,
-    /// The places of the program that lead on, from the first verdict on.
+    /// The places of the program that lead on, from the first verdict without a limit on.
     onward: Option<Onward>,
+    /// Those for each limit of names, from the first verdict with a limit on.
+    levels: Option<Levels>,
     /// Counts the instructions that were read, for all texts.
     meter: Meter,
 }
@@ -69,6 +74,7 @@ impl LazyDfa {
             most_bytes,
             cache: None,
             onward: None,
+            levels: None,
             meter,
         }
     }
@@ -139,8 +145,9 @@ impl LazyDfa {
         }
     }
 
-    /// Returns whether the program accepts the text, and whether it accepts one of something below
-    /// the folder with this text. The first verdict finds the places of the program that lead on.
+    /// Returns whether the program accepts the text, and whether it accepts one of something at most
+    /// `most` names below the folder with this text; without a limit if it is `None`. The first verdict
+    /// with each limit finds the places of the program that lead on.
     ///
     /// # Errors
     ///
@@ -150,21 +157,73 @@ impl LazyDfa {
         alloc: Global,
         program: &CompiledProgram,
         text: &str,
+        most: Option<usize>,
     ) -> Result<Verdict, NoMemory>
         requires { IsDfaOf program.now.0 self.old }
         ensures dfa { IsDfaOf program.now.0 self.new }
-        ensures decides { IfOk result (IsVerdict program.now.0 (chars text.now)) }
+        ensures decides { IfOk result (IsVerdict program.now.0 most (chars text.now)) }
+    {
+        match most {
+            Some(most) => self.verdict_within(alloc, program, text, most),
+            None => self.verdict_without_limit(alloc, program, text),
+        }
+    }
+
+    /// Returns both answers, where something below has at most `most` names below the folder.
+    fn verdict_within(
+        &mut self,
+        alloc: Global,
+        program: &CompiledProgram,
+        text: &str,
+        most: usize,
+    ) -> Result<Verdict, NoMemory>
+        requires { IsDfaOf program.now.0 self.old }
+        ensures dfa { IsDfaOf program.now.0 self.new }
+        ensures decides { IfOk result (IsVerdict program.now.0 (Some most) (chars text.now)) }
+    {
+        let levels = self.take_levels(alloc, program, most)?;
+        let verdict = self.verdict_by(alloc, program, levels.level(most), text, Some(most));
+        self.levels = Some(levels);
+        Ok(verdict?)
+    }
+
+    /// Returns both answers, where something below has any number of names below the folder.
+    fn verdict_without_limit(
+        &mut self,
+        alloc: Global,
+        program: &CompiledProgram,
+        text: &str,
+    ) -> Result<Verdict, NoMemory>
+        requires { IsDfaOf program.now.0 self.old }
+        ensures dfa { IsDfaOf program.now.0 self.new }
+        ensures decides { IfOk result (IsVerdict program.now.0 None (chars text.now)) }
     {
         let onward = self.take_onward(alloc, program)?;
-        self.prepare(alloc, program)?;
-        let Some(mut cache) = self.cache.take() else {
-            unreachable!();
-        };
-        let meter = &mut self.meter;
-        let verdict = judge(program, &onward, self.reads_last, &mut cache, text, meter);
-        self.cache = Some(cache);
+        let verdict = self.verdict_by(alloc, program, &onward, text, None);
         self.onward = Some(onward);
         Ok(verdict?)
+    }
+
+    /// Returns both answers by the places that lead on.
+    fn verdict_by(
+        &mut self,
+        alloc: Global,
+        program: &CompiledProgram,
+        onward: &Onward,
+        text: &str,
+        most: Option<usize>,
+    ) -> Result<Verdict, AllocError>
+        requires dfa { IsDfaOf program.now.0 self.old }
+        requires onward { AreFlagsOf program.now.0 most onward.now }
+        ensures dfa { IsDfaOf program.now.0 self.new }
+        ensures decides { IfOk result (IsVerdict program.now.0 most (chars text.now)) }
+    {
+        self.prepare(alloc, program)?;
+        let meter = &mut self.meter;
+        match &mut self.cache {
+            Some(cache) => judge(program, onward, self.reads_last, cache, text, most, meter),
+            None => unreachable!(),
+        }
     }
 
     /// Follows the text, and finds the numbers of the patterns that match it. Returns the state that
@@ -199,7 +258,7 @@ impl LazyDfa {
         }
     }
 
-    /// Takes out the places that lead on, or finds them.
+    /// Takes out the places that lead on without a limit, or finds them.
     fn take_onward(
         &mut self,
         alloc: Global,
@@ -207,12 +266,33 @@ impl LazyDfa {
     ) -> Result<Onward, AllocError>
         requires { IsDfaOf program.now.0 self.old }
         ensures dfa { IsDfaOf program.now.0 self.new }
-        ensures onward { IfOk result (AreFlagsOf program.now.0) }
+        ensures onward { IfOk result (AreFlagsOf program.now.0 None) }
     {
         match self.onward.take() {
             Some(onward) => Ok(onward),
             None => Onward::new(alloc, program, &mut self.meter),
         }
+    }
+
+    /// Takes out the places that lead on for each limit that is known, and adds those for this limit. If
+    /// that fails, they are found anew later.
+    fn take_levels(
+        &mut self,
+        alloc: Global,
+        program: &CompiledProgram,
+        most: usize,
+    ) -> Result<Levels, AllocError>
+        requires { IsDfaOf program.now.0 self.old }
+        ensures dfa { IsDfaOf program.now.0 self.new }
+        ensures levels { IfOk result (AreLevelsOf program.now.0) }
+        ensures found { IfOk result (λ levels. HasLevel levels most) }
+    {
+        let mut levels = match self.levels.take() {
+            Some(levels) => levels,
+            None => Levels::new(alloc),
+        };
+        levels.find(alloc, program, most, &mut self.meter)?;
+        Ok(levels)
     }
 
     /// Returns whether states were removed before they had served enough text.
@@ -236,7 +316,8 @@ fn followed(text: &str, reads_last: bool) -> &str
     text
 }
 
-/// Follows a text, and returns both answers. If only the last component matters, something below is
+/// Follows a text, and returns both answers, where something below has at most `most` names below the
+/// folder; without a limit if it is `None`. If only the last component matters, something below is
 /// accepted if any plain path is.
 fn judge(
     program: &CompiledProgram,
@@ -244,13 +325,14 @@ fn judge(
     reads_last: bool,
     cache: &mut Cache,
     text: &str,
+    most: Option<usize>,
     meter: &mut Meter,
 ) -> Result<Verdict, AllocError>
     requires cache { IsKeptFor program.now.0 reads_last cache.old }
-    requires onward { AreFlagsOf program.now.0 onward.now }
+    requires onward { AreFlagsOf program.now.0 most onward.now }
     requires last { IsTrue reads_last → ReadsLast program.now.0 }
     ensures cache { IsKeptFor program.now.0 reads_last cache.new }
-    ensures decides { IfOk result (IsVerdict program.now.0 (chars text.now)) }
+    ensures decides { IfOk result (IsVerdict program.now.0 most (chars text.now)) }
 {
     if reads_last {
         let is_match = accepts(program, cache, last_name(text), meter)?;
@@ -260,7 +342,8 @@ fn judge(
         });
     }
     let next = follow_text(program, cache, text, meter)?;
-    Ok(verdict_at(program, onward, cache, next, Ahead::below(text), meter))
+    let ahead = Ahead::below(text);
+    Ok(verdict_at(program, onward, cache, next, ahead, most, meter))
 }
 
 /// Decides a text by a run of the program.

@@ -6,7 +6,8 @@ ghost use Rattle.wax_lazy.specs.inner.Cached.{numbers_at};
 ghost use Rattle.wax_lazy.specs.Numbers.{AreNumbersFrom};
 ghost use Rattle.wax_program.specs.Closed.{IsClosed};
 ghost use Rattle.wax_program.specs.Machine.{Accepts};
-ghost use Rattle.wax_program.specs.Onward.{AreFlagsOf};
+ghost use Rattle.wax_program.specs.Onward.{AreFlagsOf, IsAhead};
+ghost use Rattle.wax_query.specs.Ranges.{AtMost};
 
 use crate::cache::Cache;
 use crate::following::follow_text;
@@ -58,22 +59,24 @@ pub(crate) fn find_numbers(
     }
 }
 
-/// Returns both answers for a text that led to `next` and goes on in the given way.
+/// Returns both answers for a text that led to `next` and goes on in the given way, with at most `most`
+/// names; without a limit if it is `None`.
 pub fn verdict_at(
     program: &CompiledProgram,
     onward: &Onward,
     cache: &mut Cache,
     next: Next,
     m: Ahead,
+    most: Option<usize>,
     meter: &mut Meter,
 ) -> Verdict
     requires cache { IsCacheOf program.now.0 cache.old }
-    requires onward { AreFlagsOf program.now.0 onward.now }
+    requires onward { AreFlagsOf program.now.0 most onward.now }
     requires has_state { IfSome (state_of next) (HasState cache.old.table.states.items) }
     ensures kept { KeepsCache program.now.0 cache.old cache.new }
     ensures decides { (text : List ℕ)
         → LeadsText program.now.0 cache.old.table.states.items cache.old.start text next
-        → IsAheadVerdict program.now.0 cache.old.start text m result }
+        → IsAheadVerdict program.now.0 most cache.old.start text m result }
 {
     match next {
         Next::To(state) => Verdict {
@@ -86,8 +89,29 @@ pub fn verdict_at(
         },
         Next::Everything => Verdict {
             is_match: true,
-            goes_on: true,
+            goes_on: has_text(m, most),
         },
+    }
+}
+
+/// Returns whether there is a text of the kind with at most `most` names; without a limit if it is
+/// `None`. The rest of a name needs no other name.
+fn has_text(m: Ahead, most: Option<usize>) -> bool
+    ensures { IsTrue result ↔ ((s : List ℕ) × IsAhead most m s) }
+{
+    match m {
+        Ahead::Rest => true,
+        Ahead::Path | Ahead::Below => allows_one(most),
+    }
+}
+
+/// Returns whether one name is within the limit.
+fn allows_one(most: Option<usize>) -> bool
+    ensures { IsTrue result ↔ AtMost 1 most }
+{
+    match most {
+        Some(most) => most > 0,
+        None => true,
     }
 }
 

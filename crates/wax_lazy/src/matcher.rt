@@ -154,19 +154,22 @@ impl<P: HasProgram> Matcher<P> {
         self.dfa.is_match(self.alloc, self.program.program(), text)
     }
 
-    /// Returns whether the program accepts the text, and whether it accepts one of something below
-    /// the folder with this text. Reads the text once. The first verdict finds the places of the
-    /// program that lead on: that takes time linear in the program, and as much again for each of
-    /// the loops that lie within one another.
+    /// Returns whether the program accepts the text, and whether it accepts one of something at most
+    /// `most` names below the folder with this text; without a limit if it is `None`. Reads the text
+    /// once. The first verdict without a limit finds the places of the program that lead on: that takes
+    /// time linear in the program, and as much again for each of the loops that lie within one another.
+    /// The first verdict with a limit takes as much for each number of names up to the limit, as long as
+    /// more places lead on with one name more.
     ///
     /// # Errors
     ///
     /// Returns `NoMemory` if allocation fails. The matcher can be used for further texts even then.
-    pub fn verdict(&mut self, text: &str) -> Result<Verdict, NoMemory>
-        ensures decides { IfOk result (IsVerdict self.old (chars text.now)) }
+    pub fn verdict(&mut self, text: &str, most: Option<usize>) -> Result<Verdict, NoMemory>
+        ensures decides { IfOk result (IsVerdict self.old most (chars text.now)) }
         ensures same { self.new ≡ self.old }
     {
-        self.dfa.verdict(self.alloc, self.program.program(), text)
+        self.dfa
+            .verdict(self.alloc, self.program.program(), text, most)
     }
 
     /// Writes the numbers of the patterns that match the text, ascending. The program has to be one

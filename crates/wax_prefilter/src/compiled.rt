@@ -1,6 +1,6 @@
 //! A program with the facts by which most texts are rejected before it is run.
 ghost use Rattle.std.specs.Prelude.{◌≡◌, ◌+◌, ◌*◌, ◌++◌, ◌∷◌, ◌<◌, ◌≤◌, ◌↔◌, [], ℕ, List, IfOk, IsTrue};
-ghost use Rattle.std.specs.Prelude.{chars, false, length, min};
+ghost use Rattle.std.specs.Prelude.{None, chars, false, length, min};
 ghost use Rattle.std.specs.Str.{IsUtf8};
 ghost use Rattle.wax_lazy.specs.Verdict.{AcceptsBelow, IsVerdict};
 ghost use Rattle.wax_program.specs.Last.{IsLastName};
@@ -163,10 +163,10 @@ impl CompiledTokens {
     /// of the program that lead on, in time linear in the program, and as much again for each of the
     /// loops that lie within one another. For many folders a matcher is faster, which finds them once.
     pub fn goes_on(&self, alloc: Global, text: &str) -> Result<bool, NoMemory>
-        ensures { IfOk result (λ answer. IsTrue answer ↔ AcceptsBelow self.now.0 (chars text.now)) }
+        ensures { IfOk result (λ answer. IsTrue answer ↔ AcceptsBelow self.now.0 None (chars text.now)) }
     {
         let mut matcher = Matcher::new(alloc, &self.program)?;
-        let verdict = matcher.verdict(text)?;
+        let verdict = matcher.verdict(text, None)?;
         Ok(verdict.goes_on)
     }
 
@@ -187,17 +187,23 @@ impl CompiledTokens {
         self.dfa.is_match(alloc, &self.program, text)
     }
 
-    /// Returns whether the tokens match the text, and whether they match something below the folder
-    /// with this text, with the help of what is kept of earlier texts. Reads the text once.
+    /// Returns whether the tokens match the text, and whether they match something at most `most` names
+    /// below the folder with this text; without a limit if it is `None`. Uses what is kept of earlier
+    /// texts. Reads the text once.
     ///
     /// # Errors
     ///
     /// Returns `NoMemory` if allocation fails. Further texts can be decided even then.
-    pub fn verdict_cached(&mut self, alloc: Global, text: &str) -> Result<Verdict, NoMemory>
-        ensures decides { IfOk result (IsVerdict self.old.0 (chars text.now)) }
+    pub fn verdict_cached(
+        &mut self,
+        alloc: Global,
+        text: &str,
+        most: Option<usize>,
+    ) -> Result<Verdict, NoMemory>
+        ensures decides { IfOk result (IsVerdict self.old.0 most (chars text.now)) }
         ensures same { self.new ≡ self.old }
     {
-        self.dfa.verdict(alloc, &self.program, text)
+        self.dfa.verdict(alloc, &self.program, text, most)
     }
 
     /// Returns how many bytes at the beginning of a text can be passed over in a search for lines

@@ -277,14 +277,14 @@ module _ (code : List Instruction) where
       pair e f = cc
 
   -- some text of the kind is accepted after the given one
-  pub ahead_decided : (m : Ahead) (start : ℕ) (text : List ℕ)
-      → Decided ((s : List ℕ) × IsAhead m s × Accepts code start (text ++ s))
-  ahead_decided m start text =
-      let (f, are) = flags_found code in
-      let (r, is) = after_exact text (IsAhead m) (flags_for m f) (are m) in
+  pub ahead_decided : (most : Option ℕ) (m : Ahead) (start : ℕ) (text : List ℕ)
+      → Decided ((s : List ℕ) × IsAhead most m s × Accepts code start (text ++ s))
+  ahead_decided most m start text =
+      let (f, are) = flags_found code most in
+      let (r, is) = after_exact text (IsAhead most m) (flags_for m f) (are m) in
       decided_by (
         (λ h. (let (t, g, a) = (is start).0 h in
-            let (rest, e, q) = after_split text (IsAhead m) t g in
+            let (rest, e, q) = after_split text (IsAhead most m) t g in
             (rest, q, subst (Accepts code start) e a))),
-        (λ (rest, q, a). (is start).1 (text ++ rest, after_append text (IsAhead m) rest q, a)),
+        (λ (rest, q, a). (is start).1 (text ++ rest, after_append text (IsAhead most m) rest q, a)),
       ) (is_true (slice_index_or r start false))

@@ -1,13 +1,13 @@
--- PlaceFlags that are added.
-use Rattle.std.proofs.Common.{◌≡◌, ◌⊎◌, ℕ, ◌+◌, ◌*◌, ◌<◌, ◌≤◌, Bool, true, Some, List, [], length, set}
-use Rattle.std.proofs.Common.{slice_get, inl, inr, refl, sym, ◌∙◌, ap, subst, arith}
+-- Flags that are added.
+use Rattle.std.proofs.Common.{◌≡◌, ◌⊎◌, ℕ, ◌+◌, ◌*◌, ◌<◌, ◌≤◌, Bool, true, Option, Some, List, [], length}
+use Rattle.std.proofs.Common.{set, slice_get, inl, inr, refl, sym, ◌∙◌, ap, subst, arith}
 use Rattle.wax_program.specs.Places.{HoldsPlace, Within, member_count}
 use Rattle.wax_program.proofs.Members.{added_keeps, added_only, has_added, members_set, members_within}
 use Rattle.wax_program.specs.declared.instruction.Instruction.{Instruction}
 use Rattle.wax_program.specs.declared.onward.Ahead.{Ahead}
 use Rattle.wax_program.specs.declared.onward.Ahead.TheVariants.{Rest, Path, Below}
 use Rattle.wax_program.specs.Onward.{PlaceFlags, GoesOn}
-use Rattle.wax_program.specs.inner.Leads.{AreSound, Gains, HaveRoom, Holds, LeadsOn, Marks, flag_count}
+use Rattle.wax_program.specs.inner.Leads.{AreSoundAfter, Gains, HaveRoom, Holds, LeadsOn, Marks, flag_count}
 use Rattle.wax_program.proofs.Leading.{leads_soundly, rest_ends}
 
 -- ---- one set
@@ -134,30 +134,32 @@ module _ (f : PlaceFlags) (x : List Bool) (k : ℕ) (within : k ≤ f.size) (roo
       (still_within f.below x k e (f.size + 1) inside room.below_within)
 
 -- ---- the flags of a program
-module _ (code : List Instruction) where
-  pub gains_none : (old new : PlaceFlags) → new ≡ old → Gains code old new
+module _ (code : List Instruction) (o : Option PlaceFlags) where
+  pub gains_none : (old new : PlaceFlags) → new ≡ old → Gains code o old new
   gains_none old new e = record {
     size = ap (λ f. f.size) e;
     keeps = λ m k h. subst (λ f. Holds f m k) (sym e) h;
-    sound = λ s. subst (AreSound code) (sym e) s;
+    sound = λ s. subst (AreSoundAfter code o) (sym e) s;
     counted = omega (arith, ap flag_count e);
   }
 
   pub gains_mark : (old new : PlaceFlags) (m : Ahead) (k : ℕ) → Marks old new m k → (i : Instruction)
-      → slice_get code k ≡ Some i → LeadsOn i old m k
-      → Gains code old new
+      → slice_get code k ≡ Some i → LeadsOn i o old m k
+      → Gains code o old new
   gains_mark old new m k marks i is leads = record {
     size = marks.size;
     keeps = marks.keeps;
-    sound = λ s n x h. elim (marks.only n x h) [
-      | inl g ↦ s n x g
-      | inr (en, ex) ↦ subst (λ n. GoesOn code n x) (sym en)
-          (subst (GoesOn code m) (sym ex) (leads_soundly code old s m k i is leads))
+    sound = λ s most earlier n x h. elim (marks.only n x h) [
+      | inl g ↦ s most earlier n x g
+      | inr (en, ex) ↦ subst (λ n. GoesOn code most n x) (sym en)
+          (subst (GoesOn code most m) (sym ex)
+          (leads_soundly code most o old earlier (s most earlier) m k i is leads))
     ];
     counted = omega (arith, marks.counted);
   }
 
-  pub gains_both : (old mid new : PlaceFlags) → Gains code old mid → Gains code mid new → Gains code old new
+  pub gains_both : (old mid new : PlaceFlags) → Gains code o old mid → Gains code o mid new
+      → Gains code o old new
   gains_both old mid new g h = record {
     size = h.size ∙ g.size;
     keeps = λ m k a. h.keeps m k (g.keeps m k a);
@@ -168,8 +170,9 @@ module _ (code : List Instruction) where
   -- the first flag is that of the program's end
   pub begins_soundly : (old new : PlaceFlags) (k : ℕ) → ((m : Ahead) (x : ℕ) → Holds old m x → ⊥)
       → Marks old new Rest k → k ≡ length code
-      → AreSound code new
-  begins_soundly old new k none marks e m x h = elim (marks.only m x h) [
+      → AreSoundAfter code o new
+  begins_soundly old new k none marks e most earlier m x h = elim (marks.only m x h) [
     | inl g ↦ absurd (none m x g)
-    | inr (em, ex) ↦ subst (λ m. GoesOn code m x) (sym em) ([], rest_ends, (1, inl (ex ∙ e, refl)))
+    | inr (em, ex) ↦ subst (λ m. GoesOn code most m x) (sym em)
+        ([], rest_ends most, (1, inl (ex ∙ e, refl)))
   ]

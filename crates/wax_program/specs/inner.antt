@@ -1,3 +1,4 @@
 pub mod Leads
 pub mod Names
+pub mod Ranges
 pub mod Slashes

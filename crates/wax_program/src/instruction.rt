@@ -1,11 +1,13 @@
 //! The instructions of a program.
-ghost use Rattle.std.specs.Prelude.{◌≡◌, ◌↔◌, IfOk, IsTrue, true};
+ghost use Rattle.std.specs.Prelude.{◌≡◌, ◌≢◌, ◌↔◌, ℕ, IfOk, IsTrue, true};
+ghost use Rattle.std.specs.Char.{IsScalar};
 ghost use Rattle.unicode.specs.CaseFolding.{simple_fold};
-ghost use Rattle.std.specs.List.{list_all, list_any};
+ghost use Rattle.std.specs.List.{list_all};
 ghost use Rattle.wax_program.specs.Machine.{PassesTest};
-ghost use Rattle.wax_program.specs.Onward.{FoldsOther, HoldsOther, TakesOther, is_other};
-ghost use Rattle.wax_token.specs.Meaning.{in_class, is_forward};
+ghost use Rattle.wax_program.specs.Onward.{FoldsOther, HoldsOther, IsOther, ListsOther, TakesOther};
+ghost use Rattle.wax_token.specs.Meaning.{in_archetype, in_class, is_forward};
 
+use crate::ranges::leaves_other;
 use std::alloc::{AllocError, Global};
 use std::marker::Model;
 use unicode::case::simple_fold;
@@ -109,19 +111,26 @@ impl Test {
     }
 
     /// Returns whether some character other than `/` passes. Takes time linear in the archetypes of
-    /// a class.
-    pub fn takes_other(&self) -> bool
-        ensures { IsTrue result ↔ TakesOther self.now }
+    /// a class, or what it takes to sort them if the class is negated.
+    pub fn takes_other(&self, alloc: Global) -> Result<bool, AllocError>
+        ensures { IfOk result (λ answer. IsTrue answer ↔ TakesOther self.now) }
     {
         match self {
-            Test::Char(d) => *d != '/',
-            Test::Folded(d) => folded_other(*d),
-            Test::Class(class) => holds_other(class),
-            Test::NotSlash => true,
-            Test::Any => true,
-            Test::Never => false,
+            Test::Char(d) => Ok(is_other(*d)),
+            Test::Folded(d) => Ok(folded_other(*d)),
+            Test::Class(class) => holds_other(alloc, class),
+            Test::NotSlash => Ok(true),
+            Test::Any => Ok(true),
+            Test::Never => Ok(false),
         }
     }
+}
+
+fn is_other(d: char) -> bool
+    ensures scalar { IsScalar d }
+    ensures other { IsTrue result ↔ (d ≢ 47) }
+{
+    d != '/'
 }
 
 /// Returns whether some character other than `/` has the simple case folding `d`. If one has, then
@@ -132,21 +141,24 @@ fn folded_other(d: char) -> bool
     d != '/' && folds_to(d, d)
 }
 
-fn holds_other(class: &BoxedClass) -> bool
-    ensures { IsTrue result ↔ HoldsOther class.now.0 class.now.1 }
+fn holds_other(alloc: Global, class: &BoxedClass) -> Result<bool, AllocError>
+    ensures { IfOk result (λ answer. IsTrue answer ↔ HoldsOther class.now.0 class.now.1) }
 {
-    class_other(class.class.is_negated(), class.class.archetypes())
+    class_other(alloc, class.class.is_negated(), class.class.archetypes())
 }
 
-/// Returns whether a class has a character: one that isn't negated has none if a range is reversed,
-/// or if all that it lists is `/`; one that is negated, only if a range is reversed.
-fn class_other(negated: bool, archetypes: &[Archetype]) -> bool
-    ensures { IsTrue result ↔ HoldsOther negated archetypes.now }
+/// Returns whether a class has a character. It has none if a range is reversed. One that isn't
+/// negated has none if all that it lists is `/`; one that is negated, if it lists all but `/`.
+fn class_other(alloc: Global, negated: bool, archetypes: &[Archetype]) -> Result<bool, AllocError>
+    ensures { IfOk result (λ answer. IsTrue answer ↔ HoldsOther negated archetypes.now) }
 {
     if !are_forward(archetypes) {
-        return false;
+        return Ok(false);
     }
-    negated || list_other(archetypes)
+    if negated {
+        return leaves_other(alloc, archetypes);
+    }
+    Ok(list_other(archetypes))
 }
 
 fn are_forward(archetypes: &[Archetype]) -> bool
@@ -166,17 +178,25 @@ fn is_forward(archetype: &Archetype) -> bool
 
 /// Returns whether one of the archetypes has a character other than `/`.
 fn list_other(archetypes: &[Archetype]) -> bool
-    ensures { result ≡ list_any is_other archetypes.now }
+    requires { list_all is_forward archetypes.now ≡ true }
+    ensures { IsTrue result ↔ ListsOther archetypes.now }
 {
-    archetypes.iter().any(|archetype| is_other(archetype))
+    for archetype in archetypes {
+        if has_other(archetype) {
+            return true;
+        }
+    }
+    false
 }
 
-fn is_other(archetype: &Archetype) -> bool
-    ensures { result ≡ is_other archetype.now }
+/// Returns whether the archetype, if it isn't reversed, has a character other than `/`.
+fn has_other(archetype: &Archetype) -> bool
+    ensures { is_forward archetype.now ≡ true
+        → IsTrue result ↔ ((c : ℕ) × IsOther c × (in_archetype c archetype.now ≡ true)) }
 {
     match archetype {
-        Archetype::Character(c) => *c != '/',
-        Archetype::Range(low, high) => *low != '/' || *high != '/',
+        Archetype::Character(c) => is_other(*c),
+        Archetype::Range(low, high) => is_other(*low) || is_other(*high),
     }
 }
 

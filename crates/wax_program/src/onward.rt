@@ -1,16 +1,22 @@
 //! Which places of a program lead on to an accepted text.
-ghost use Rattle.std.specs.Prelude.{◌≡◌, ◌+◌, ◌*◌, ◌<◌, ◌≤◌, ◌↔◌, ℕ, IfOk, IsFalse, IsTrue, chars, length};
+ghost use Rattle.std.specs.Prelude.{◌≡◌, ◌+◌, ◌*◌, ◌<◌, ◌≤◌, ◌↔◌, ℕ, IfOk, IsFalse, IsTrue, None, Some};
+ghost use Rattle.std.specs.Prelude.{chars, length, option_copied, slice_get};
 ghost use Rattle.wax_program.specs.Machine.{PassesTest};
-ghost use Rattle.wax_program.specs.Onward.{AreFlagsOf, TakesOther, ahead_of, flags_for};
+ghost use Rattle.wax_program.specs.Onward.{AreFlagsOf, AreOthers, TakesOther, ahead_of, flags_for};
 ghost use Rattle.wax_program.specs.Places.{HoldsPlace};
+ghost use Rattle.wax_program.specs.Tests.{test_of};
+ghost use Rattle.wax_program.specs.declared.instruction.Test.{Test};
+ghost use Rattle.wax_program.specs.declared.instruction.Instruction.{Instruction};
 ghost use Rattle.wax_program.specs.declared.instruction.Instruction.TheVariants.{Components};
-ghost use Rattle.wax_program.specs.inner.Leads.{AreSound, Gains, Holds, HoldsAfter, IsClosedAt, IsClosedFor};
-ghost use Rattle.wax_program.specs.inner.Leads.{HaveRoom, LeadsAt, LeadsBy, LeadsOn, Marks, flag_count};
-ghost use Rattle.wax_program.specs.inner.Leads.{TakesMark, onward_by_other, onward_by_slash};
+ghost use Rattle.wax_program.specs.inner.Leads.{AreFlagsAfter, Gains, HaveRoom, Holds, HoldsAfter};
+ghost use Rattle.wax_program.specs.inner.Leads.{HoldsByOther, IsClosedAt, IsClosedFor, LeadsBy, LeadsOn};
+ghost use Rattle.wax_program.specs.inner.Leads.{Marks, earlier_flags, flag_count, onward_by_slash};
+ghost use Rattle.wax_program.specs.declared.onward.Ahead.TheVariants.{Rest};
 
 use crate::bits::Set;
 use crate::instruction::{Instruction, Test};
 use crate::last::last_name;
+use crate::loops::test_at;
 use crate::machine::{CompiledProgram, Meter, Visits};
 use std::alloc::{AllocError, Global};
 use std::marker::Model;
@@ -40,26 +46,6 @@ impl Ahead {
         Ahead::Below
     }
 
-    /// Returns whether the mark of a number in this range is such a text, as a name of its own.
-    fn takes_mark(self, low: usize, high: usize) -> bool
-        ensures { IsTrue result ↔ TakesMark self low high }
-    {
-        match self {
-            Ahead::Rest | Ahead::Path => low <= high,
-            Ahead::Below => false,
-        }
-    }
-
-    /// Returns what the text is after a character other than `/`, if it can begin with one.
-    fn onward_by_other(self) -> Option<Ahead>
-        ensures { result ≡ onward_by_other self }
-    {
-        match self {
-            Ahead::Rest | Ahead::Path => Some(Ahead::Rest),
-            Ahead::Below => None,
-        }
-    }
-
     /// Returns what the text is after `/`, if it can begin with that.
     fn onward_by_slash(self) -> Option<Ahead>
         ensures { result ≡ onward_by_slash self }
@@ -71,8 +57,18 @@ impl Ahead {
     }
 }
 
-/// The places of a program from which some text of each of these kinds is accepted.
-/// Contracts see the flags.
+/// What the flags of a program's places are found from.
+#[derive(Clone, Copy)]
+struct Basis<'a> {
+    program: &'a CompiledProgram,
+    /// The places whose instruction has a test that a character other than `/` passes.
+    others: &'a Set,
+    /// The flags for one name fewer, if there is a limit.
+    earlier: Option<&'a Onward>,
+}
+
+/// The places of a program from which some text of each of these kinds is accepted, with any number
+/// of names or with at most so many. Contracts see the flags.
 #[derive(Drop)]
 pub struct Onward {
     /// The number of instructions of the program.
@@ -95,18 +91,78 @@ impl Model for Onward {
 }
 
 impl Onward {
-    /// Finds these places of a program: goes through it from its end until no place is added.
+    /// Finds these places of a program for texts with any number of names.
     pub fn new(
         alloc: Global,
         program: &CompiledProgram,
         meter: &mut Meter,
     ) -> Result<Onward, AllocError>
-        ensures { IfOk result (AreFlagsOf program.now.0) }
+        ensures { IfOk result (AreFlagsOf program.now.0 None) }
     {
-        let mut onward = Onward::empty(alloc, program)?;
-        onward.insert(Ahead::Rest, program.size());
-        while onward.sweep(program, meter) {}
+        let others = others_of(alloc, program, meter)?;
+        Onward::without_limit(alloc, program, &others, meter)
+    }
+
+    fn without_limit<'a>(
+        alloc: Global,
+        program: &'a CompiledProgram,
+        others: &'a Set,
+        meter: &mut Meter,
+    ) -> Result<Onward, AllocError>
+        requires room { length program.now.0 < length others.now }
+        requires others { AreOthers program.now.0 others.now }
+        ensures { IfOk result (AreFlagsOf program.now.0 None) }
+    {
+        let basis = Basis {
+            program,
+            others,
+            earlier: None,
+        };
+        Onward::find(alloc, &basis, meter)
+    }
+
+    /// Finds them for texts with a limit of names, from those for one name fewer.
+    pub(crate) fn after<'a>(
+        alloc: Global,
+        program: &'a CompiledProgram,
+        others: &'a Set,
+        earlier: &'a Onward,
+        meter: &mut Meter,
+    ) -> Result<Onward, AllocError>
+        requires room { length program.now.0 < length others.now }
+        requires others { AreOthers program.now.0 others.now }
+        ensures { IfOk result (AreFlagsAfter program.now.0 (Some earlier.now)) }
+    {
+        let basis = Basis {
+            program,
+            others,
+            earlier: Some(earlier),
+        };
+        Onward::find(alloc, &basis, meter)
+    }
+
+    /// Finds them: goes through the program from its end until no place is added.
+    fn find(alloc: Global, basis: &Basis<'_>, meter: &mut Meter) -> Result<Onward, AllocError>
+        requires room { length basis.now.program.now.0 < length basis.now.others.now }
+        requires others { AreOthers basis.now.program.now.0 basis.now.others.now }
+        ensures { IfOk result (AreFlagsAfter basis.now.program.now.0 (option_copied basis.now.earlier)) }
+    {
+        let mut onward = Onward::empty(alloc, basis.program)?;
+        onward.insert(Ahead::Rest, basis.program.size());
+        while onward.sweep(basis, meter) {}
         Ok(onward)
+    }
+
+    /// Returns whether each place that goes on in a name does so by the other flags, too.
+    pub(crate) fn goes_on_within(&self, other: &Onward) -> bool
+        ensures { IsTrue result → (k : ℕ) → Holds self.now Rest k → Holds other.now Rest k }
+    {
+        for at in 0..=self.size {
+            if self.holds(Ahead::Rest, at) && !other.holds(Ahead::Rest, at) {
+                return false;
+            }
+        }
+        true
     }
 
     /// Returns whether the program accepts, from the place on, some text of that kind.
@@ -123,7 +179,8 @@ impl Onward {
         }
     }
 
-    fn empty(alloc: Global, program: &CompiledProgram) -> Result<Onward, AllocError>
+    /// Creates flags of which none is set.
+    pub(crate) fn empty(alloc: Global, program: &CompiledProgram) -> Result<Onward, AllocError>
         ensures size { IfOk result (λ o. o.size ≡ length program.now.0) }
         ensures none { IfOk result (λ o. (m : Ahead) → (k : ℕ) → Holds o m k → ⊥) }
     {
@@ -167,17 +224,40 @@ impl Onward {
         at <= self.size && by <= self.size - at && self.holds(m, at + by)
     }
 
-    /// Returns whether a character that passes the test leads to the place with the flag.
-    fn leads_by(&self, test: &Test, m: Ahead, at: usize) -> bool
-        ensures { IsTrue result ↔ LeadsBy test.now self.now m at }
+    /// Returns whether a character other than `/` leads to the place, and the first one of a path to
+    /// a place that goes on with one name fewer.
+    fn holds_by_other(&self, basis: &Basis<'_>, m: Ahead, at: usize) -> bool
+        ensures { IsTrue result ↔ HoldsByOther (option_copied basis.now.earlier) self.now m at }
     {
-        self.leads_by_other(test, m, at) || self.leads_by_slash(test, m, at)
+        match m {
+            Ahead::Rest => self.holds(Ahead::Rest, at),
+            Ahead::Path => self.holds_earlier(basis, at),
+            Ahead::Below => false,
+        }
     }
 
-    fn leads_by_other(&self, test: &Test, m: Ahead, at: usize) -> bool
-        ensures { IsTrue result ↔ (TakesOther test.now × HoldsAfter self.now (onward_by_other m) at) }
+    fn holds_earlier(&self, basis: &Basis<'_>, at: usize) -> bool
+        ensures { IsTrue result ↔ Holds (earlier_flags (option_copied basis.now.earlier) self.now) Rest at }
     {
-        self.holds_after(m.onward_by_other(), at) && test.takes_other()
+        match basis.earlier {
+            Some(flags) => flags.holds(Ahead::Rest, at),
+            None => self.holds(Ahead::Rest, at),
+        }
+    }
+
+    /// Returns whether a character that passes the test leads to the place with the flag.
+    fn leads_by(
+        &self,
+        basis: &Basis<'_>,
+        test: &Test,
+        takes_other: bool,
+        m: Ahead,
+        at: usize,
+    ) -> bool
+        requires { IsTrue takes_other ↔ TakesOther test.now }
+        ensures { IsTrue result ↔ LeadsBy test.now (option_copied basis.now.earlier) self.now m at }
+    {
+        takes_other && self.holds_by_other(basis, m, at) || self.leads_by_slash(test, m, at)
     }
 
     fn leads_by_slash(&self, test: &Test, m: Ahead, at: usize) -> bool
@@ -187,48 +267,64 @@ impl Onward {
     }
 
     /// Returns whether the instruction at a place leads to one with the flag.
-    fn leads(&self, instruction: &Instruction, m: Ahead, at: usize) -> bool
-        requires { at < self.now.size }
-        ensures { IsTrue result ↔ LeadsOn instruction.now self.now m at }
+    fn leads(
+        &self,
+        basis: &Basis<'_>,
+        instruction: &Instruction,
+        takes_other: bool,
+        m: Ahead,
+        at: usize,
+    ) -> bool
+        requires within { at < self.now.size }
+        requires other { (t : Test) → test_of instruction.now ≡ Some t
+            → IsTrue takes_other ↔ TakesOther t }
+        ensures { IsTrue result ↔ LeadsOn instruction.now (option_copied basis.now.earlier) self.now m at }
     {
         let _size = self.size;
         match instruction {
-            Instruction::Check(test) => self.leads_by(test, m, at + 1),
-            Instruction::Repeat(test) => self.holds(m, at + 1) || self.leads_by(test, m, at),
-            Instruction::Components => self.leads_by_components(m, at),
+            Instruction::Check(test) => self.leads_by(basis, test, takes_other, m, at + 1),
+            Instruction::Repeat(test) => {
+                self.holds(m, at + 1) || self.leads_by(basis, test, takes_other, m, at)
+            }
+            Instruction::Components => self.leads_by_components(basis, m, at),
             Instruction::Fork(n) => self.holds(m, at + 1) || self.holds_past(m, at + 1, *n),
             Instruction::Jump(n) => self.holds_past(m, at + 1, *n),
             Instruction::Back(n) => self.holds(m, at.saturating_sub(*n)),
-            Instruction::End(low, high) => m.takes_mark(*low, *high),
+            Instruction::End(_, _) => false,
         }
     }
 
-    fn leads_by_components(&self, m: Ahead, at: usize) -> bool
+    fn leads_by_components(&self, basis: &Basis<'_>, m: Ahead, at: usize) -> bool
         requires { at < self.now.size }
-        ensures { IsTrue result ↔ LeadsOn Components self.now m at }
+        ensures { IsTrue result ↔ LeadsOn Components (option_copied basis.now.earlier) self.now m at }
     {
         let _size = self.size;
-        self.holds_after(m.onward_by_other(), at)
+        self.holds_by_other(basis, m, at)
             || self.holds_after(m.onward_by_slash(), at)
             || self.holds_after(m.onward_by_slash(), at + 1)
     }
 
     /// Adds a flag to a place if it is missing and the instruction leads to one that has it. Returns
     /// whether it was added.
-    fn mark(&mut self, program: &CompiledProgram, m: Ahead, at: usize, meter: &mut Meter) -> bool
-        requires size { self.old.size ≡ length program.now.0 }
-        requires below { at < length program.now.0 }
-        ensures gains { Gains program.now.0 self.old self.new }
+    fn mark(&mut self, basis: &Basis<'_>, m: Ahead, at: usize, meter: &mut Meter) -> bool
+        requires size { self.old.size ≡ length basis.now.program.now.0 }
+        requires room { length basis.now.program.now.0 < length basis.now.others.now }
+        requires others { AreOthers basis.now.program.now.0 basis.now.others.now }
+        requires below { at < length basis.now.program.now.0 }
+        ensures gains { Gains basis.now.program.now.0 (option_copied basis.now.earlier) self.old self.new }
         ensures more { IsTrue result → flag_count self.old < flag_count self.new }
         ensures few { IsTrue result → flag_count self.new ≤ 3 * (self.new.size + 1) }
         ensures same { IsFalse result → self.new ≡ self.old }
-        ensures closed { IsFalse result → IsClosedFor program.now.0 self.old m at }
+        ensures closed { IsFalse result
+            → IsClosedFor basis.now.program.now.0 (option_copied basis.now.earlier) self.old m at }
     {
         if self.holds(m, at) {
             return false;
         }
         let mut visits = Visits::new();
-        let leads = self.leads(program.fetch(at, &mut visits), m, at);
+        let instruction = basis.program.fetch(at, &mut visits);
+        let takes_other = basis.others.contains(at);
+        let leads = self.leads(basis, instruction, takes_other, m, at);
         meter.add(visits);
         if leads {
             self.insert(m, at);
@@ -238,45 +334,84 @@ impl Onward {
 
     /// Adds each flag to a place that is missing, where the instruction leads to one that has it.
     /// Returns whether one was added.
-    fn settle(&mut self, program: &CompiledProgram, at: usize, meter: &mut Meter) -> bool
-        requires size { self.old.size ≡ length program.now.0 }
-        requires below { at < length program.now.0 }
-        ensures gains { Gains program.now.0 self.old self.new }
+    fn settle(&mut self, basis: &Basis<'_>, at: usize, meter: &mut Meter) -> bool
+        requires size { self.old.size ≡ length basis.now.program.now.0 }
+        requires room { length basis.now.program.now.0 < length basis.now.others.now }
+        requires others { AreOthers basis.now.program.now.0 basis.now.others.now }
+        requires below { at < length basis.now.program.now.0 }
+        ensures gains { Gains basis.now.program.now.0 (option_copied basis.now.earlier) self.old self.new }
         ensures more { IsTrue result → flag_count self.old < flag_count self.new }
         ensures few { IsTrue result → flag_count self.new ≤ 3 * (self.new.size + 1) }
         ensures same { IsFalse result → self.new ≡ self.old }
-        ensures closed { IsFalse result → IsClosedAt program.now.0 self.old at }
+        ensures closed { IsFalse result
+            → IsClosedAt basis.now.program.now.0 (option_copied basis.now.earlier) self.old at }
     {
-        if self.mark(program, Ahead::Rest, at, meter) {
-            self.mark(program, Ahead::Path, at, meter);
-            self.mark(program, Ahead::Below, at, meter);
+        if self.mark(basis, Ahead::Rest, at, meter) {
+            self.mark(basis, Ahead::Path, at, meter);
+            self.mark(basis, Ahead::Below, at, meter);
             return true;
         }
-        if self.mark(program, Ahead::Path, at, meter) {
-            self.mark(program, Ahead::Below, at, meter);
+        if self.mark(basis, Ahead::Path, at, meter) {
+            self.mark(basis, Ahead::Below, at, meter);
             return true;
         }
-        self.mark(program, Ahead::Below, at, meter)
+        self.mark(basis, Ahead::Below, at, meter)
     }
 
     /// Does this for each place, from the last one on. Returns whether a flag was added.
-    fn sweep(&mut self, program: &CompiledProgram, meter: &mut Meter) -> bool
-        requires { self.old.size ≡ length program.now.0 }
-        ensures gains { Gains program.now.0 self.old self.new }
+    fn sweep(&mut self, basis: &Basis<'_>, meter: &mut Meter) -> bool
+        requires size { self.old.size ≡ length basis.now.program.now.0 }
+        requires room { length basis.now.program.now.0 < length basis.now.others.now }
+        requires others { AreOthers basis.now.program.now.0 basis.now.others.now }
+        ensures gains { Gains basis.now.program.now.0 (option_copied basis.now.earlier) self.old self.new }
         ensures more { IsTrue result → flag_count self.old < flag_count self.new }
         ensures few { IsTrue result → flag_count self.new ≤ 3 * (self.new.size + 1) }
         ensures same { IsFalse result → self.new ≡ self.old }
-        ensures closed { IsFalse result → (k : ℕ) → k < length program.now.0
-            → IsClosedAt program.now.0 self.old k }
+        ensures closed { IsFalse result → (k : ℕ) → k < length basis.now.program.now.0
+            → IsClosedAt basis.now.program.now.0 (option_copied basis.now.earlier) self.old k }
     {
         let mut added = false;
-        let mut at = program.size();
+        let mut at = basis.program.size();
         while at > 0 {
             at -= 1;
-            if self.settle(program, at, meter) {
+            if self.settle(basis, at, meter) {
                 added = true;
             }
         }
         added
+    }
+}
+
+/// Returns the places whose instruction has a test that a character other than `/` passes.
+pub(crate) fn others_of(
+    alloc: Global,
+    program: &CompiledProgram,
+    meter: &mut Meter,
+) -> Result<Set, AllocError>
+    ensures room { IfOk result (λ others. length program.now.0 < length others) }
+    ensures others { IfOk result (AreOthers program.now.0) }
+{
+    let mut others = Set::new(alloc, program.size())?;
+    for at in 0..program.size() {
+        if takes_other_at(alloc, program, at, meter)? {
+            others.insert(at);
+        }
+    }
+    Ok(others)
+}
+
+/// Returns whether the instruction at a place has such a test.
+fn takes_other_at(
+    alloc: Global,
+    program: &CompiledProgram,
+    at: usize,
+    meter: &mut Meter,
+) -> Result<bool, AllocError>
+    ensures { IfOk result (λ answer. (i : Instruction) → (t : Test) → slice_get program.now.0 at ≡ Some i
+        → test_of i ≡ Some t → IsTrue answer ↔ TakesOther t) }
+{
+    match test_at(program, at, meter) {
+        Some(test) => test.takes_other(alloc),
+        None => Ok(false),
     }
 }

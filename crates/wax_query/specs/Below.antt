@@ -1,6 +1,8 @@
 -- The texts of what is below a folder.
-use Rattle.std.specs.Prelude.{◌≡◌, ℕ, ◌==◌, Bool, true, ⊤, List, [], ◌∷◌, ◌++◌, if◌then◌else◌}
+use Rattle.std.specs.Prelude.{◌≡◌, ℕ, suc, ◌==◌, Bool, true, ⊤, List, [], ◌∷◌, ◌++◌, length, Option, Some}
+use Rattle.std.specs.Prelude.{None, if◌then◌else◌}
 use Rattle.wax_query.specs.Components.{HasNoSlash}
+use Rattle.wax_query.specs.Ranges.{AtMost}
 
 -- names, each after a `/`
 abbrev pub slashed : List (List ℕ) → List ℕ
@@ -34,3 +36,17 @@ folder_text folder = if ends_open folder then folder else folder ++ 47 ∷ []
 -- the text of something below the folder
 abbrev pub IsBelow : List ℕ → List ℕ → Type 0
 IsBelow folder s = (path : List ℕ) × IsPlainPath path × (s ≡ folder_text folder ++ path)
+
+-- a plain path of at most so many names, if there is a limit
+abbrev pub IsPathWithin : Option ℕ → List ℕ → Type 0
+IsPathWithin most s = (names : List (List ℕ)) × AreNames names × ¬ (names ≡ []) × AtMost (length names) most
+    × (s ≡ joined_names names)
+
+-- the text of something at most so many names below the folder
+abbrev pub IsBelowWithin : Option ℕ → List ℕ → List ℕ → Type 0
+IsBelowWithin most folder s = (path : List ℕ) × IsPathWithin most path × (s ≡ folder_text folder ++ path)
+
+-- the limit for one name more
+abbrev pub one_more_name : Option ℕ → Option ℕ
+one_more_name None = None
+one_more_name (Some most) = Some (suc most)

@@ -12,7 +12,7 @@ use Rattle.wax_program.specs.declared.instruction.Instruction.{Instruction}
 use Rattle.wax_program.specs.Places.{HoldsPlace}
 use Rattle.wax_program.specs.Last.{IsLastName, ReadsLast}
 use Rattle.wax_program.specs.Machine.{Accepts}
-use Rattle.wax_program.specs.Onward.{AreFlagsOf, PlaceFlags, IsAhead, flags_for}
+use Rattle.wax_program.specs.Onward.{AreFlagsOf, AreLevelsOf, PlaceFlags, IsAhead, flags_for}
 use Rattle.wax_query.specs.declared.query.verdict.Verdict.{Verdict}
 use Rattle.wax_program.specs.declared.onward.Ahead.{Ahead}
 use Rattle.wax_program.specs.Threads.{AnyAmong}
@@ -147,15 +147,15 @@ DecidesLeft code states places left = LeadsFor code states (λ s. AnyAmong code 
 abbrev pub LeadsText : List Instruction → List State → ℕ → List ℕ → Next → Type 0
 LeadsText code states start text = LeadsFor code states (λ s. Accepts code start (text ++ s)) []
 
--- some text is accepted that begins with this one and goes on so
-abbrev pub AcceptsAhead : List Instruction → ℕ → List ℕ → Ahead → Type 0
-AcceptsAhead code start text m = (s : List ℕ) × IsAhead m s × Accepts code start (text ++ s)
+-- some text is accepted that begins with this one and goes on so, with at most so many names
+abbrev pub AcceptsAhead : List Instruction → Option ℕ → ℕ → List ℕ → Ahead → Type 0
+AcceptsAhead code most start text m = (s : List ℕ) × IsAhead most m s × Accepts code start (text ++ s)
 
--- both answers are right, where what goes on is said by m
-pub record IsAheadVerdict (code : List Instruction) (start : ℕ) (text : List ℕ) (m : Ahead)
+-- both answers are right, where what goes on is said by m and the limit
+pub record IsAheadVerdict (code : List Instruction) (most : Option ℕ) (start : ℕ) (text : List ℕ) (m : Ahead)
     (v : Verdict) : Type 0 where
   pub matches : IsTrue v.is_match ↔ Accepts code start text
-  pub ahead : IsTrue v.goes_on ↔ AcceptsAhead code start text m
+  pub ahead : IsTrue v.goes_on ↔ AcceptsAhead code most start text m
 
 -- from one of the places some text is accepted that goes on so
 abbrev pub AnyAhead : PlaceFlags → Ahead → List ℕ → Type 0
@@ -178,4 +178,5 @@ pub record IsDfaOf (code : List Instruction) (k : LazyDfa) : Type 0 where
   pub last : IsTrue k.reads_last → ReadsLast code
   pub long : IsTrue k.reads_last → 2 ≤ length code
   pub cache : IfSome k.cache (IsKeptFor code k.reads_last)
-  pub onward : IfSome k.onward (AreFlagsOf code)
+  pub onward : IfSome k.onward (AreFlagsOf code None)
+  pub levels : IfSome k.levels (AreLevelsOf code)

@@ -1,6 +1,6 @@
--- PlaceFlags of places, and where instructions lead by them.
-use Rattle.std.specs.Prelude.{◌≡◌, ◌+◌, ◌-◌, ◌<◌, ◌≤◌, ◌⊎◌, ℕ, List, Option, Some, None, slice_get}
-use Rattle.std.specs.Prelude.{length}
+-- Flags of places, and where instructions lead by them.
+use Rattle.std.specs.Prelude.{◌≡◌, ◌↔◌, ◌+◌, ◌-◌, ◌<◌, ◌≤◌, ◌⊎◌, ℕ, zero, suc, ⊤, List, Option, Some, None}
+use Rattle.std.specs.Prelude.{length, slice_get}
 use Rattle.wax_program.specs.Places.{HoldsPlace, Within, member_count}
 use Rattle.wax_program.specs.declared.instruction.Instruction.{Instruction}
 use Rattle.wax_program.specs.declared.instruction.Instruction.TheVariants.{Check, Repeat, Components, Fork}
@@ -9,14 +9,9 @@ use Rattle.wax_program.specs.declared.instruction.Test.{Test}
 use Rattle.wax_program.specs.declared.onward.Ahead.{Ahead}
 use Rattle.wax_program.specs.declared.onward.Ahead.TheVariants.{Rest, Path, Below}
 use Rattle.wax_program.specs.Machine.{PassesTest}
-use Rattle.wax_program.specs.Onward.{PlaceFlags, GoesOn, TakesOther, flags_for}
+use Rattle.wax_program.specs.Onward.{AreFlagsOf, PlaceFlags, GoesOn, TakesOther, flags_for}
 
--- what follows after a character other than `/`, and after `/`
-abbrev pub onward_by_other : Ahead → Option Ahead
-onward_by_other Rest = Some Rest
-onward_by_other Path = Some Rest
-onward_by_other Below = None
-
+-- what follows after `/`
 abbrev pub onward_by_slash : Ahead → Option Ahead
 onward_by_slash Rest = Some Path
 onward_by_slash Path = None
@@ -30,43 +25,64 @@ abbrev pub HoldsAfter : PlaceFlags → Option Ahead → ℕ → Type 0
 HoldsAfter f None k = ⊥
 HoldsAfter f (Some m) k = Holds f m k
 
+-- the flags for one name fewer, or the same ones without a limit
+abbrev pub earlier_flags : Option PlaceFlags → PlaceFlags → PlaceFlags
+earlier_flags None f = f
+earlier_flags (Some e) f = e
+
+-- a character other than `/` leads to the place: the first one of a path leaves one name fewer
+abbrev pub HoldsByOther : Option PlaceFlags → PlaceFlags → Ahead → ℕ → Type 0
+HoldsByOther o f Rest k = Holds f Rest k
+HoldsByOther o f Path k = Holds (earlier_flags o f) Rest k
+HoldsByOther o f Below k = ⊥
+
 -- a character that passes the test leads to a place with the flag
-abbrev pub LeadsBy : Test → PlaceFlags → Ahead → ℕ → Type 0
-LeadsBy t f m k = (TakesOther t × HoldsAfter f (onward_by_other m) k)
+abbrev pub LeadsBy : Test → Option PlaceFlags → PlaceFlags → Ahead → ℕ → Type 0
+LeadsBy t o f m k = (TakesOther t × HoldsByOther o f m k)
     ⊎ (PassesTest t 47 × HoldsAfter f (onward_by_slash m) k)
 
--- a text of this kind is the mark of a number in this range, as a name of its own
-abbrev pub TakesMark : Ahead → ℕ → ℕ → Type 0
-TakesMark Rest low high = low ≤ high
-TakesMark Path low high = low ≤ high
-TakesMark Below low high = ⊥
-
--- the instruction at k leads to a place with the flag, or takes such a text itself
-abbrev pub LeadsOn : Instruction → PlaceFlags → Ahead → ℕ → Type 0
-LeadsOn (Check t) f m k = LeadsBy t f m (k + 1)
-LeadsOn (Repeat t) f m k = Holds f m (k + 1) ⊎ LeadsBy t f m k
-LeadsOn Components f m k =
-    HoldsAfter f (onward_by_other m) k
+-- the instruction at k leads to a place with the flag
+abbrev pub LeadsOn : Instruction → Option PlaceFlags → PlaceFlags → Ahead → ℕ → Type 0
+LeadsOn (Check t) o f m k = LeadsBy t o f m (k + 1)
+LeadsOn (Repeat t) o f m k = Holds f m (k + 1) ⊎ LeadsBy t o f m k
+LeadsOn Components o f m k =
+    HoldsByOther o f m k
     ⊎ (HoldsAfter f (onward_by_slash m) k ⊎ HoldsAfter f (onward_by_slash m) (k + 1))
-LeadsOn (Fork n) f m k = Holds f m (k + 1) ⊎ Holds f m (k + 1 + n)
-LeadsOn (Jump n) f m k = Holds f m (k + 1 + n)
-LeadsOn (Back n) f m k = Holds f m (k - n)
-LeadsOn (End low high) f m k = TakesMark m low high
+LeadsOn (Fork n) o f m k = Holds f m (k + 1) ⊎ Holds f m (k + 1 + n)
+LeadsOn (Jump n) o f m k = Holds f m (k + 1 + n)
+LeadsOn (Back n) o f m k = Holds f m (k - n)
+LeadsOn (End low high) o f m k = ⊥
 
--- each flag is that of a place from which some text is accepted that begins so
-abbrev pub AreSound : List Instruction → PlaceFlags → Type 0
-AreSound code f = (m : Ahead) (k : ℕ) → Holds f m k → GoesOn code m k
+-- flags for one name fewer than the limit, if there is one
+abbrev pub IsEarlier : List Instruction → Option ℕ → Option PlaceFlags → Type 0
+IsEarlier code None None = ⊤
+IsEarlier code None (Some e) = ⊥
+IsEarlier code (Some zero) None = ⊥
+IsEarlier code (Some zero) (Some e) = (k : ℕ) → Holds e Rest k → ⊥
+IsEarlier code (Some (suc less)) None = ⊥
+IsEarlier code (Some (suc less)) (Some e) = (k : ℕ) → Holds e Rest k ↔ GoesOn code (Some less) Rest k
+
+-- each flag is that of a place from which some text of its kind is accepted
+abbrev pub AreSound : List Instruction → Option ℕ → PlaceFlags → Type 0
+AreSound code most f = (m : Ahead) (k : ℕ) → Holds f m k → GoesOn code most m k
+
+-- for each limit that these are the earlier flags of
+abbrev pub AreSoundAfter : List Instruction → Option PlaceFlags → PlaceFlags → Type 0
+AreSoundAfter code o f = (most : Option ℕ) → IsEarlier code most o → AreSound code most f
+
+abbrev pub AreFlagsAfter : List Instruction → Option PlaceFlags → PlaceFlags → Type 0
+AreFlagsAfter code o f = (most : Option ℕ) → IsEarlier code most o → AreFlagsOf code most f
 
 -- the place has each flag to which its instruction leads
-abbrev pub IsClosedFor : List Instruction → PlaceFlags → Ahead → ℕ → Type 0
-IsClosedFor code f m k = (i : Instruction) → slice_get code k ≡ Some i → LeadsOn i f m k → Holds f m k
+abbrev pub IsClosedFor : List Instruction → Option PlaceFlags → PlaceFlags → Ahead → ℕ → Type 0
+IsClosedFor code o f m k = (i : Instruction) → slice_get code k ≡ Some i → LeadsOn i o f m k → Holds f m k
 
-abbrev pub IsClosedAt : List Instruction → PlaceFlags → ℕ → Type 0
-IsClosedAt code f k = (m : Ahead) → IsClosedFor code f m k
+abbrev pub IsClosedAt : List Instruction → Option PlaceFlags → PlaceFlags → ℕ → Type 0
+IsClosedAt code o f k = (m : Ahead) → IsClosedFor code o f m k
 
 -- the instruction at the place leads to one with the flag
-abbrev pub LeadsAt : List Instruction → PlaceFlags → Ahead → ℕ → Type 0
-LeadsAt code f m k = (i : Instruction) × (slice_get code k ≡ Some i) × LeadsOn i f m k
+abbrev pub LeadsAt : List Instruction → Option PlaceFlags → PlaceFlags → Ahead → ℕ → Type 0
+LeadsAt code o f m k = (i : Instruction) × (slice_get code k ≡ Some i) × LeadsOn i o f m k
 
 -- there is room for the flags of each place, and no other place has one
 pub record HaveRoom (f : PlaceFlags) : Type 0 where
@@ -89,8 +105,19 @@ pub record Marks (old new : PlaceFlags) (m : Ahead) (k : ℕ) : Type 0 where
   pub counted : flag_count new ≡ flag_count old + 1
 
 -- flags were added, each of which is right if those before are
-pub record Gains (code : List Instruction) (old new : PlaceFlags) : Type 0 where
+pub record Gains (code : List Instruction) (o : Option PlaceFlags) (old new : PlaceFlags) : Type 0 where
   pub size : new.size ≡ old.size
   pub keeps : (m : Ahead) (k : ℕ) → Holds old m k → Holds new m k
-  pub sound : AreSound code old → AreSound code new
+  pub sound : AreSoundAfter code o old → AreSoundAfter code o new
   pub counted : flag_count old ≤ flag_count new
+
+-- the flags of the level after these, which are found from those of the last one
+pub record IsNextLevel (code : List Instruction) (levels : List PlaceFlags) (f : PlaceFlags) : Type 0 where
+  pub flags : AreFlagsOf code (Some (length levels)) f
+  pub after : (n : ℕ) (e : PlaceFlags) → length levels ≡ n + 1 → slice_get levels n ≡ Some e
+      → AreFlagsAfter code (Some e) f
+
+-- the last level has each place that goes on in a name by these flags
+abbrev pub HoldLast : List PlaceFlags → PlaceFlags → Type 0
+HoldLast levels f = (n : ℕ) × (e : PlaceFlags) × (length levels ≡ n + 1) × (slice_get levels n ≡ Some e)
+    × ((k : ℕ) → Holds f Rest k → Holds e Rest k)

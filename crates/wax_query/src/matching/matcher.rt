@@ -1,7 +1,8 @@
 //! Matchers of many paths, and the programs that build them.
-ghost use Rattle.std.specs.Prelude.{◌≡◌, ℕ, Bool, List, IfOk, IsTrue, refl, true};
+ghost use Rattle.std.specs.Prelude.{◌≡◌, ℕ, Bool, List, Option, Some, None, IfOk, IsTrue, refl, true};
+ghost use Rattle.std.specs.Str.{all_scalars};
 ghost use Rattle.wax_query.specs.Parts.{NoLineEndsBefore};
-ghost use Rattle.wax_query.specs.Below.{IsBelow};
+ghost use Rattle.wax_query.specs.Below.{IsBelowWithin};
 
 use crate::diagnostics::NoMemory;
 use crate::matching::candidate::CandidatePath;
@@ -15,8 +16,9 @@ pub trait PathMatcher: Drop {
     // Which texts it matches, each as its characters.
     ghost decides: { Self → List ℕ → Bool };
 
-    // For which folders, by their texts, it says that something below may match.
-    ghost goes_on: { Self → List ℕ → Bool } = { λ _ _. true };
+    // For which folders, by their texts, it says that something at most so many names below may
+    // match, if there is such a limit.
+    ghost goes_on: { Self → Option ℕ → List ℕ → Bool } = { λ _ _ _. true };
 
     /// Returns whether it matches the whole path. It matches the same texts from then on.
     ///
@@ -39,7 +41,22 @@ pub trait PathMatcher: Drop {
     /// that.
     fn verdict(&mut self, path: &CandidatePath<'_>) -> Result<Verdict, NoMemory>
         ensures decides { IfOk result (λ verdict. verdict.is_match ≡ decides self.old path.now) }
-        ensures below { IfOk result (λ verdict. verdict.goes_on ≡ goes_on self.old path.now) }
+        ensures below { IfOk result (λ verdict. verdict.goes_on ≡ goes_on self.old None path.now) }
+        ensures same { decides self.new ≡ decides self.old }
+        ensures onward { goes_on self.new ≡ goes_on self.old };
+
+    /// Returns whether it matches the whole path, and whether something at most `most` names below
+    /// the folder with this path may match. A walk with a greatest depth asks this instead of
+    /// `verdict`.
+    ///
+    /// # Errors
+    ///
+    /// Returns `NoMemory` if allocation fails. The matcher can be used for further paths after
+    /// that.
+    fn verdict_within(&mut self, path: &CandidatePath<'_>, most: usize) -> Result<Verdict, NoMemory>
+        ensures decides { IfOk result (λ verdict. verdict.is_match ≡ decides self.old path.now) }
+        ensures below { IfOk result
+            (λ verdict. verdict.goes_on ≡ goes_on self.old (Some most) path.now) }
         ensures same { decides self.new ≡ decides self.old }
         ensures onward { goes_on self.new ≡ goes_on self.old };
 
@@ -51,9 +68,9 @@ pub trait PathMatcher: Drop {
         0
     }
 
-    // Where something below a folder matches, it says that something may.
-    ghost leads: { (matcher : Self) (folder s : List ℕ) → IsBelow folder s
-        → IsTrue (decides matcher s) → IsTrue (goes_on matcher folder) };
+    // Where something at most so many names below a folder matches, it says that something may.
+    ghost leads: { (matcher : Self) (most : Option ℕ) (folder s : List ℕ) → IsBelowWithin most folder s
+        → all_scalars s ≡ true → IsTrue (decides matcher s) → IsTrue (goes_on matcher most folder) };
 }
 
 /// A program that builds matchers of itself, as a `BuildHasher` builds hashers. They may borrow it.
@@ -87,7 +104,7 @@ impl<P> Drop for ProgramMatcher<'_, P> {
 impl<P: Program> PathMatcher for ProgramMatcher<'_, P> {
     ghost decides = { λ matcher. P.decides matcher.program.now };
 
-    ghost leads = { λ _ _ _ _ _. refl };
+    ghost leads = { λ _ _ _ _ _ _ _. refl };
 
     fn is_match(&mut self, path: &CandidatePath<'_>) -> Result<bool, NoMemory> {
         self.program.is_match(self.alloc, path)
@@ -99,5 +116,13 @@ impl<P: Program> PathMatcher for ProgramMatcher<'_, P> {
             is_match,
             goes_on: true,
         })
+    }
+
+    fn verdict_within(
+        &mut self,
+        path: &CandidatePath<'_>,
+        _most: usize,
+    ) -> Result<Verdict, NoMemory> {
+        self.verdict(path)
     }
 }

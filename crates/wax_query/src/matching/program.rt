@@ -1,6 +1,6 @@
 //! What can be matched against a path.
 ghost use Rattle.std.specs.Prelude.{◌≡◌, ◌↔◌, ◌≤◌, ◌+◌, ◌*◌, ◌++◌, ◌∷◌, ℕ, Bool, List, IsTrue, IfOk, IfSome};
-ghost use Rattle.std.specs.Prelude.{chars, length, true};
+ghost use Rattle.std.specs.Prelude.{Option, chars, length, true};
 ghost use Rattle.wax_query.specs.Matched.{IsMatchOf, cube_visits};
 ghost use Rattle.wax_query.specs.Components.{Bare, BeginsWithSlash, component_total};
 ghost use Rattle.wax_query.specs.Ranges.{AtMost, bounds};
@@ -21,8 +21,9 @@ pub trait Program {
     // The texts that it matches, as a function to booleans.
     ghost decides: { Self → List ℕ → Bool };
 
-    // For which folders, by their texts, its matchers say that something below may match.
-    ghost goes_on: { Self → List ℕ → Bool } = { λ _ _. true };
+    // For which folders, by their texts, its matchers say that something at most so many names below
+    // may match, if there is such a limit.
+    ghost goes_on: { Self → Option ℕ → List ℕ → Bool } = { λ _ _ _. true };
 
     // What is captured of a text that it matches, each capture as its characters.
     ghost captured: { Self → List ℕ → List (List ℕ) → Type 0 };

@@ -1,4 +1,5 @@
 use Rattle.std.proofs.Common.{◌↔◌, ◌∙◌, IsTrue, chars, subst, sym, rules}
+use Rattle.std.proofs.lemmas.Str.{scalars-chars}
 use Rattle.wax_lazy.proofs.Ahead.{last_below}
 use Rattle.wax_lazy.proofs.Walking.{decides_by}
 use Rattle.wax_lazy.specs.inner.Cached.{IsAheadVerdict, LeadsText}
@@ -20,22 +21,26 @@ returns-then-reads_last-clause-decides c =
     record {
       matches = decides_by c.in_ok-is_match.is_match _ _
           (name_decides code text name last c.last_name.ensures.name) by_name;
-      below = decides_by c.holds.result _ _ (last_below code last text) by_flags;
+      below = decides_by c.holds.result _ _
+          (last_below code last c.args.most text (scalars-chars c.args.text.now c.utf8.text)) by_flags;
     }
 
 pub returns-clause-decides : goal.returns-clause-decides
 returns-clause-decides c =
     let code = c.args.program.now.0 in
+    let most = c.args.most in
     let text = chars c.args.text.now in
+    let verdict = c.verdict_at.result in
     let states = c.follow_text.new.cache.table.states.items in
     let begins = c.follow_text.ensures.kept.start ∙ c.requires.cache.whole (search rules) in
     let next = subst (λ n. LeadsText code states n text c.in_ok-next.next)
     (c.requires.cache.whole (search rules)) c.in_ok-next.ensures.leads in
-    let at = subst (λ n. IsAheadVerdict code n text c.below.result c.verdict_at.result) begins
+    let at = subst (λ n. IsAheadVerdict code most n text c.below-ahead.result verdict) begins
     (c.verdict_at.ensures.decides text
     (subst (λ n. LeadsText code states n text c.in_ok-next.next) (sym begins) next)) in
-    let way = subst (λ m. IsAheadVerdict code 0 text m c.verdict_at.result) c.below.ensures at in
+    let way = subst (λ m. IsAheadVerdict code most 0 text m verdict) c.below-ahead.ensures at in
+    let scalars = scalars-chars c.args.text.now c.utf8.text in
     record {
       matches = way.matches;
-      below = decides_by c.verdict_at.result.goes_on _ _ (ahead_below (Accepts code 0) text) way.ahead;
+      below = decides_by verdict.goes_on _ _ (ahead_below most (Accepts code 0) text scalars) way.ahead;
     }

@@ -1,4 +1,4 @@
-use Rattle.std.proofs.Common.{◌-◌, ◌/◌, ◌≤◌, length}
+use Rattle.std.proofs.Common.{◌-◌, ◌≤◌, length}
 use Rattle.wax_lazy.proofs.RowCells.{IsAlong}
 use Rattle.wax_states.specs.States.{places_at}
 use Rattle.wax_lazy.proofs.following.follow_rows.Given as goal

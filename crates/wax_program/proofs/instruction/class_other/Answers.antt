@@ -1,21 +1,24 @@
 use Rattle.std.proofs.Common.{sym, ◌∙◌, subst}
+use Rattle.std.proofs.lemmas.Result.{IfOk-weaker}
 use Rattle.wax_program.specs.Onward.{HoldsOther}
 use Rattle.wax_program.proofs.Others.{negated_other, plain_other}
 use Rattle.wax_program.proofs.instruction.class_other.Goals as goal
 
 pub returns-then-negated : goal.returns-then-negated
 returns-then-negated c =
-    let forward = sym c.are_forward.ensures ∙ c.if-not-are_forward.false in (
-      (λ _. subst (λ n. HoldsOther n c.args.archetypes.now) (sym c.if-negated.true)
-          (negated_other c.args.archetypes.now forward)),
-      (λ _. c.if-negated.true),
-    )
+    let xs = c.args.archetypes.now in
+    let forward = sym c.are_forward.ensures ∙ c.if-not-are_forward.false in
+    let same = negated_other xs forward in
+    IfOk-weaker c.leaves_other.result _ _ (λ b h. (
+      (λ t. subst (λ n. HoldsOther n xs) (sym c.if-negated.true) (same.0 (h.0 t))),
+      (λ g. h.1 (same.1 (subst (λ n. HoldsOther n xs) c.if-negated.true g))),
+    )) c.leaves_other.ensures
 
-pub returns-else-negated : goal.returns-else-negated
-returns-else-negated c =
+pub returns : goal.returns
+returns c =
     let xs = c.args.archetypes.now in
     let forward = sym c.are_forward.ensures ∙ c.if-not-are_forward.false in
     let same = plain_other xs forward in (
-      (λ h. subst (λ n. HoldsOther n xs) (sym c.if-negated.false) (same.0 (sym c.list_other.ensures ∙ h))),
-      (λ h. c.list_other.ensures ∙ same.1 (subst (λ n. HoldsOther n xs) c.if-negated.false h)),
+      (λ t. subst (λ n. HoldsOther n xs) (sym c.if-negated.false) (same.0 (c.list_other.ensures.0 t))),
+      (λ g. c.list_other.ensures.1 (same.1 (subst (λ n. HoldsOther n xs) c.if-negated.false g))),
     )

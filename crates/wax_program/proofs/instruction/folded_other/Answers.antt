@@ -4,7 +4,7 @@ use Rattle.wax_program.proofs.instruction.folded_other.Goals as goal
 
 pub returns-then-d-ne47 : goal.returns-then-d-ne47
 returns-then-d-ne47 c =
-    let same = folded_by_itself c.args.d c.if-d-ne47.true in (
+    let same = folded_by_itself c.args.d c.ranges.d.0 c.if-d-ne47.true in (
       (λ h. same.0 (c.folds_to.ensures.0 h)),
       (λ h. c.folds_to.ensures.1 (same.1 h)),
     )
