@@ -141,7 +141,7 @@ module _ {D C : Type 0} {t : Tree Span} (law : Law D C) (d : D) (start : List �
 
   abbrev requested : Shown → Forest Given
   requested s = stacked (rules_by pruning asked.min (wants t b []))
-      (opened_forest (opening_by pruning t) (origin_walk request.walked request.origin s))
+      (opened_forest (opening_by pruning t request.walked.max) (origin_walk request.walked request.origin s))
 
   abbrev pub ComesShown : Type 0
   ComesShown = (s : Shown) (listed : List (List ℕ)) → law.shows d request.origin.path s → law.tells d listed

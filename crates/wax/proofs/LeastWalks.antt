@@ -1,5 +1,6 @@
 -- What is to come of a glob's walk that opens only folders below which something is matched.
-use Rattle.std.proofs.Common.{◌≡◌, ◌∙◌, ◌≤◌, ◌<◌, ◌+◌, ◌&&◌, ℕ, Bool, false, List, [], length, refl, sym, ap}
+use Rattle.std.proofs.Common.{◌≡◌, ◌∙◌, ◌≤◌, ◌<◌, ◌+◌, ◌&&◌, ℕ, Bool, false, List, [], length, Option, refl}
+use Rattle.std.proofs.Common.{sym, ap}
 use Rattle.std.proofs.Common.{subst, inl, inr, arith}
 use Rattle.wax_prefilter.specs.Below.{goes_test}
 use Rattle.wax_components.specs.Depth.{Depth}
@@ -31,8 +32,8 @@ use Rattle.wax.specs.GlobWalks.{Beginning, BeginsBy, LeadsNowhere, has_empty_nam
 use Rattle.wax.specs.GlobWalks.{request_by, walked_by}
 use Rattle.wax.specs.GlobWalks.{wants, within}
 
-abbrev pub goes : GlobView → List ℕ → Bool
-goes g s = goes_test g.tree s
+abbrev pub goes : GlobView → Option ℕ → List ℕ → Bool
+goes g most s = goes_test g.tree most s
 
 -- a walk that may go along the components may go by matches, too
 pub can_least : (t : Tree Span) (start : List ℕ) (asked : DepthRange) (depth : Bounds) (b : Beginning t)
@@ -48,12 +49,10 @@ can_least t start asked depth b filters can = record {
   plain = can.plain;
 }
 
-pub seen_from : {D : Type 0} (g : GlobView) (inner view : WalkView D) (least other : ℕ) → least ≡ other
-    → IsSeenAs (selected_view inner (matches_from decides g least) (matches_below goes g) false) view
-    → IsSeenAs (selected_view inner (matches_from decides g other) (matches_below goes g) false) view
-seen_from g inner view least other e h =
-    subst (λ n. IsSeenAs (selected_view inner (matches_from decides g n) (matches_below goes g) false) view) e
-    h
+-- the view of the walk of what a glob matches in this range
+abbrev pub Selects : {D : Type 0} → GlobView → WalkView D → WalkView D → DepthRange → Type 0
+Selects g inner view r = IsSeenAs
+    (selected_view inner (matches_from decides g r.min) (matches_below goes g r.max) false) view
 
 -- ---- what is to come
 
@@ -66,11 +65,13 @@ module _ {D C : Type 0} (g : GlobView) (law : Law D C) (d : D) (start : List ℕ
     → (rooted : Bool) → IsUnmeant rooted g.tree)
     (is : (taken : ℕ) × (prefix : List ℕ) × Prefix g.tree taken prefix)
     (view : WalkView D) (inner : WalkView D)
-    (seen :
-    IsSeenAs (selected_view inner (matches_from decides g asked.min) (matches_below goes g) false) view)
+    (seen : Selects g inner view (within asked depth))
   where
     abbrev walked : DepthRange
     walked = walked_by by_matches asked depth
+
+    abbrev lets_in : Facts → Bool
+    lets_in = opens_where (goes_test g.tree) walked.max
 
     module _ (range : DepthRange) (same_range : range ≡ walked) (rooted : Bool) (names : List (List ℕ))
         (plan : (taken : ℕ) (prefix : List ℕ) → Prefix g.tree taken prefix
@@ -150,15 +151,16 @@ module _ {D C : Type 0} (g : GlobView) (law : Law D C) (d : D) (start : List ℕ
             elim e.2 [
               | inl l ↦ inl (too_deep l)
               | inr t ↦ inr
-                  (lacks_selected inner view (matches_from decides g asked.min) (matches_below goes g) seen t)
+                  (lacks_selected inner view (matches_from decides g asked.min)
+                  (matches_below goes g walked.max) seen t)
             ],
           )
         ];
         none_to_open = seen.to_open ∙ b.none_to_open;
         yields_from = seen.yields_from ∙ b.yields_from ∙ ap (λ r. r.min) same_range;
         may_open =
-            seen.may_open ∙ ap (λ (o : Facts → Bool). λ f. o f && opens_where (goes_test g.tree) f) b.may_open
-            ∙ ap (λ (r : DepthRange). λ f. is_above r.max f && opens_where (goes_test g.tree) f) same_range;
+            seen.may_open ∙ ap (λ (o : Facts → Bool). λ f. o f && lets_in f) b.may_open
+            ∙ ap (λ (r : DepthRange). λ f. is_above r.max f && lets_in f) same_range;
         directory = seen.directory ∙ b.directory;
       }
 
@@ -184,7 +186,8 @@ module _ {D C : Type 0} (g : GlobView) (law : Law D C) (d : D) (start : List ℕ
       comes = λ a plain. absurd (a.names_are.unbroken (known a.taken a.prefix a.prefix_is));
       listings = seen.listings_left ∙ b.listings ∙ ap (λ r. r.budget + 1) same;
       names = λ a. omega (arith, seen.names_left, b.names);
-      fails = λ a. fails_ended inner view (matches_from decides g asked.min) (matches_below goes g) seen 0
+      fails = λ a. fails_ended inner view (matches_from decides g asked.min)
+          (matches_below goes g walked.max) seen 0
           (origin_from start a.rooted a.names).path a.names b.fails;
       none_listed = seen.listings_open ∙ b.none_listed;
       begun = inr (
@@ -195,7 +198,7 @@ module _ {D C : Type 0} (g : GlobView) (law : Law D C) (d : D) (start : List ℕ
       none_to_open = seen.to_open ∙ b.none_to_open;
       yields_from = seen.yields_from ∙ b.yields_from ∙ ap (λ r. r.min) same;
       may_open =
-          seen.may_open ∙ ap (λ (o : Facts → Bool). λ f. o f && opens_where (goes_test g.tree) f) b.may_open
-          ∙ ap (λ (r : DepthRange). λ f. is_above r.max f && opens_where (goes_test g.tree) f) same;
+          seen.may_open ∙ ap (λ (o : Facts → Bool). λ f. o f && lets_in f) b.may_open
+          ∙ ap (λ (r : DepthRange). λ f. is_above r.max f && lets_in f) same;
       directory = seen.directory ∙ b.directory;
     }

@@ -92,7 +92,8 @@ pub record BeginsBy (pruning : Pruning) {D C : Type 0} (t : Tree Span) (law : La
       → law.shows d (origin_from start b.rooted b.names).path s → law.tells d listed → ArePlain b.names
       → length b.names ≤ (within asked depth).max
       → view.to_come (pending nothing
-      (stacked (rules_by pruning asked.min (wants t b [])) (opened_forest (opening_by pruning t)
+      (stacked (rules_by pruning asked.min (wants t b [])) (opened_forest
+      (opening_by pruning t (walked_by pruning asked depth).max)
       (origin_walk (walked_by pruning asked depth) (origin_from start b.rooted b.names) s))) listed
       (count_shown s))
   -- nothing, where the prefix has more names than the greatest depth

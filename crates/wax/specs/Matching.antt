@@ -6,7 +6,7 @@ pub use Rattle.wax_query.specs.Parts.{IsPart, NoLineEndsBefore, cut}
 pub use Rattle.wax_capture.specs.Captures.{Captured, First}
 pub use Rattle.wax_capture.specs.Matched.{AreOnly, IsMatched, square_visits}
 pub use Rattle.wax_capture.specs.Pieces.{ArePieces}
-pub use Rattle.wax_prefilter.specs.Below.{MeansBelow, goes_test, goes_tested}
+pub use Rattle.wax_prefilter.specs.Below.{MeansBelow, MeansWithin, goes_test, goes_tested}
 pub use Rattle.wax_lazy.specs.Numbers.{AreNumbers, AreNumbersFrom}
 pub use Rattle.wax_lazy.specs.Numbers.{IsLastNumber, IsLastNumberFrom, IsLastWhere}
 pub use Rattle.wax_lazy.specs.Verdict.{AcceptsBelow, IsVerdict}
@@ -19,7 +19,9 @@ pub use Rattle.wax_program.specs.Closed.{IsClosed, LeadsWithin}
 pub use Rattle.wax_program.specs.Machine.{Accepts, mark}
 pub use Rattle.wax_program.specs.Meter.{most_ticks}
 pub use Rattle.wax_program.specs.declared.instruction.Instruction.{Instruction}
-pub use Rattle.wax_query.specs.Below.{AreNames, IsBelow, IsPlainPath, folder_text, ends_open, joined_names}
+pub use Rattle.wax_query.specs.Below.{AreNames, IsBelow, IsBelowWithin, IsPathWithin, IsPlainPath}
+pub use Rattle.wax_query.specs.Below.{folder_text}
+pub use Rattle.wax_query.specs.Below.{ends_open, joined_names}
 pub use Rattle.wax_query.specs.Below.{slashed}
 pub use Rattle.wax_set.specs.Sets.{AcceptsText, AreMatches, IsAlternation, IsCompiledAny, IsNumbered, IsWhole}
 pub use Rattle.wax_set.specs.Sets.{MeansAt, MeansText, any_code}

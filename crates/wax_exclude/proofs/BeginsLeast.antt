@@ -122,22 +122,22 @@ module _ {D C : Type 0} (t : Tree Span) (law : Law D C) (d : D) (start : List �
     (asked : DepthRange) (depth : Bounds)
     (inner view : WalkView D)
     (seen : IsSeenAs (selected_view inner (matches_from tree_decides t asked.min)
-    (matches_below (goes_test {A = Span}) t) false) view)
+    (matches_below (goes_test {A = Span}) t (walked_by by_matches asked depth).max) false) view)
   where
     abbrev keeps : Candidate → Bool
     keeps = matches_from tree_decides t asked.min
 
-    abbrev below : Candidate → Bool
-    below = matches_below (goes_test {A = Span}) t
-
     abbrev walked : DepthRange
     walked = walked_by by_matches asked depth
+
+    abbrev below : Candidate → Bool
+    below = matches_below (goes_test {A = Span}) t walked.max
 
     abbrev mark : Facts → Mark
     mark = of_candidate (least_mark asked.min t)
 
     abbrev lets_in : Facts → Bool
-    lets_in = opens_where (goes_test t)
+    lets_in = opens_where (goes_test t) walked.max
 
     module _ (rooted : Bool) (names : List (List ℕ))
         (b : BeginsAt law d (origin_from start rooted names) walked inner) where

@@ -1,7 +1,7 @@
 -- What a least walk doesn't list: only what lies below folders below which nothing is meant, or that a filter
 -- excludes with everything below.
 use Rattle.std.proofs.Common.{◌≡◌, ℕ, Bool, true, false, ◌&&◌, not, ◌⊎◌, List, [], ◌∷◌, ◌++◌, map, refl, sym}
-use Rattle.std.proofs.Common.{ap}
+use Rattle.std.proofs.Common.{Option, ap}
 use Rattle.std.proofs.Common.{subst, ◌∙◌, inl, inr, append_assoc, append-nil, chars}
 use Rattle.std.specs.List.{Contains}
 use Rattle.std.specs.Prelude.{All, nat_lt}
@@ -66,7 +66,7 @@ lost_then Gone xs ys zs h k =
       | inr g ↦ inr g
     ]) xs h
 
-module _ {A : Type 0} (w : Wanted A) (goes : List ℕ → Bool)
+module _ {A : Type 0} (w : Wanted A) (goes : Option ℕ → List ℕ → Bool)
     (tested : TestsBelow goes w.rooted w.glob) (least : ℕ)
     (range : DepthRange) (origin : Origin) where
   abbrev scope : WalkScope
@@ -79,7 +79,7 @@ module _ {A : Type 0} (w : Wanted A) (goes : List ℕ → Bool)
   Of f path = OfNames scope start w.rooted origin.names f path
 
   abbrev pub Shut : List ℕ → Type 0
-  Shut path = IsUnmeantBelow w origin path ⊎ IsCoveredBelow w origin path
+  Shut path = IsUnmeantBelow w range origin path ⊎ IsCoveredBelow w origin path
 
   abbrev at_of : Facts → Location
   at_of f = entry_location f
@@ -90,8 +90,8 @@ module _ {A : Type 0} (w : Wanted A) (goes : List ℕ → Bool)
       subst ArePlain (append_assoc origin.names names more) (plain_both (origin.names ++ names) more h k)
 
   closes : (m : Mark) (f : Facts) (path : List ℕ) → Of f path
-      → is_closed (opens_where goes) (entry m f) ≡ true
-      → IsUnmeantBelow w origin path
+      → is_closed (opens_where goes range.max) (entry m f) ≡ true
+      → IsUnmeantBelow w range origin path
   closes m f path (names, a, (more, p, e)) i = (
     names,
     more,
@@ -135,15 +135,17 @@ module _ {A : Type 0} (w : Wanted A) (goes : List ℕ → Bool)
     filters_lose w.filters (λ names h. h),
   )
 
+  abbrev opens : Facts → Bool
+  opens = opens_where goes range.max
+
   abbrev Loses : Forest Given → Type 0
   Loses f =
-      All (λ path. Contains (listings (pruned (opens_where goes) f)) path ⊎ IsUnmeantBelow w origin path)
+      All (λ path. Contains (listings (pruned opens f)) path ⊎ IsUnmeantBelow w range origin path)
       (listings f)
 
   abbrev LosesAll : Forest Given → Type 0
   LosesAll f =
-      All (λ path. Contains (listings (stacked (least_rules least w) (pruned (opens_where goes) f))) path
-      ⊎ Shut path)
+      All (λ path. Contains (listings (stacked (least_rules least w) (pruned opens f))) path ⊎ Shut path)
       (listings f)
 
   lies : (at : Location) (s : Shown) → at.path ≡ start → At w.rooted at origin.names → IsPlainShown s
@@ -151,12 +153,12 @@ module _ {A : Type 0} (w : Wanted A) (goes : List ℕ → Bool)
   lies at s e a x = lie_at scope start w.rooted origin.names at s e a x
 
   loses_at : (f : Forest Given) → Lie Of f → Loses f
-  loses_at f h = stay (λ y. y) (is_closed (opens_where goes)) (IsUnmeantBelow w origin) Of closes f h
+  loses_at f h = stay (λ y. y) (is_closed opens) (IsUnmeantBelow w range origin) Of closes f h
 
   loses_all_at : (f : Forest Given) → Lie Of f → LosesAll f
   loses_all_at f h =
-      let cut = is_closed (opens_where goes) in
-      let once = pruned (opens_where goes) f in
+      let cut = is_closed opens in
+      let once = pruned opens f in
       lost_then Shut (listings f) (listings once) (listings (stacked (least_rules least w) once))
       (stay (λ y. y) cut Shut Of (λ m g path o i. inl (closes m g path o i)) f h)
       (stay_stacked Of Shut (least_rules least w) rules_lose once

@@ -1,7 +1,10 @@
 -- What the least walk of a glob keeps: below a folder that isn't opened nothing is wanted.
-use Rattle.std.proofs.Common.{◌≡◌, ℕ, Bool, true, false, ◌&&◌, not, cond, if◌then◌else◌, List, [], ◌∷◌}
-use Rattle.std.proofs.Common.{◌++◌, map, refl, sym, ap, subst, ◌∙◌, append_assoc, chars}
+use Rattle.std.proofs.Common.{◌≡◌, ℕ, ◌+◌, ◌<◌, ◌≤◌, Bool, true, false, ◌&&◌, not, cond, if◌then◌else◌}
+use Rattle.std.proofs.Common.{Option, List, [], ◌∷◌, ◌++◌, length, map, refl, sym, ap, subst, ◌∙◌, arith}
+use Rattle.std.proofs.Common.{append_assoc, length-append, chars}
 use Rattle.std.specs.Prelude.{filter, nat_lt}
+use Rattle.std.specs.Str.{all_scalars}
+use Rattle.std.proofs.lemmas.Bool.{ltb-true}
 use Rattle.std.proofs.lemmas.List.{map-append}
 use Rattle.wax_directory.specs.declared.directory.FileType.{FileType}
 use Rattle.wax_directory.specs.declared.directory.FileType.TheVariants.{Folder}
@@ -12,6 +15,7 @@ use Rattle.wax_token.specs.Meaning.{Means}
 use Rattle.wax_token.specs.Syntax.{Tree}
 use Rattle.wax_tree.specs.Plain.{WalkScope, Location, one_deeper, plain_entry, items_forest}
 use Rattle.wax_tree.specs.Plain.{plain_at}
+use Rattle.wax_tree.specs.Programs.{limit_below}
 use Rattle.wax_walk.specs.Candidates.{of_candidate}
 use Rattle.wax_walk.specs.declared.error.FaultKind.{FaultKind}
 use Rattle.wax_walk.specs.declared.error.FaultKind.TheVariants.{Listing}
@@ -20,12 +24,14 @@ use Rattle.wax_walk.specs.Given.{Facts, Mark, kept, alone, with_tree, Given, ent
 use Rattle.wax_walk.specs.View.{is_folder_kind}
 use Rattle.wax_walk.specs.Pruned.{is_closed, pruned}
 use Rattle.wax_exclude.proofs.Filters.{filters_keep}
-use Rattle.wax_exclude.proofs.Names.{at_join, chars_joined, names_chars}
+use Rattle.wax_exclude.proofs.Names.{at_join, chars_joined, length_names, names_chars, names_scalars}
+use Rattle.wax_exclude.proofs.LimitsBelow.{allows_more}
 use Rattle.wax_exclude.proofs.Pruning.{NoneCut, all_pass_left, none_if, none_unless, same_left}
 use Rattle.wax_exclude.proofs.Reaching.{never, none_of}
 use Rattle.wax_exclude.proofs.Stacking.{stacked_entries}
 use Rattle.wax_exclude.proofs.Walked.{agree_inside, pass_filters, same_filter}
 use Rattle.wax_query.specs.Below.{AreNames}
+use Rattle.wax_query.specs.Ranges.{AtMost}
 use Rattle.wax_exclude.specs.Candidates.{text_at}
 use Rattle.wax_exclude.specs.inner.Descents.{At, child_location}
 use Rattle.wax_exclude.specs.inner.Stacks.{keeps, all_keep, is_left, IsEntryLeftOut, LeavesOutAll, PassesDown}
@@ -93,21 +99,28 @@ module _ {A : Type 0} (w : Wanted A) (least : ℕ) where
 
 -- ---- below closed folders
 
-module _ {A : Type 0} (w : Wanted A) (goes : List ℕ → Bool) (tested : TestsBelow goes w.rooted w.glob) where
+module _ {A : Type 0} (w : Wanted A) (goes : Option ℕ → List ℕ → Bool)
+    (tested : TestsBelow goes w.rooted w.glob) (scope : WalkScope) where
   abbrev cut : Given → Bool
-  cut = is_closed (opens_where goes)
+  cut = is_closed (opens_where goes scope.max)
+
+  -- below these names something is meant down to the greatest depth
+  abbrev MeansDeeper : List (List ℕ) → Type 0
+  MeansDeeper names = MeansLonger w.rooted w.glob (limit_below scope.max (length names)) (map chars names)
 
   -- below a folder that isn't opened nothing is meant
-  pub none_meant : (scope : WalkScope) (at : Location) (kind : FileType) (names : List (List ℕ))
-      → At w.rooted at names → cut (plain_entry at kind) ≡ true
-      → ¬ (MeansLonger w.rooted w.glob (map chars names))
-  none_meant scope at kind names a e m =
-      shut (goes (chars at.candidate)) (is_folder_kind kind) e
-      (ap goes (ap chars a.candidate_is ∙ chars_joined w.rooted names a.are_plain)
-      ∙ (tested (map chars names) (names_chars names a.are_plain)).1 m)
+  pub none_meant : (at : Location) (kind : FileType) (names : List (List ℕ)) → At w.rooted at names
+      → cut (plain_entry at kind) ≡ true → ¬ (MeansDeeper names)
+  none_meant at kind names a e m =
+      let most = limit_below scope.max (length names) in
+      let text : chars at.candidate ≡ text_at w.rooted (map chars names) =
+      ap chars a.candidate_is ∙ chars_joined w.rooted names a.are_plain in
+      shut (goes (limit_below scope.max at.depth) (chars at.candidate)) (is_folder_kind kind) e
+      ((λ i. goes (limit_below scope.max (a.depth_is i)) (text i))
+      ∙ (tested most (map chars names) (names_chars names a.are_plain)).1 m)
 
   -- what only entries have that the glob means
-  module _ (p : Given → Bool) (scope : WalkScope)
+  module _ (p : Given → Bool)
       (no_faults : (kind : FaultKind) (path : List ℕ) (depth : ℕ) → p (fault kind path depth) ≡ false)
       (unmeant : (at : Location) (kind : FileType) (names : List (List ℕ)) → At w.rooted at names
       → ¬ (Means w.glob false false (text_at w.rooted (map chars names)))
@@ -131,33 +144,55 @@ module _ {A : Type 0} (w : Wanted A) (goes : List ℕ → Bool) (tested : TestsB
     abbrev Longer : List (List ℕ) → List (List ℕ) → Type 0
     Longer names ns = (y : List ℕ) × (more : List (List ℕ)) × (ns ≡ names ++ y ∷ more)
 
-    means_more : (names ns : List (List ℕ)) → Longer names ns → AreNames (map chars ns)
-        → Means w.glob false false (text_at w.rooted (map chars ns))
-        → MeansLonger w.rooted w.glob (map chars names)
-    means_more names ns (y, more, e) n m =
+    -- and no more than the greatest depth
+    abbrev Deeper : List (List ℕ) → List (List ℕ) → Type 0
+    Deeper names ns = Longer names ns × (length ns ≤ scope.max)
+
+    allowed : (names more ns : List (List ℕ)) → ns ≡ names ++ more → length ns ≤ scope.max
+        → AtMost (length (map chars more)) (limit_below scope.max (length names))
+    allowed names more ns e fits =
+        let n : length ns ≡ length names + length more = ap length e ∙ length-append names more in
+        allows_more scope.max (length names) (length (map chars more))
+        (omega (arith, n, fits, length_names more))
+
+    means_more : (names ns : List (List ℕ)) → Deeper names ns → AreNames (map chars ns)
+        → all_scalars (text_at w.rooted (map chars ns)) ≡ true
+        → Means w.glob false false (text_at w.rooted (map chars ns)) → MeansDeeper names
+    means_more names ns ((y, more, e), fits) n all m =
         let i : map chars ns ≡ map chars names ++ map chars (y ∷ more) =
         ap (map chars) e ∙ map-append chars names (y ∷ more) in (
           map chars (y ∷ more),
           (λ j. cc),
           later_names (map chars names) (map chars (y ∷ more)) (subst AreNames i n),
+          allowed names (y ∷ more) ns e fits,
+          subst (λ v. all_scalars (text_at w.rooted v) ≡ true) i all,
           subst (λ v. Means w.glob false false (text_at w.rooted v)) i m,
         )
 
+    one_deeper_fits : (names : List (List ℕ)) (x : List ℕ) → length names < scope.max
+        → length (names ++ x ∷ []) ≤ scope.max
+    one_deeper_fits names x less = let n = length-append names (x ∷ []) in omega (arith, less, n)
+
     -- in a folder below whose names nothing is meant nothing has it
     none_in : (at : Location) (names : List (List ℕ)) (l : Items) → At w.rooted at names → ArePlainItems l
-        → ¬ (MeansLonger w.rooted w.glob (map chars names)) → of (in_folder at l) ≡ []
-    none_in at names l a t n =
+        → high at ≡ true → ¬ (MeansDeeper names) → of (in_folder at l) ≡ []
+    none_in at names l a t e n =
+        let less : length names < scope.max =
+        subst (λ d. d < scope.max) a.depth_is (ltb-true at.depth scope.max e) in
         same_filter p never (in_folder at l)
-        (agree_inside p never w.rooted scope (Longer names)
-        (λ ns x (y, more, e).
-        (y, more ++ x ∷ [], ap (λ v. v ++ x ∷ []) e ∙ append_assoc names (y ∷ more) (x ∷ [])))
-        (λ c k ns h g. unmeant c k ns h (λ m. n (means_more names ns g (names_chars ns h.are_plain) m)))
-        no_faults at names l a t (λ x. (x, [], refl)))
+        (agree_inside p never w.rooted scope (Deeper names)
+        (λ ns x deep ((y, more, i), fits). (
+          (y, more ++ x ∷ [], ap (λ v. v ++ x ∷ []) i ∙ append_assoc names (y ∷ more) (x ∷ [])),
+          one_deeper_fits ns x deep,
+        ))
+        (λ c k ns h g. unmeant c k ns h (λ m. n
+        (means_more names ns g (names_chars ns h.are_plain) (names_scalars w.rooted ns h.are_plain) m)))
+        no_faults at names l a t (λ x. ((x, [], refl), one_deeper_fits names x less)))
         ∙ none_of (preorder (in_folder at l))
 
-    of_listed : (b : Bool) (path : List ℕ) (f : Forest Given) → of f ≡ []
+    of_listed : (b : Bool) (path : List ℕ) (f : Forest Given) → (b ≡ true → of f ≡ [])
         → of (cond b (lists path f) nothing) ≡ []
-    of_listed true path f e = e
+    of_listed true path f e = e refl
     of_listed false path f e = refl
 
     of_one : (kind : FaultKind) (path : List ℕ) (depth : ℕ)
@@ -169,12 +204,12 @@ module _ {A : Type 0} (w : Wanted A) (goes : List ℕ → Bool) (tested : TestsB
     free_leaf at kind rest h = none_unless cut p (low at) (plain_entry at kind) nothing rest (λ e. refl) tt h
 
     free_folder : (at : Location) (names : List (List ℕ)) (inner rest : Forest Given) → At w.rooted at names
-        → (¬ (MeansLonger w.rooted w.glob (map chars names)) → of inner ≡ []) → Free inner → Free rest
+        → (high at ≡ true → ¬ (MeansDeeper names) → of inner ≡ []) → Free inner → Free rest
         → Free (cond (low at) (followed_by (cond (high at) (lists at.path inner) nothing) rest)
         (item (plain_entry at Folder) (cond (high at) (lists at.path inner) nothing) rest))
     free_folder at names inner rest a n h k =
         none_unless cut p (low at) (plain_entry at Folder) (cond (high at) (lists at.path inner) nothing) rest
-        (λ e. of_listed (high at) at.path inner (n (none_meant scope at Folder names a e)))
+        (λ e. of_listed (high at) at.path inner (λ b. n b (none_meant at Folder names a e)))
         (none_if cut p (high at) (lists at.path inner) h) k
 
     free_inside : (at : Location) (names : List (List ℕ)) (l : Items) → At w.rooted at names → ArePlainItems l
@@ -192,7 +227,7 @@ module _ {A : Type 0} (w : Wanted A) (goes : List ℕ → Bool) (tested : TestsB
         let c = child_location at x in
         free_folder c (names ++ x ∷ [])
         (item (fault Listing c.path c.depth) nothing nothing) (in_folder at rest)
-        (at_join w.rooted at names x a t.0) (λ n. of_one Listing c.path c.depth) ((λ e. refl), tt, tt)
+        (at_join w.rooted at names x a t.0) (λ b n. of_one Listing c.path c.depth) ((λ e. refl), tt, tt)
         (free_inside at names rest a t.1)
     free_inside at names (misnamed x kind rest) a t = ((λ e. refl), tt, free_inside at names rest a t)
     free_inside at names (unread rest) a t = ((λ e. refl), tt, free_inside at names rest a t)
@@ -206,7 +241,7 @@ module _ {A : Type 0} (w : Wanted A) (goes : List ℕ → Bool) (tested : TestsB
         (free_inside at names l a t) tt
     free_at at names a_sealed a t =
         free_folder at names (item (fault Listing at.path at.depth) nothing nothing) nothing a
-        (λ n. of_one Listing at.path at.depth) ((λ e. refl), tt, tt) tt
+        (λ b n. of_one Listing at.path at.depth) ((λ e. refl), tt, tt) tt
     free_at at names missing a t = ((λ e. refl), tt, tt)
     free_at at names failing a t = ((λ e. refl), tt, tt)
 
@@ -217,11 +252,10 @@ module _ {A : Type 0} (w : Wanted A) (goes : List ℕ → Bool) (tested : TestsB
   untrue false n = refl
 
   -- an entry that the glob doesn't mean isn't wanted
-  pub unwanted_from : (least : ℕ) (scope : WalkScope) (at : Location) (kind : FileType)
-      (names : List (List ℕ))
+  pub unwanted_from : (least : ℕ) (at : Location) (kind : FileType) (names : List (List ℕ))
       → At w.rooted at names → ¬ (Means w.glob false false (text_at w.rooted (map chars names)))
       → is_wanted_from least w (plain_entry at kind) ≡ false
-  unwanted_from least scope at kind names a n =
+  unwanted_from least at kind names a n =
       let s = chars at.candidate in
       let deep = not (nat_lt at.depth least) in
       ap (λ b. deep && (b && none_excludes w.filters s))
@@ -231,17 +265,17 @@ module _ {A : Type 0} (w : Wanted A) (goes : List ℕ → Bool) (tested : TestsB
       ∙ and_false deep
 
   -- the least walk keeps exactly what is wanted, in order
-  pub least_wanted : (least : ℕ) (scope : WalkScope) (at : Location) (names : List (List ℕ)) (s : Shown)
+  pub least_wanted : (least : ℕ) (at : Location) (names : List (List ℕ)) (s : Shown)
       → At w.rooted at names → IsPlainShown s
       → filter is_kept_entry (preorder
-      (stacked (least_rules least w) (pruned (opens_where goes) (plain_at scope at s nothing))))
+      (stacked (least_rules least w) (pruned (opens_where goes scope.max) (plain_at scope at s nothing))))
       ≡ filter (is_wanted_from least w) (preorder (plain_at scope at s nothing))
-  least_wanted least scope at names s a t =
+  least_wanted least at names s a t =
       let f = plain_at scope at s nothing in
       let same : is_left (least_rules least w) ≡ is_wanted_from least w = λ i x. left_wanted w least x i in
-      stacked_entries (least_rules least w) (pruned (opens_where goes) f)
+      stacked_entries (least_rules least w) (pruned (opens_where goes scope.max) f)
       (all_pass_left cut (least_rules least w) f
       (least_passes w.glob least f, pass_filters w scope at names s a t w.filters))
-      ∙ ap (λ p. filter p (preorder (pruned (opens_where goes) f))) same
+      ∙ ap (λ p. filter p (preorder (pruned (opens_where goes scope.max) f))) same
       ∙ same_left cut (is_wanted_from least w) f
-      (free_at (is_wanted_from least w) scope (λ k p d. refl) (unwanted_from least scope) at names s a t)
+      (free_at (is_wanted_from least w) (λ k p d. refl) (unwanted_from least) at names s a t)

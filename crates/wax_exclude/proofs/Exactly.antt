@@ -1,8 +1,9 @@
 -- A least walk lists exactly the folders of the plain walk that it may.
 use Rattle.std.proofs.Common.{◌≡◌, ◌↔◌, ℕ, Bool, true, false, ◌⊎◌, cond, List, [], ◌∷◌, ◌++◌, map, refl, sym}
-use Rattle.std.proofs.Common.{ap}
+use Rattle.std.proofs.Common.{◌+◌, ◌≤◌, Option, ap, length, length-append}
 use Rattle.std.proofs.Common.{subst, ◌∙◌, inl, inr, arith, append_assoc, append-nil, chars}
 use Rattle.std.specs.List.{Contains}
+use Rattle.std.specs.Str.{all_scalars}
 use Rattle.std.proofs.lemmas.List.{append_cancel_left, map-append}
 use Rattle.std.proofs.lemmas.List.Elements.{All-contains, Contains-append_left, Contains-append_right}
 use Rattle.wax_directory.specs.Names.{names_in_path}
@@ -11,14 +12,17 @@ use Rattle.wax_token.specs.Meaning.{HasNoSlash, Means}
 use Rattle.wax_tree.specs.Begins.{Origin}
 use Rattle.wax_tree.specs.declared.steps.DepthRange.{DepthRange}
 use Rattle.wax_tree.specs.Prefix.{ArePlain, path_from}
+use Rattle.wax_tree.specs.Programs.{limit_below}
 use Rattle.wax_walk.specs.Forest.{Forest, nothing, item, lists, listings, filtered}
 use Rattle.wax_walk.specs.Given.{Facts, Mark, Given, changed_by, cut_by}
 use Rattle.wax_walk.specs.Pruned.{is_closed, pruned}
 use Rattle.wax_exclude.proofs.Closed.{plain_later, loses_shut}
-use Rattle.wax_exclude.proofs.Names.{names_bytes, names_chars, names_in_joined}
+use Rattle.wax_exclude.proofs.Names.{length_names, names_bytes, names_chars, names_in_joined}
+use Rattle.wax_exclude.proofs.LimitsBelow.{allows_both}
 use Rattle.wax_query.proofs.Ends.{closed_name, open_append}
 use Rattle.wax_exclude.proofs.Opened.{opens_few}
 use Rattle.wax_exclude.proofs.Staying.{Each, each_more, each_filtered, all_listed}
+use Rattle.wax_query.specs.Ranges.{AtMost}
 use Rattle.wax_query.specs.Below.{AreNames, joined_names, slashed, ends_open}
 use Rattle.wax_exclude.specs.Candidates.{text_at}
 use Rattle.wax_exclude.specs.Premises.{IsPlainShown}
@@ -126,13 +130,18 @@ some_append : (xs ys : List (List ℕ)) → ¬ (ys ≡ []) → ¬ (xs ++ ys ≡ 
 some_append [] ys h e = h e
 some_append (x ∷ xs) ys h e = cc
 
--- what is meant below longer names is meant below the first few
-pub means_shorter : {A : Type 0} (w : Wanted A) (front back : List (List ℕ)) → AreNames back
-    → MeansLonger w.rooted w.glob (front ++ back) → MeansLonger w.rooted w.glob front
-means_shorter w front back h (more, some, names, means) = (
+-- what is meant below longer names down to a greatest depth is meant below the first few
+pub means_shorter : {A : Type 0} (w : Wanted A) (greatest depth : ℕ) (front back : List (List ℕ))
+    → depth + length back ≤ greatest → AreNames back
+    → MeansLonger w.rooted w.glob (limit_below greatest (depth + length back)) (front ++ back)
+    → MeansLonger w.rooted w.glob (limit_below greatest depth) front
+means_shorter w greatest depth front back fits h (more, some, names, few, all, means) = (
   back ++ more,
   some_append back more some,
   append_names back more h names,
+  subst (λ n. AtMost n (limit_below greatest depth)) (sym (length-append back more))
+      (allows_both greatest depth (length back) (length more) fits few),
+  subst (λ v. all_scalars (text_at w.rooted v) ≡ true) (append_assoc front back more) all,
   subst (λ v. Means w.glob false false (text_at w.rooted v)) (append_assoc front back more) means,
 )
 
@@ -154,7 +163,7 @@ module _ {A : Type 0} (w : Wanted A) (range : DepthRange) (origin : Origin) (pat
       (names_bytes may.names (plain_later origin.names may.names may.are_plain))
       (names_bytes names (plain_later origin.names names p)) (sym may.path_is ∙ e)
 
-  pub not_unmeant : MayOpen w range origin path → IsUnmeantBelow w origin path → ⊥
+  pub not_unmeant : MayOpen w range origin path → IsUnmeantBelow w range origin path → ⊥
   not_unmeant may (front, back, p, e, none) =
       let same = its_names may (front ++ back) p e in
       let before = origin.names ++ front in
@@ -162,9 +171,16 @@ module _ {A : Type 0} (w : Wanted A) (range : DepthRange) (origin : Origin) (pat
       ap (λ v. map chars (origin.names ++ v)) same
       ∙ ap (map chars) (sym (append_assoc origin.names front back))
       ∙ map-append chars before back in
+      let count : length (origin.names ++ may.names) ≡ length before + length (map chars back) =
+      ap (λ v. length (origin.names ++ v)) same
+      ∙ ap length (sym (append_assoc origin.names front back))
+      ∙ length-append before back ∙ ap (λ n. length before + n) (sym (length_names back)) in
       let plain = plain_later before back (subst ArePlain (sym (append_assoc origin.names front back)) p) in
-      none (means_shorter w (map chars before) (map chars back) (names_chars back plain)
-      (subst (λ v. MeansLonger w.rooted w.glob v) split may.means_longer))
+      none (means_shorter w range.max (length before) (map chars before) (map chars back)
+      (omega (arith, count, may.above_greatest)) (names_chars back plain)
+      (subst (λ n. MeansLonger w.rooted w.glob (limit_below range.max n) (map chars before ++ map chars back))
+      count (subst (MeansLonger w.rooted w.glob (limit_below range.max (length (origin.names ++ may.names))))
+      split may.means_longer)))
 
   pub not_shut : MayOpen w range origin path → IsCoveredBelow w origin path → ⊥
   not_shut may (names, p, e, c) =
@@ -174,7 +190,7 @@ module _ {A : Type 0} (w : Wanted A) (range : DepthRange) (origin : Origin) (pat
 
 -- a least walk lists exactly those folders of the plain walk that it may: below which something is meant, and
 -- which no filter excludes with everything below
-pub lists_exactly : {A : Type 0} (w : Wanted A) (goes : List ℕ → Bool)
+pub lists_exactly : {A : Type 0} (w : Wanted A) (goes : Option ℕ → List ℕ → Bool)
     (tested : TestsBelow goes w.rooted w.glob)
     (asked walked : DepthRange) (origin : Origin) → CanWalkLeast w asked walked origin
     → (s : Shown) → IsPlainShown s
@@ -186,12 +202,12 @@ lists_exactly w goes tested asked walked origin can s t path =
     let now = listings (least_walk goes asked.min w walked origin s) in
     let lost = loses_shut w goes tested asked.min walked origin can.candidate can.plain s t in (
       λ c. (
-        listed_before (opens_where goes) rules f path c,
+        listed_before (opens_where goes walked.max) rules f path c,
         All-contains (MayOpen w walked origin) now path
             (opens_few w goes tested asked walked origin can s t) c,
       ),
       λ (c, may). elim (All-contains
-          (λ p. Contains now p ⊎ (IsUnmeantBelow w origin p ⊎ IsCoveredBelow w origin p))
+          (λ p. Contains now p ⊎ (IsUnmeantBelow w walked origin p ⊎ IsCoveredBelow w origin p))
           (listings f) path lost c) [
             | inl listed ↦ listed
             | inr (inl none) ↦ absurd (not_unmeant w walked origin path may none)

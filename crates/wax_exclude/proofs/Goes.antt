@@ -1,9 +1,10 @@
 -- Whether something below a folder is meant, by its text and by its names.
 use Rattle.std.proofs.Common.{◌≡◌, ◌↔◌, ℕ, Bool, true, false, if◌then◌else◌, List, [], ◌∷◌, ◌++◌, refl, sym}
-use Rattle.std.proofs.Common.{ap}
+use Rattle.std.proofs.Common.{Option, ap}
 use Rattle.std.proofs.Common.{subst, ◌∙◌, append_assoc}
-use Rattle.wax_prefilter.specs.Below.{MeansBelow, goes_test, goes_tested}
-use Rattle.wax_query.specs.Below.{AreNames, ends_open, folder_text, joined_names, slashed}
+use Rattle.std.specs.Str.{all_scalars}
+use Rattle.wax_prefilter.specs.Below.{MeansWithin, goes_test, goes_tested}
+use Rattle.wax_query.specs.Below.{AreNames, folder_text, joined_names, slashed}
 use Rattle.wax_token.specs.Meaning.{Means}
 use Rattle.wax_token.specs.Syntax.{Tree}
 use Rattle.wax_exclude.proofs.Names.{closed_after}
@@ -37,28 +38,33 @@ text_below rooted (n ∷ names) (m ∷ more) h some =
     ∙ ap (λ v. base rooted ++ v) (append_assoc n (slashed names) q
     ∙ ap (λ v. n ++ v) (sym (slashed_append names (m ∷ more))))
 
--- the tree means the text of something below that of some names exactly if it means that of longer names
-pub means_by_names : {A : Type 0} (rooted : Bool) (t : Tree A) (names : List (List ℕ)) → AreNames names
-    → MeansBelow t (text_at rooted names) ↔ MeansLonger rooted t names
-means_by_names rooted t names h = (
-  λ (s, (path, (more, are_more, some, path_is), s_is), m). (
-    more,
-    some,
-    are_more,
-    subst (λ v. Means t false false v)
-        (s_is ∙ ap (λ v. folder_text (text_at rooted names) ++ v) path_is
-        ∙ text_below rooted names more h some) m,
-  ),
-  λ (more, some, are_more, m). (
+-- the tree means the text of something at most so many names below that of some names exactly if it means
+-- that of longer names, with at most so many more
+pub means_by_names : {A : Type 0} (rooted : Bool) (t : Tree A) (most : Option ℕ) (names : List (List ℕ))
+    → AreNames names → MeansWithin t most (text_at rooted names) ↔ MeansLonger rooted t most names
+means_by_names rooted t most names h = (
+  λ (s, (path, (more, are_more, some, few, path_is), s_is), all, m).
+      let same : s ≡ text_at rooted (names ++ more) =
+      s_is ∙ ap (λ v. folder_text (text_at rooted names) ++ v) path_is
+      ∙ text_below rooted names more h some in (
+        more,
+        some,
+        are_more,
+        few,
+        subst (λ v. all_scalars v ≡ true) same all,
+        subst (λ v. Means t false false v) same m,
+      ),
+  λ (more, some, are_more, few, all, m). (
     text_at rooted (names ++ more),
-    (joined_names more, (more, are_more, some, refl), sym (text_below rooted names more h some)),
+    (joined_names more, (more, are_more, some, few, refl), sym (text_below rooted names more h some)),
+    all,
     m,
   ),
 )
 
 -- the test of a tree by texts tells what it means by names
 pub goes_tests : {A : Type 0} (rooted : Bool) (t : Tree A) → TestsBelow (goes_test t) rooted t
-goes_tests rooted t names h =
-    let tested = goes_tested t (text_at rooted names) in
-    let longer = means_by_names rooted t names h in
+goes_tests rooted t most names h =
+    let tested = goes_tested t most (text_at rooted names) in
+    let longer = means_by_names rooted t most names h in
     ((λ g. longer.0 (tested.0 g)), (λ m. tested.1 (longer.1 m)))

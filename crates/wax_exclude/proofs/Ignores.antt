@@ -35,7 +35,7 @@ ignored_walk lines rooted scope at names s h x =
     stacked_entries (ignore_rules lines) f
     (passes_at rooted (ignore_mark lines) (ignore_descends rooted lines) scope at names s h x, tt)
     ∙ same_filter (is_left (ignore_rules lines)) (is_unignored lines) f
-    (agree_at (is_left (ignore_rules lines)) (is_unignored lines) rooted scope (λ ns. ⊤) (λ ns y g. tt)
+    (agree_at (is_left (ignore_rules lines)) (is_unignored lines) rooted scope (λ ns. ⊤) (λ ns y d g. tt)
     (λ c k ns a g.
     let facts : Facts = record {
       path = c.path;

@@ -25,6 +25,7 @@ pub mod Keeping
 pub mod KeptItems
 pub mod LastMatch
 pub mod LeadingComponents
+pub mod LimitsBelow
 pub mod Listing
 pub mod ListingLines
 pub mod Losing

@@ -6,16 +6,18 @@ use Rattle.std.proofs.Common.{length-append}
 use Rattle.std.proofs.Common.{chars, encode_utf8_all, inl, inr}
 use Rattle.std.specs.List.{Contains, slice_split, onto_first}
 use Rattle.std.specs.Prelude.{filter, ◌==◌}
-use Rattle.std.specs.Str.{IsUtf8}
+use Rattle.std.specs.Str.{IsUtf8, all_scalars}
 use Rattle.std.proofs.lemmas.Bool.{eqb-true, cases_Bool}
 use Rattle.std.proofs.lemmas.List.Elements.{Contains-append_right}
 use Rattle.std.proofs.lemmas.Str.{chars-append, encodes-chars, encodes-append, chars-nil, chars-encodes}
+use Rattle.std.proofs.lemmas.Str.{scalars-chars}
 use Rattle.wax_directory.specs.Names.{is_some_name, names_in_path}
 use Rattle.wax_directory.specs.Shown.{join, IsPlain}
 use Rattle.wax_token.specs.Meaning.{HasNoSlash}
 use Rattle.wax_tree.specs.Plain.{Location}
 use Rattle.wax_tree.specs.Prefix.{ArePlain}
 use Rattle.wax_walk.specs.Candidates.{Candidate}
+use Rattle.wax_program.proofs.Scalars.{scalars_append}
 use Rattle.wax_query.proofs.Ends.{closed_name, not_same, open_append}
 use Rattle.wax_query.specs.Below.{slashed, joined_names, AreNames, ends_open}
 use Rattle.wax_exclude.specs.Candidates.{base, text_at}
@@ -116,6 +118,21 @@ texts_joined true (n ∷ names) h = texts_slashed (n ∷ names) h
 pub chars_joined : (rooted : Bool) (names : List (List ℕ)) → ArePlain names
     → chars (base rooted ++ joined_names names) ≡ base rooted ++ joined_names (map chars names)
 chars_joined rooted names h = texts_joined rooted names (plain_texts names h)
+
+slashed_scalars : (names : List (List ℕ)) → AreTexts names → all_scalars (slashed (map chars names)) ≡ true
+slashed_scalars [] h = refl
+slashed_scalars (n ∷ names) h =
+    scalars_append (chars n) (slashed (map chars names)) (scalars-chars n h.0) (slashed_scalars names h.1)
+
+-- their candidate consists of characters
+pub names_scalars : (rooted : Bool) (names : List (List ℕ)) → ArePlain names
+    → all_scalars (text_at rooted (map chars names)) ≡ true
+names_scalars false [] h = refl
+names_scalars true [] h = refl
+names_scalars false (n ∷ names) h =
+    scalars_append (chars n) (slashed (map chars names)) (scalars-chars n h.0.text)
+    (slashed_scalars names (plain_texts names h.1))
+names_scalars true (n ∷ names) h = slashed_scalars (n ∷ names) (plain_texts (n ∷ names) h)
 
 no_slash_spelled : (cs : List ℕ) → ¬ (Contains (encode_utf8_all cs) 47) → HasNoSlash cs
 no_slash_spelled [] h = tt

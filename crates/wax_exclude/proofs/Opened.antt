@@ -1,13 +1,14 @@
 -- Which folders a least walk lists.
 use Rattle.std.proofs.Common.{◌≡◌, ℕ, ◌<◌, Bool, true, false, ◌&&◌, not, cond, List, [], ◌∷◌, ◌++◌, map, refl}
-use Rattle.std.proofs.Common.{sym, ap, subst, ◌∙◌, inl, inr, arith, append_assoc, append-nil, chars}
-use Rattle.std.specs.Prelude.{All}
+use Rattle.std.proofs.Common.{length, sym, ap, subst, ◌∙◌, inl, inr, arith, append_assoc, append-nil, chars}
+use Rattle.std.specs.Prelude.{All, Option}
 use Rattle.std.proofs.lemmas.List.Elements.{All-nil, All-weaker}
 use Rattle.wax_directory.specs.Shown.{Shown, a_leaf, a_folder, a_sealed, missing, failing, child_in}
 use Rattle.wax_tree.specs.Begins.{Origin, origin_location, scope_in}
 use Rattle.wax_tree.specs.declared.steps.DepthRange.{DepthRange}
 use Rattle.wax_tree.specs.Plain.{WalkScope, Location, plain_at}
 use Rattle.wax_tree.specs.Prefix.{ArePlain, path_from, walk_from}
+use Rattle.wax_tree.specs.Programs.{limit_below}
 use Rattle.wax_walk.specs.declared.error.FaultKind.{FaultKind}
 use Rattle.wax_walk.specs.declared.error.FaultKind.TheVariants.{NotFound, NotAFolder, Listing}
 use Rattle.wax_walk.specs.Forest.{Forest, nothing, item, lists, listings}
@@ -17,9 +18,11 @@ use Rattle.wax_walk.specs.Pruned.{is_closed, pruned}
 use Rattle.wax_exclude.proofs.Headline.{at_start, stacked_fault}
 use Rattle.wax_exclude.proofs.Listing.{Guarded, Well, WellBelow, done_with, well_stacked, none_done, Chosen}
 use Rattle.wax_exclude.proofs.Listing.{each_listed}
-use Rattle.wax_exclude.proofs.Listing.{IsBelow, OfFolder, AboveLeast, well_at, none_covers, origin_end}
+use Rattle.wax_exclude.proofs.Listing.{IsBelow, OfFolder, AboveLeast, location_at, well_at, none_covers}
+use Rattle.wax_exclude.proofs.Listing.{origin_end}
 use Rattle.wax_exclude.proofs.Names.{at_join, chars_joined, names_chars}
 use Rattle.wax_exclude.proofs.Reaching.{plain_child}
+use Rattle.wax_exclude.specs.Candidates.{text_at}
 use Rattle.wax_exclude.specs.inner.Descents.{At, child_location}
 use Rattle.wax_exclude.specs.Premises.{IsPlainShown}
 use Rattle.wax_exclude.specs.Pruned.{TestsBelow, opens_where, least_rules, least_walk, CanWalkLeast}
@@ -77,7 +80,7 @@ module _ (opens : Facts → Bool) (OfEntry : Facts → List ℕ → Type 0)
     below_pruned x (lists path after) h e = (guarded_open x path h.0 e, well_pruned after h.1)
 
 -- the least walk from the last name of an origin on, in a range
-module _ {A : Type 0} (w : Wanted A) (goes : List ℕ → Bool)
+module _ {A : Type 0} (w : Wanted A) (goes : Option ℕ → List ℕ → Bool)
     (tested : TestsBelow goes w.rooted w.glob) (least : ℕ)
     (range : DepthRange) (origin : Origin) (all : range.min ≡ 0) where
   abbrev scope : WalkScope
@@ -96,10 +99,20 @@ module _ {A : Type 0} (w : Wanted A) (goes : List ℕ → Bool)
   kind_is f path h = ap is_folder_kind h.2
 
   abbrev Opened : Facts → List ℕ → Type 0
-  Opened f path = OfOpened (opens_where goes) Folders kind_is Above f path
+  Opened f path = OfOpened (opens_where goes range.max) Folders kind_is Above f path
 
   abbrev rules : List (Facts → Mark)
   rules = least_rules least w
+
+  -- what the test says of the folder, by its text and depth and by its names
+  says : (f : Facts) (path : List ℕ) (names : List (List ℕ))
+      → At w.rooted (location_at w.rooted scope start origin.names f path) names
+      → goes (limit_below range.max f.depth) (chars f.candidate)
+      ≡ goes (limit_below range.max (length names)) (text_at w.rooted (map chars names))
+  says f path names a =
+      let text : chars f.candidate ≡ text_at w.rooted (map chars names) =
+      ap chars a.candidate_is ∙ chars_joined w.rooted names a.are_plain in
+      λ i. goes (limit_below range.max (a.depth_is i)) (text i)
 
   may_open : (path : List ℕ) → Chosen Opened Above (done_with Opened Above rules []) path
       → MayOpen w range origin path
@@ -115,13 +128,13 @@ module _ {A : Type 0} (w : Wanted A) (goes : List ℕ → Bool)
         path_is = below.path_is;
         are_plain = a.are_plain;
         above_greatest = omega (arith, deep, a.depth_is);
-        means_longer = (tested (map chars names) (names_chars names a.are_plain)).0
-            (ap goes (sym (ap chars a.candidate_is ∙ chars_joined w.rooted names a.are_plain)) ∙ o.1);
+        means_longer = (tested (limit_below range.max (length names)) (map chars names)
+            (names_chars names a.are_plain)).0 (sym (says f path names a) ∙ o.1);
         uncovered = none_covers w.rooted scope start origin.names w.filters f path names a n.1;
       }
 
   abbrev May : Forest Given → Type 0
-  May f = All (MayOpen w range origin) (listings (stacked rules (pruned (opens_where goes) f)))
+  May f = All (MayOpen w range origin) (listings (stacked rules (pruned (opens_where goes range.max) f)))
 
   may_at : (at : Location) (s : Shown) → at.path ≡ start → At w.rooted at origin.names → IsPlainShown s
       → May (plain_at scope at s nothing)
@@ -132,13 +145,13 @@ module _ {A : Type 0} (w : Wanted A) (goes : List ℕ → Bool)
         path_is = e;
         place = subst (λ v. At w.rooted at v) (sym (append-nil origin.names)) a;
       } in
-      let well = well_stacked Opened Above rules [] (pruned (opens_where goes) f)
-      (well_pruned (opens_where goes) Folders kind_is Above f
+      let well = well_stacked Opened Above rules [] (pruned (opens_where goes range.max) f)
+      (well_pruned (opens_where goes range.max) Folders kind_is Above f
       (well_at w.rooted scope start origin.names at s below x)) in
       All-weaker (Chosen Opened Above (done_with Opened Above rules [])) (MayOpen w range origin) may_open
-      (listings (stacked rules (pruned (opens_where goes) f)))
+      (listings (stacked rules (pruned (opens_where goes range.max) f)))
       (each_listed Opened Above (done_with Opened Above rules [])
-      (stacked rules (pruned (opens_where goes) f)) well)
+      (stacked rules (pruned (opens_where goes range.max) f)) well)
 
   may_fault : (kind : FaultKind) (path : List ℕ) (depth : ℕ)
       → May (item (fault kind path depth) nothing nothing)
@@ -161,7 +174,8 @@ module _ {A : Type 0} (w : Wanted A) (goes : List ℕ → Bool)
       (at_join w.rooted at done x a n.0) (plain_child x l s) (append_assoc done (x ∷ []) names ∙ e) f
 
 -- the least walk lists only folders below which something is meant
-pub opens_few : {A : Type 0} (w : Wanted A) (goes : List ℕ → Bool) (tested : TestsBelow goes w.rooted w.glob)
+pub opens_few : {A : Type 0} (w : Wanted A) (goes : Option ℕ → List ℕ → Bool)
+    (tested : TestsBelow goes w.rooted w.glob)
     (asked walked : DepthRange) (origin : Origin) → CanWalkLeast w asked walked origin
     → (s : Shown) → IsPlainShown s
     → All (MayOpen w walked origin) (listings (least_walk goes asked.min w walked origin s))

@@ -1,6 +1,6 @@
 -- A least walk keeps what is wanted of the whole walk.
 use Rattle.std.proofs.Common.{◌≡◌, ℕ, ◌<◌, ◌≤◌, Bool, true, false, ◌&&◌, not, ◌⊎◌, List, [], ◌∷◌, ◌++◌, map}
-use Rattle.std.proofs.Common.{length}
+use Rattle.std.proofs.Common.{Option, length}
 use Rattle.std.proofs.Common.{refl, ap, ◌∙◌, inl, inr, arith, chars}
 use Rattle.std.specs.Prelude.{filter, nat_lt}
 use Rattle.std.proofs.lemmas.Bool.{ltb-true}
@@ -74,31 +74,33 @@ module _ {A : Type 0} (w : Wanted A) (asked : DepthRange) where
       start
       ∙ ap (λ p. filter p (whole_at (origin_location origin) s)) same
 
-module _ {A : Type 0} (w : Wanted A) (goes : List ℕ → Bool) (tested : TestsBelow goes w.rooted w.glob)
+module _ {A : Type 0} (w : Wanted A) (goes : Option ℕ → List ℕ → Bool)
+    (tested : TestsBelow goes w.rooted w.glob)
     (asked walked : DepthRange) (origin : Origin) (can : CanWalkLeast w asked walked origin) where
   abbrev scope_to : ℕ → WalkScope
   scope_to max = record { min = 0; max = max }
 
   abbrev kept_of : Forest Given → List Given
-  kept_of f =
-      filter is_kept_entry (preorder (stacked (least_rules asked.min w) (pruned (opens_where goes) f)))
+  kept_of f = filter is_kept_entry (preorder
+      (stacked (least_rules asked.min w) (pruned (opens_where goes walked.max) f)))
 
   kept_fault : (kind : FaultKind) (path : List ℕ) (depth : ℕ)
       → kept_of (item (fault kind path depth) nothing nothing) ≡ []
   kept_fault kind path depth =
       ap (λ f. filter is_kept_entry (preorder f)) (stacked_fault w (least_rules asked.min w) kind path depth)
 
-  kept_walk : (scope : WalkScope) (names : List (List ℕ)) (at : Location) (done : List (List ℕ)) (s : Shown)
+  kept_walk : (names : List (List ℕ)) (at : Location) (done : List (List ℕ)) (s : Shown)
       → ArePlain names → At w.rooted at done → IsPlainShown s
-      → kept_of (walk_from scope at s names nothing) ≡ of w asked (walk_from scope at s names nothing)
-  kept_walk scope [] at done s n a x = least_wanted w goes tested asked.min scope at done s a x
-  kept_walk scope (x ∷ names) at done (a_leaf link) n a s = kept_fault NotAFolder at.path at.depth
-  kept_walk scope (x ∷ names) at done a_sealed n a s =
+      → kept_of (walk_from (scope_to walked.max) at s names nothing)
+      ≡ of w asked (walk_from (scope_to walked.max) at s names nothing)
+  kept_walk [] at done s n a x = least_wanted w goes tested (scope_to walked.max) asked.min at done s a x
+  kept_walk (x ∷ names) at done (a_leaf link) n a s = kept_fault NotAFolder at.path at.depth
+  kept_walk (x ∷ names) at done a_sealed n a s =
       kept_fault Listing (child_location at x).path (child_location at x).depth
-  kept_walk scope (x ∷ names) at done missing n a s = kept_fault NotFound at.path at.depth
-  kept_walk scope (x ∷ names) at done failing n a s = kept_fault Listing at.path at.depth
-  kept_walk scope (x ∷ names) at done (a_folder l) n a s =
-      kept_walk scope names (child_location at x) (done ++ x ∷ []) (child_in x l) n.1
+  kept_walk (x ∷ names) at done missing n a s = kept_fault NotFound at.path at.depth
+  kept_walk (x ∷ names) at done failing n a s = kept_fault Listing at.path at.depth
+  kept_walk (x ∷ names) at done (a_folder l) n a s =
+      kept_walk names (child_location at x) (done ++ x ∷ []) (child_in x l) n.1
       (at_join w.rooted at done x a n.0) (plain_child x l s)
 
   -- what lies beside the names of the origin isn't wanted
@@ -106,7 +108,7 @@ module _ {A : Type 0} (w : Wanted A) (goes : List ℕ → Bool) (tested : TestsB
       → At w.rooted at names
       → ((rest : List (List ℕ)) → ¬ (names ≡ origin.names ++ rest))
       → is_wanted_from asked.min w (plain_entry at kind) ≡ false
-  beyond scope at kind names a n = unwanted_from w goes tested asked.min scope at kind names a
+  beyond scope at kind names a n = unwanted_from w goes tested scope asked.min at kind names a
       (λ m.
       let b = can.begins (map chars names) (names_chars names a.are_plain) m in
       let d = bytes_begin names origin.names b.0 a.are_plain can.plain b.1 in
@@ -120,7 +122,7 @@ module _ {A : Type 0} (w : Wanted A) (goes : List ℕ → Bool) (tested : TestsB
       ap (λ v. of w asked (walk_from (scope_to v) (origin_location origin) s origin.names nothing)) e
   to_greatest s t (inr b) =
       same_walk (is_wanted_from asked.min w) (λ k p d. refl) w.rooted 0 walked.max asked.max b.0
-      (λ at k ns h g. unwanted_from w goes tested asked.min (scope_to asked.max) at k ns h
+      (λ at k ns h g. unwanted_from w goes tested (scope_to asked.max) asked.min at k ns h
       (λ m. (let c = b.1 (map chars ns) (names_chars ns h.are_plain) m in
       let e = length_names ns in omega (arith, c, e, g, h.depth_is))))
       origin.names (origin_location origin) [] s can.plain (at_start w origin can.candidate) t
@@ -139,7 +141,7 @@ module _ {A : Type 0} (w : Wanted A) (goes : List ℕ → Bool) (tested : TestsB
       let start = at_start w origin can.candidate in
       ap (λ v. kept_of (walk_from (record { min = v; max = walked.max }) (origin_location origin)
       s origin.names nothing)) can.least
-      ∙ kept_walk (scope_to walked.max) origin.names (origin_location origin) [] s can.plain start plain
+      ∙ kept_walk origin.names (origin_location origin) [] s can.plain start plain
       ∙ to_greatest s plain can.greatest
       ∙ reached (is_wanted_from asked.min w) (λ k p d. refl) w.rooted (scope_to asked.max) origin.names
       (beyond (scope_to asked.max)) origin.names (origin_location origin) [] s refl

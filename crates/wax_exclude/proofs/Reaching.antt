@@ -161,7 +161,7 @@ module _ (p : Given → Bool)
         deep_none at names l d a t =
             same_filter p never (all_in at l)
             (agree_inside p never rooted all (λ ns. less < length ns)
-            (λ ns x g. (let n = length-append ns (x ∷ []) in omega (arith, g, n)))
+            (λ ns x d' g. (let n = length-append ns (x ∷ []) in omega (arith, g, n)))
             (λ c k ns h g. past c k ns h (omega (arith, g, h.depth_is))) no_faults at names l a t
             (λ x. (let n = length-append names (x ∷ []) in omega (arith, d, a.depth_is, n))))
             ∙ none_of (preorder (all_in at l))
@@ -301,7 +301,7 @@ module _ (p : Given → Bool)
         below_sibling at y l a t n =
             same_filter p never (in_folder at l)
             (agree_inside p never rooted scope (λ ns. (more : List (List ℕ)) × (ns ≡ done ++ y ∷ more))
-            (λ ns z g. (g.0 ++ z ∷ [], ap (λ v. v ++ z ∷ []) g.1 ∙ append_assoc done (y ∷ g.0) (z ∷ [])))
+            (λ ns z d g. (g.0 ++ z ∷ [], ap (λ v. v ++ z ∷ []) g.1 ∙ append_assoc done (y ∷ g.0) (z ∷ [])))
             (λ c k ns h g. beyond c k ns h (λ rest e. n (apart done names rest g.0 x y aim (sym g.1 ∙ e))))
             no_faults at (done ++ y ∷ []) l a t (λ z. (z ∷ [], append_assoc done (y ∷ []) (z ∷ []))))
             ∙ none_of (preorder (in_folder at l))

@@ -1,8 +1,9 @@
 -- What a glob's walk keeps is what is wanted.
-use Rattle.std.proofs.Common.{◌≡◌, ℕ, Bool, true, false, ◌&&◌, cond, List, [], ◌∷◌, ◌++◌, map, refl}
+use Rattle.std.proofs.Common.{◌≡◌, ℕ, ◌<◌, Bool, true, false, ◌&&◌, cond, List, [], ◌∷◌, ◌++◌, map, refl}
 use Rattle.std.proofs.Common.{sym, ap}
-use Rattle.std.proofs.Common.{◌∙◌, chars}
+use Rattle.std.proofs.Common.{length, subst, ◌∙◌, chars}
 use Rattle.std.specs.Prelude.{filter, nat_lt, ⊤}
+use Rattle.std.proofs.lemmas.Bool.{ltb-true}
 use Rattle.std.proofs.lemmas.List.Elements.{filter-append}
 use Rattle.wax_directory.specs.declared.directory.FileType.{FileType}
 use Rattle.wax_directory.specs.declared.directory.FileType.TheVariants.{Folder}
@@ -60,13 +61,15 @@ module _ (p q : Given → Bool) where
   agree_unless true x below after e h k = agree_followed below after h k
   agree_unless false x below after e h k = (e, h, k)
 
-  agree_if : (b : Bool) (f : Forest Given) → Agree p q f → Agree p q (cond b f nothing)
-  agree_if true f h = h
+  agree_if : (b : Bool) (f : Forest Given) → (b ≡ true → Agree p q f) → Agree p q (cond b f nothing)
+  agree_if true f h = h refl
   agree_if false f h = tt
 
-  -- on entries of names that have Good, and on faults
+  -- on entries of names that have Good, and on faults; longer names have Good if they don't exceed the
+  -- greatest depth
   module _ (rooted : Bool) (scope : WalkScope) (Good : List (List ℕ) → Type 0)
-      (good_more : (names : List (List ℕ)) (x : List ℕ) → Good names → Good (names ++ x ∷ []))
+      (good_more : (names : List (List ℕ)) (x : List ℕ) → length names < scope.max → Good names
+      → Good (names ++ x ∷ []))
       (of_entries : (at : Location) (kind : FileType) (names : List (List ℕ))
       → At rooted at names → Good names
       → p (plain_entry at kind) ≡ q (plain_entry at kind))
@@ -80,6 +83,10 @@ module _ (p q : Given → Bool) where
 
     abbrev high : Location → Bool
     high at = nat_lt at.depth scope.max
+
+    above : (at : Location) (names : List (List ℕ)) → At rooted at names → high at ≡ true
+        → length names < scope.max
+    above at names h e = subst (λ n. n < scope.max) h.depth_is (ltb-true at.depth scope.max e)
 
     agree_sealed : (b : Bool) (path : List ℕ) (depth : ℕ)
         → Agree p q (cond b (unlisted scope path depth) nothing)
@@ -101,7 +108,8 @@ module _ (p q : Given → Bool) where
         agree_unless (low c) (plain_entry c Folder) (below_forest scope c (a_folder inner))
         (in_folder at rest) (of_entries c Folder (names ++ x ∷ []) a (g x))
         (agree_if (high c) (lists c.path (in_folder c inner))
-        (agree_inside c (names ++ x ∷ []) inner a t.1 (λ y. good_more (names ++ x ∷ []) y (g x))))
+        (λ e. agree_inside c (names ++ x ∷ []) inner a t.1
+        (λ y. good_more (names ++ x ∷ []) y (above c (names ++ x ∷ []) a e) (g x))))
         (agree_inside at names rest h t.2 g)
     agree_inside at names (sealed x rest) h t g =
         let c = child_location at x in
@@ -122,7 +130,7 @@ module _ (p q : Given → Bool) where
         agree_unless (low at) (plain_entry at Folder) (below_forest scope at (a_folder l)) nothing
         (of_entries at Folder names h g)
         (agree_if (high at) (lists at.path (in_folder at l))
-        (agree_inside at names l h t (λ x. good_more names x g))) tt
+        (λ e. agree_inside at names l h t (λ x. good_more names x (above at names h e) g))) tt
     agree_at at names a_sealed h t g =
         agree_unless (low at) (plain_entry at Folder) (below_forest scope at a_sealed) nothing
         (of_entries at Folder names h g) (agree_sealed (high at) at.path at.depth) tt
@@ -162,7 +170,7 @@ module _ {A : Type 0} (w : Wanted A) (scope : WalkScope) where
         pass_filters at names s h x w.filters,
       )
       ∙ same_filter (is_left (rules_of w)) (is_wanted w) (plain_at scope at s nothing)
-      (agree_at (is_left (rules_of w)) (is_wanted w) w.rooted scope (λ ns. ⊤) (λ ns x g. tt)
+      (agree_at (is_left (rules_of w)) (is_wanted w) w.rooted scope (λ ns. ⊤) (λ ns x d g. tt)
       (λ c k ns a g.
       let f : Facts = record {
         path = c.path;

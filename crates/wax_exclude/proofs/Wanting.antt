@@ -206,7 +206,7 @@ module _ (laws : WalkLaw) where
     abbrev walk_by : Pruning → Forest Given
     walk_by pruning =
         stacked (rules_by pruning asked.min w)
-        (opened_forest (opening_by pruning w.glob) (origin_walk walked origin s))
+        (opened_forest (opening_by pruning w.glob walked.max) (origin_walk walked origin s))
 
     gives_by : (pruning : Pruning) → CanWalkBy pruning w asked walked origin → IsPlainShown s
         → AreDistinctAlong origin.names s → length origin.names ≤ walked.max

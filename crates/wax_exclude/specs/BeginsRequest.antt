@@ -38,7 +38,7 @@ walked_by pruning asked depth =
 -- the folders that are opened
 abbrev pub walk_opens : {A : Type 0} → Pruning → Tree A → ℕ → Facts → Bool
 walk_opens by_components t most = is_above most
-walk_opens by_matches t most = λ f. is_above most f && opens_where (goes_test t) f
+walk_opens by_matches t most = λ f. is_above most f && opens_where (goes_test t) most f
 
 -- the origin of these names, from a start, or from the root
 abbrev pub origin_from : List ℕ → Bool → List (List ℕ) → Origin

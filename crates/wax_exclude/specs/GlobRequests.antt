@@ -60,7 +60,7 @@ pub data CanBegin (request : GlobRequest) : Type 0 where
 -- the walk of the request: the rule of the glob's walk first, and that of each filter after it
 abbrev pub walk_for : GlobRequest → RuledWalk
 walk_for request = record {
-  opening = opening_by request.pruning request.wanted.glob;
+  opening = opening_by request.pruning request.wanted.glob request.walked.max;
   rules = rules_by request.pruning request.asked.min request.wanted;
   walked = request.walked;
   origin = request.origin;

@@ -48,7 +48,7 @@ GivesLeast = (w : Wanted Span) (asked walked : DepthRange) (origin : Origin) (s 
     ≡ wanted_entries w asked origin s
 
 -- the walk lists exactly the folders of the plain walk that it may open: those below which something is
--- matched, and which no filter excludes with everything below
+-- matched down to the greatest depth, and which no filter excludes with everything below
 abbrev pub ListsExactly : Type 0
 ListsExactly = (w : Wanted Span) (asked walked : DepthRange) (origin : Origin) (s : Shown)
     → CanWalkLeast w asked walked origin → IsPlainShown s

@@ -272,10 +272,23 @@ module _ (range : DepthRange) (start : List ℕ) where
   lacks_answered : (told : List Answer) (xs : List Given) (x : Given) → told ≡ [] → xs ≡ x ∷ []
       → CutsShort [] x → CutsWithin range.budget told x → EntriesAnswered range start told xs
   lacks_answered told xs x e f s within =
-      told_in_part missing [] (calls_for range start missing) x tt refl e
-      (opened_folders (answers (calls_for range start missing)))
-      (opened_first told [] (calls_for range start missing) _ e refl ∙ plain_opened missing)
-      ([], yielded range (all.whole start missing), f, refl) s within
+      told_in_part (record {
+        shown = missing;
+        named = tt;
+        course = unknown;
+        starts = tt;
+        known = tt;
+        told_is = e;
+        rest = calls_for range start missing;
+        calls_are = refl;
+        later = opened_folders (answers (calls_for range start missing));
+        opened_are = opened_first told [] (calls_for range start missing) _ e refl ∙ plain_opened missing;
+        error = x;
+        items = ([], yielded range (all.whole start missing), f, refl);
+        came = f;
+        cut = s;
+        within = within;
+      })
 
   pub entries_answered : {D : Type 0} (view : WalkView D) (told : List Answer) (xs ys : List Given)
       → ((c : Course) → MayTake view c → StartTakes (scope_in range) start c) → EndsThere xs
@@ -296,13 +309,24 @@ module _ (range : DepthRange) (start : List ℕ) where
   entries_answered view told xs ys takes ends (cut_short c x t first e f s) h k = elim (takes c t) [
     | walks d n b ↦
         let p = comes_first c (plain_course (scope_in range) start d) first b in
-        told_in_part d (calls_of c) p.calls x n p.calls_are e (opened_folders (answers p.calls))
-        (opened_first told (calls_of c) p.calls (calls_for range start d) e p.calls_are ∙ plain_opened d) (
-          items_of c,
-          p.items,
-          k ∙ f,
-          p.items_are ∙ items_plain d,
-        ) s (cuts_within range.budget told xs (items_of c) (calls_of c) x h f s)
+        told_in_part (record {
+          shown = d;
+          named = n;
+          course = c;
+          starts = b;
+          known = first;
+          told_is = e;
+          rest = p.calls;
+          calls_are = p.calls_are;
+          later = opened_folders (answers p.calls);
+          opened_are = opened_first told (calls_of c) p.calls (calls_for range start d) e p.calls_are
+              ∙ plain_opened d;
+          error = x;
+          items = (items_of c, p.items, k ∙ f, p.items_are ∙ items_plain d);
+          came = k ∙ f;
+          cut = s;
+          within = cuts_within range.budget told xs (items_of c) (calls_of c) x h f s;
+        })
     | lacking_start b ↦
         let l = lacks_alone c x told xs ends b e f s in
         lacks_answered told ys x l.0 (k ∙ l.1) l.2

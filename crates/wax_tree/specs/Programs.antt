@@ -1,5 +1,6 @@
 -- What programs decide about entries.
-use Rattle.std.specs.Prelude.{ℕ, Bool, true, ◌&&◌, nat_lt, not, if◌then◌else◌, List, [], ◌∷◌}
+use Rattle.std.specs.Prelude.{ℕ, ◌-◌, Bool, true, ◌&&◌, nat_lt, not, if◌then◌else◌, List, [], ◌∷◌}
+use Rattle.std.specs.Prelude.{Option, Some, None}
 use Rattle.wax_walk.specs.Candidates.{Candidate}
 use Rattle.wax_walk.specs.Given.{Mark, kept, alone, with_tree, combined_mark}
 
@@ -27,9 +28,13 @@ leading_mark tests cs decides p c = if leads tests cs c.names then means_mark de
 abbrev pub matches_from : {P : Type 0} → (P → List ℕ → Bool) → P → ℕ → Candidate → Bool
 matches_from decides p least c = not (nat_lt c.depth least) && decides p c.text
 
--- a folder is opened if something below it may match
-abbrev pub matches_below : {P : Type 0} → (P → List ℕ → Bool) → P → Candidate → Bool
-matches_below goes_on p c = goes_on p c.text
+-- how many more names an entry below one at this depth may have; greatest depths from 64 on set no limit
+abbrev pub limit_below : ℕ → ℕ → Option ℕ
+limit_below greatest depth = if nat_lt greatest 64 then Some (greatest - depth) else None
+
+-- a folder is opened if something below it, at no more than the greatest depth, may match
+abbrev pub matches_below : {P : Type 0} → (P → Option ℕ → List ℕ → Bool) → P → ℕ → Candidate → Bool
+matches_below goes_on p greatest c = goes_on p (limit_below greatest c.depth) c.text
 
 -- ---- several rules
 

@@ -11,7 +11,9 @@ use Rattle.wax_tree.specs.Plain.{plain_entry}
 use Rattle.wax_directory.specs.History.{Answer}
 use Rattle.wax_tree.specs.Courses.{IsNamed, plain_course}
 use Rattle.wax_walk.specs.Collected.{IsCutShort}
-use Rattle.wax_walk.specs.Course.{DirectoryCall, CutsShort, answers, calls_of}
+use Rattle.wax_walk.specs.Course.{Course, CutsShort, DirectoryCall, IsKnownFirst, IsStartOf, answers}
+use Rattle.wax_walk.specs.Course.{calls_of}
+use Rattle.wax_walk.specs.Course.{items_of}
 use Rattle.wax_walk.specs.declared.error.FaultKind.TheVariants.{NotFound, NotAFolder, Listing, BadName}
 use Rattle.wax_walk.specs.declared.error.FaultKind.TheVariants.{NotText, Budget}
 use Rattle.wax_walk.specs.Forest.{Pending, listings, nothing, pending}
@@ -90,19 +92,36 @@ abbrev pub CutsWithin : ℕ → List Answer → Given → Type 0
 CutsWithin budget told (fault Budget path depth) = items_listed told ≡ budget + 1
 CutsWithin budget told x = items_listed told ≤ budget + 1
 
+-- What was answered begins what some tree answers. The items are those that the walk of this tree yields
+-- before it asks more, which begin what these depths leave of its whole walk, and then one error, because
+-- allocation failed or the budget was reached in the folder that was asked last.
+pub record EntriesInPart (range : DepthRange) (start : List ℕ) (told : List Answer) (xs : List Given) : Type 0
+  where
+    pub shown : Shown
+    pub named : IsNamed shown
+    -- the walk of the tree, as far as it went
+    pub course : Course
+    pub starts : IsStartOf course (plain_course (scope_in range) start shown)
+    pub known : IsKnownFirst course
+    pub told_is : told ≡ answers (calls_of course)
+    pub rest : List DirectoryCall
+    pub calls_are : calls_of course ++ rest ≡ calls_for range start shown
+    -- the folders that were opened, or that couldn't be listed, begin those that the plain walk lists
+    pub later : List (List ℕ)
+    pub opened_are : opened_folders told ++ later ≡ listings (plain (scope_in range) start shown)
+    pub error : Given
+    pub items : IsCutShort (yielded range (whole start shown)) error xs
+    pub came : xs ≡ items_of course ++ error ∷ []
+    pub cut : CutsShort (calls_of course) error
+    pub within : CutsWithin range.budget told error
+
 -- whatever was answered: it is what some tree answers, the folders that were opened, or that couldn't be
 -- listed, are those that the plain walk of this tree lists, in order, the items are what these depths leave
--- of its whole walk, and no more items than the budget were listed; or it begins that, and the items are a
--- prefix and then one error, because allocation failed or the budget was reached in the folder that was asked
--- last
+-- of its whole walk, and no more items than the budget were listed; or all of this in part
 pub data EntriesAnswered (range : DepthRange) (start : List ℕ) (told : List Answer) (xs : List Given) : Type 0
   where
     as_told : (s : Shown) → IsNamed s → told ≡ answers (calls_for range start s)
         → opened_folders told ≡ listings (plain (scope_in range) start s)
         → xs ≡ yielded range (whole start s) → items_listed told ≤ range.budget
         → EntriesAnswered range start told xs
-    told_in_part : (s : Shown) (calls rest : List DirectoryCall) (x : Given) → IsNamed s
-        → calls ++ rest ≡ calls_for range start s → told ≡ answers calls
-        → (later : List (List ℕ)) → opened_folders told ++ later ≡ listings (plain (scope_in range) start s)
-        → IsCutShort (yielded range (whole start s)) x xs → CutsShort calls x
-        → CutsWithin range.budget told x → EntriesAnswered range start told xs
+    told_in_part : EntriesInPart range start told xs → EntriesAnswered range start told xs

@@ -1,5 +1,5 @@
 //! A matcher of one glob for many paths.
-ghost use Rattle.std.specs.Prelude.{◌≡◌, ◌↔◌, IfOk, IsTrue, chars, false};
+ghost use Rattle.std.specs.Prelude.{◌≡◌, ◌↔◌, None, IfOk, IsTrue, chars, false};
 ghost use Rattle.wax.specs.GlobView.{IsMeant};
 ghost use Rattle.wax_query.specs.Parts.{NoLineEndsBefore};
 ghost use Rattle.wax_prefilter.specs.Below.{MeansBelow, goes_test, goes_tested};
@@ -138,10 +138,21 @@ impl GlobMatcher<'_, '_> {
             (λ verdict. IsTrue verdict.goes_on ↔ MeansBelow self.old.tree path.now) }
         ensures decides { IfOk result
             (λ verdict. verdict.is_match ≡ means_test self.old.tree false false path.now) }
-        ensures onward { IfOk result (λ verdict. verdict.goes_on ≡ goes_test self.old.tree path.now) }
+        ensures onward { IfOk result (λ verdict. verdict.goes_on ≡ goes_test self.old.tree None path.now) }
         ensures same { self.new ≡ self.old }
     {
-        self.matcher.verdict(path.as_str())
+        self.judge(path, None)
+    }
+
+    // Returns what `verdict` does, for at most `most` names below the folder, if that is some number.
+    fn judge(&mut self, path: &CandidatePath<'_>, most: Option<usize>) -> Result<Verdict, NoMemory>
+        ensures decides { IfOk result
+            (λ verdict. verdict.is_match ≡ means_test self.old.tree false false path.now) }
+        ensures onward { IfOk result
+            (λ verdict. verdict.goes_on ≡ goes_test self.old.tree most path.now) }
+        ensures same { self.new ≡ self.old }
+    {
+        self.matcher.verdict(path.as_str(), most)
     }
 
     /// Returns how many bytes at the beginning of a text can be passed over in a search for lines
@@ -164,8 +175,8 @@ impl PathMatcher for GlobMatcher<'_, '_> {
 
     ghost goes_on = { λ m. goes_test m.tree };
 
-    ghost leads = { λ m folder s is h.
-        (goes_tested m.tree folder).1 (s, is, (means_tested m.tree false false s).0 h) };
+    ghost leads = { λ m most folder s is all h.
+        (goes_tested m.tree most folder).1 (s, is, all, (means_tested m.tree false false s).0 h) };
 
     #[inline]
     fn is_match(&mut self, path: &CandidatePath<'_>) -> Result<bool, NoMemory> {
@@ -174,6 +185,14 @@ impl PathMatcher for GlobMatcher<'_, '_> {
 
     fn verdict(&mut self, path: &CandidatePath<'_>) -> Result<Verdict, NoMemory> {
         self.verdict(path)
+    }
+
+    fn verdict_within(
+        &mut self,
+        path: &CandidatePath<'_>,
+        most: usize,
+    ) -> Result<Verdict, NoMemory> {
+        self.judge(path, Some(most))
     }
 
     fn earliest_end(&self, text: &str) -> usize {

@@ -1,5 +1,5 @@
 //! A matcher that owns its glob.
-ghost use Rattle.std.specs.Prelude.{◌≡◌, ◌↔◌, IfOk, IsTrue, false};
+ghost use Rattle.std.specs.Prelude.{◌≡◌, ◌↔◌, None, IfOk, IsTrue, false};
 ghost use Rattle.wax.specs.GlobView.{IsMeant};
 ghost use Rattle.wax_query.specs.Parts.{NoLineEndsBefore};
 ghost use Rattle.wax_prefilter.specs.Below.{MeansBelow, goes_test, goes_tested};
@@ -64,21 +64,21 @@ impl<'t> Glob<'t> {
     }
 
     /// Returns whether the glob matches the whole path, and whether it matches the path of something
-    /// below the folder with this path, with the help of what is kept of earlier paths.
+    /// below the folder with this path, at most `most` names below it if that is some number, with the
+    /// help of what is kept of earlier paths.
     fn verdict_cached(
         &mut self,
         alloc: Global,
         path: &CandidatePath<'_>,
+        most: Option<usize>,
     ) -> Result<Verdict, NoMemory>
-        ensures means { IfOk result (λ verdict. IsTrue verdict.is_match ↔ IsMeant self.old path.now) }
-        ensures below { IfOk result
-            (λ verdict. IsTrue verdict.goes_on ↔ MeansBelow self.old.tree path.now) }
         ensures decides { IfOk result
             (λ verdict. verdict.is_match ≡ means_test self.old.tree false false path.now) }
-        ensures onward { IfOk result (λ verdict. verdict.goes_on ≡ goes_test self.old.tree path.now) }
+        ensures onward { IfOk result
+            (λ verdict. verdict.goes_on ≡ goes_test self.old.tree most path.now) }
         ensures same { self.new ≡ self.old }
     {
-        self.compiled.verdict_cached(alloc, path.as_str())
+        self.compiled.verdict_cached(alloc, path.as_str(), most)
     }
 }
 
@@ -141,10 +141,21 @@ impl<'t> OwnedGlobMatcher<'t> {
             (λ verdict. IsTrue verdict.goes_on ↔ MeansBelow self.old.tree path.now) }
         ensures decides { IfOk result
             (λ verdict. verdict.is_match ≡ means_test self.old.tree false false path.now) }
-        ensures onward { IfOk result (λ verdict. verdict.goes_on ≡ goes_test self.old.tree path.now) }
+        ensures onward { IfOk result (λ verdict. verdict.goes_on ≡ goes_test self.old.tree None path.now) }
         ensures same { self.new ≡ self.old }
     {
-        self.glob.verdict_cached(self.alloc, path)
+        self.judge(path, None)
+    }
+
+    // Returns what `verdict` does, for at most `most` names below the folder, if that is some number.
+    fn judge(&mut self, path: &CandidatePath<'_>, most: Option<usize>) -> Result<Verdict, NoMemory>
+        ensures decides { IfOk result
+            (λ verdict. verdict.is_match ≡ means_test self.old.tree false false path.now) }
+        ensures onward { IfOk result
+            (λ verdict. verdict.goes_on ≡ goes_test self.old.tree most path.now) }
+        ensures same { self.new ≡ self.old }
+    {
+        self.glob.verdict_cached(self.alloc, path, most)
     }
 }
 
@@ -153,8 +164,8 @@ impl PathMatcher for OwnedGlobMatcher<'_> {
 
     ghost goes_on = { λ m. goes_test m.tree };
 
-    ghost leads = { λ m folder s is h.
-        (goes_tested m.tree folder).1 (s, is, (means_tested m.tree false false s).0 h) };
+    ghost leads = { λ m most folder s is all h.
+        (goes_tested m.tree most folder).1 (s, is, all, (means_tested m.tree false false s).0 h) };
 
     fn is_match(&mut self, path: &CandidatePath<'_>) -> Result<bool, NoMemory> {
         self.is_match(path)
@@ -162,6 +173,14 @@ impl PathMatcher for OwnedGlobMatcher<'_> {
 
     fn verdict(&mut self, path: &CandidatePath<'_>) -> Result<Verdict, NoMemory> {
         self.verdict(path)
+    }
+
+    fn verdict_within(
+        &mut self,
+        path: &CandidatePath<'_>,
+        most: usize,
+    ) -> Result<Verdict, NoMemory> {
+        self.judge(path, Some(most))
     }
 
     fn earliest_end(&self, text: &str) -> usize {

@@ -151,11 +151,11 @@ impl<'t> Glob<'t> {
         match prefix_names_of(alloc, self.token())? {
             Some(prefix_names) => {
                 let walk = walk_along(alloc, directory, start, prefix_names, range);
-                uncaptured_of(alloc, walk, self, asked.min)
+                uncaptured_of(alloc, walk, self, asked.min, asked.max)
             }
             None => {
                 let walk = WalkTree::ended(alloc, directory, range);
-                uncaptured_of(alloc, walk, self, asked.min)
+                uncaptured_of(alloc, walk, self, asked.min, asked.max)
             }
         }
     }

@@ -1,5 +1,5 @@
 //! A matcher of one set of patterns for many paths.
-ghost use Rattle.std.specs.Prelude.{◌≡◌, ◌↔◌, IfOk, IsTrue, false};
+ghost use Rattle.std.specs.Prelude.{◌≡◌, ◌↔◌, None, IfOk, IsTrue, false};
 ghost use Rattle.wax_set.specs.Sets.{AreMatches, MeansText};
 ghost use Rattle.wax_prefilter.specs.Below.{MeansBelow, goes_test, goes_tested};
 ghost use Rattle.wax_token.specs.Decided.{means_test, means_tested};
@@ -173,10 +173,20 @@ impl AnyMatcher<'_, '_> {
         ensures below { IfOk result (λ verdict. IsTrue verdict.goes_on ↔ MeansBelow self.old path.now) }
         ensures decides { IfOk result
             (λ verdict. verdict.is_match ≡ means_test self.old false false path.now) }
-        ensures onward { IfOk result (λ verdict. verdict.goes_on ≡ goes_test self.old path.now) }
+        ensures onward { IfOk result (λ verdict. verdict.goes_on ≡ goes_test self.old None path.now) }
         ensures same { self.new ≡ self.old }
     {
-        self.matcher.verdict(path.as_str())
+        self.judge(path, None)
+    }
+
+    // Returns what `verdict` does, for at most `most` names below the folder, if that is some number.
+    fn judge(&mut self, path: &CandidatePath<'_>, most: Option<usize>) -> Result<Verdict, NoMemory>
+        ensures decides { IfOk result
+            (λ verdict. verdict.is_match ≡ means_test self.old false false path.now) }
+        ensures onward { IfOk result (λ verdict. verdict.goes_on ≡ goes_test self.old most path.now) }
+        ensures same { self.new ≡ self.old }
+    {
+        self.matcher.verdict(path.as_str(), most)
     }
 }
 
@@ -185,8 +195,8 @@ impl PathMatcher for AnyMatcher<'_, '_> {
 
     ghost goes_on = { λ m. goes_test m };
 
-    ghost leads = { λ m folder s is h.
-        (goes_tested m folder).1 (s, is, (means_tested m false false s).0 h) };
+    ghost leads = { λ m most folder s is all h.
+        (goes_tested m most folder).1 (s, is, all, (means_tested m false false s).0 h) };
 
     fn is_match(&mut self, path: &CandidatePath<'_>) -> Result<bool, NoMemory> {
         self.is_match(path)
@@ -194,6 +204,14 @@ impl PathMatcher for AnyMatcher<'_, '_> {
 
     fn verdict(&mut self, path: &CandidatePath<'_>) -> Result<Verdict, NoMemory> {
         self.verdict(path)
+    }
+
+    fn verdict_within(
+        &mut self,
+        path: &CandidatePath<'_>,
+        most: usize,
+    ) -> Result<Verdict, NoMemory> {
+        self.judge(path, Some(most))
     }
 
     fn earliest_end(&self, text: &str) -> usize {

@@ -1,5 +1,5 @@
 //! A matcher that owns its set of patterns.
-ghost use Rattle.std.specs.Prelude.{◌≡◌, ◌↔◌, IfOk, IsTrue, false};
+ghost use Rattle.std.specs.Prelude.{◌≡◌, ◌↔◌, None, IfOk, IsTrue, false};
 ghost use Rattle.wax_set.specs.Sets.{AreMatches, MeansText};
 ghost use Rattle.wax_query.specs.Parts.{NoLineEndsBefore};
 ghost use Rattle.wax_prefilter.specs.Below.{MeansBelow, goes_test, goes_tested};
@@ -106,20 +106,21 @@ impl<'t> Any<'t> {
     }
 
     /// Returns whether one of the patterns matches the whole path, and whether one matches the path of
-    /// something below the folder with this path, with the help of what is kept of earlier paths.
+    /// something below the folder with this path, at most `most` names below it if that is some number,
+    /// with the help of what is kept of earlier paths.
     fn verdict_cached(
         &mut self,
         alloc: Global,
         path: &CandidatePath<'_>,
+        most: Option<usize>,
     ) -> Result<Verdict, NoMemory>
-        ensures means { IfOk result (λ verdict. IsTrue verdict.is_match ↔ MeansText self.old path.now) }
-        ensures below { IfOk result (λ verdict. IsTrue verdict.goes_on ↔ MeansBelow self.old path.now) }
         ensures decides { IfOk result
             (λ verdict. verdict.is_match ≡ means_test self.old false false path.now) }
-        ensures onward { IfOk result (λ verdict. verdict.goes_on ≡ goes_test self.old path.now) }
+        ensures onward { IfOk result
+            (λ verdict. verdict.goes_on ≡ goes_test self.old most path.now) }
         ensures same { self.new ≡ self.old }
     {
-        self.compiled.verdict_cached(alloc, path.as_str())
+        self.compiled.verdict_cached(alloc, path.as_str(), most)
     }
 }
 
@@ -224,10 +225,21 @@ impl<'t> OwnedAnyMatcher<'t> {
         ensures below { IfOk result (λ verdict. IsTrue verdict.goes_on ↔ MeansBelow self.old path.now) }
         ensures decides { IfOk result
             (λ verdict. verdict.is_match ≡ means_test self.old false false path.now) }
-        ensures onward { IfOk result (λ verdict. verdict.goes_on ≡ goes_test self.old path.now) }
+        ensures onward { IfOk result (λ verdict. verdict.goes_on ≡ goes_test self.old None path.now) }
         ensures same { self.new ≡ self.old }
     {
-        self.any.verdict_cached(self.alloc, path)
+        self.judge(path, None)
+    }
+
+    // Returns what `verdict` does, for at most `most` names below the folder, if that is some number.
+    fn judge(&mut self, path: &CandidatePath<'_>, most: Option<usize>) -> Result<Verdict, NoMemory>
+        ensures decides { IfOk result
+            (λ verdict. verdict.is_match ≡ means_test self.old false false path.now) }
+        ensures onward { IfOk result
+            (λ verdict. verdict.goes_on ≡ goes_test self.old most path.now) }
+        ensures same { self.new ≡ self.old }
+    {
+        self.any.verdict_cached(self.alloc, path, most)
     }
 }
 
@@ -236,8 +248,8 @@ impl PathMatcher for OwnedAnyMatcher<'_> {
 
     ghost goes_on = { λ m. goes_test m };
 
-    ghost leads = { λ m folder s is h.
-        (goes_tested m folder).1 (s, is, (means_tested m false false s).0 h) };
+    ghost leads = { λ m most folder s is all h.
+        (goes_tested m most folder).1 (s, is, all, (means_tested m false false s).0 h) };
 
     fn is_match(&mut self, path: &CandidatePath<'_>) -> Result<bool, NoMemory> {
         self.is_match(path)
@@ -245,6 +257,14 @@ impl PathMatcher for OwnedAnyMatcher<'_> {
 
     fn verdict(&mut self, path: &CandidatePath<'_>) -> Result<Verdict, NoMemory> {
         self.verdict(path)
+    }
+
+    fn verdict_within(
+        &mut self,
+        path: &CandidatePath<'_>,
+        most: usize,
+    ) -> Result<Verdict, NoMemory> {
+        self.judge(path, Some(most))
     }
 
     fn earliest_end(&self, text: &str) -> usize {

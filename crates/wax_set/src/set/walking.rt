@@ -122,5 +122,5 @@ fn walk_in<'a, 't, D: Directory>(
     let range = DepthRange { min: 0, ..asked };
     let prefix_names = common_prefix_of(alloc, any.branches())?;
     let walk = walk_along(alloc, directory, start, prefix_names, range);
-    uncaptured_of(alloc, walk, any, asked.min)
+    uncaptured_of(alloc, walk, any, asked.min, asked.max)
 }

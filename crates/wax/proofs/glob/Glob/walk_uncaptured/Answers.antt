@@ -8,7 +8,7 @@ use Rattle.wax_walk.proofs.Collecting.{map_ok}
 use Rattle.wax.specs.GlobView.{IsKept}
 use Rattle.wax.specs.GlobWalks.{within}
 use Rattle.wax.proofs.GoingAlong.{can_walk, none_match}
-use Rattle.wax.proofs.LeastWalks.{least_along, least_ended, seen_from}
+use Rattle.wax.proofs.LeastWalks.{Selects, least_along, least_ended}
 use Rattle.wax.proofs.glob.Glob.walk_uncaptured.Goals as goal
 
 pub returns-in-Some-clause-begins : goal.returns-in-Some-clause-begins
@@ -27,7 +27,7 @@ returns-in-Some-clause-begins g c =
     (none_match glob.tree kept)
     (subst (λ t. (taken : ℕ) × (prefix : List ℕ) × Prefix t taken prefix) tree
     c.in_ok-prefix_names.ensures.prefix)
-    _ _ (seen_from glob _ _ c.within-asked.result.min asked.min (ap (λ (r : DepthRange). r.min) same) seen) _
+    _ _ (subst (Selects glob _ _) same seen) _
     (ap (λ (r : DepthRange). record { min = 0; max = r.max; budget = r.budget }) same)
     prefix_names.is_rooted (from_last prefix_names.names.items)
     (λ taken prefix p. subst (λ o. MatchOption o (HasEmptyName prefix)
@@ -51,7 +51,7 @@ returns-in-None-clause-begins g c =
     (none_match glob.tree kept)
     (subst (λ t. (taken : ℕ) × (prefix : List ℕ) × Prefix t taken prefix) tree
     c.in_ok-prefix_names.ensures.prefix)
-    _ _ (seen_from glob _ _ c.within-asked.result.min asked.min (ap (λ (r : DepthRange). r.min) same) seen) _
+    _ _ (subst (Selects glob _ _) same seen) _
     (λ taken prefix p. subst (λ o. MatchOption o (HasEmptyName prefix)
     (λ r. PrefixSplitsInto prefix r.is_rooted (from_last r.names.items))) c.in-None.is
     (c.in_ok-prefix_names.ensures.names taken prefix (subst (λ t. Prefix t taken prefix) (sym tree) p)))

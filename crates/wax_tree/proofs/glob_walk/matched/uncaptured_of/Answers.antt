@@ -7,5 +7,5 @@ returns-clause-view g c =
     seen_by_matcher _ _ (g.P.Matcher.PathMatcher.decides c.in_ok-matcher.matcher)
     (g.P.Program.decides c.args.program.now)
     (g.P.Matcher.PathMatcher.goes_on c.in_ok-matcher.matcher)
-    (g.P.Program.goes_on c.args.program.now) c.args.least
+    (g.P.Program.goes_on c.args.program.now) c.args.least c.args.greatest
     same.decides same.onward c.selecting.ensures.view
