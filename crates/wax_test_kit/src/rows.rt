@@ -106,14 +106,15 @@ fn push_repeated(repeated: &str, text: &mut String) -> Result<(), AllocError> {
     Ok(())
 }
 
-/// Adds a text. In it, `␊`, `␍` and `␉` are a line feed, a carriage return and a tab, which a field
-/// can't contain.
+/// Adds a text. In it, `␊`, `␍`, `␉` and `␀` are a line feed, a carriage return, a tab and the
+/// character 0, which a field can't contain.
 fn push_characters(part: &str, text: &mut String) -> Result<(), AllocError> {
     for character in part.chars() {
         text.push(match character {
             '␊' => '\n',
             '␍' => '\r',
             '␉' => '\t',
+            '␀' => '\0',
             other => other,
         })?;
     }

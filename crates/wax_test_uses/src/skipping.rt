@@ -1,5 +1,6 @@
 //! Folders that need not be opened.
-ghost use Rattle.std.specs.Prelude.{◌≢◌, ◌↔◌, ◌++◌, [], ℕ, List, IfOk, IsTrue};
+ghost use Rattle.std.specs.Prelude.{◌≡◌, ◌≢◌, ◌↔◌, ◌++◌, [], ℕ, List, IfOk, IsTrue, true};
+ghost use Rattle.std.specs.Str.{all_scalars};
 ghost use Rattle.wax.specs.GlobView.{IsMeant};
 ghost use Rattle.wax.specs.Matching.{AreNames, folder_text, joined_names};
 
@@ -14,6 +15,7 @@ pub fn means_none_below(
     folder: &CandidatePath<'_>,
 ) -> Result<bool, NoMemory>
     ensures { IfOk result (λ answer. IsTrue answer ↔ ((names : List (List ℕ)) → AreNames names → names ≢ []
+        → all_scalars (folder_text folder.now ++ joined_names names) ≡ true
         → IsMeant glob.now (folder_text folder.now ++ joined_names names) → ⊥)) }
 {
     let goes_on = glob.goes_on(alloc, folder)?;
