@@ -164,6 +164,20 @@ class Queries(unittest.TestCase):
         self.assertEqual(wax.Glob("a/b").partition(), ("a/b", None))
         self.assertEqual(wax.Glob("src/*.rs").partition()[1].matched("é.rs").captures, ("é",))
 
+    def test_goes_on_over_characters(self):
+        # a class that leaves no character but `/` is taken by no text
+        for expression, answer in [
+            ("x/[!\0-\U0010ffff]", False),
+            ("x/[!\0-.0-\U0010ffff]", False),
+            ("x/[!\0-.0-\ud7ff\ue000-\U0010ffff]", False),
+            ("x/[!\0-.1-\U0010ffff]", True),
+            ("x/[!\1-\U0010ffff]", True),
+            ("x/[!\0-\U0010fffe]", True),
+            ("x/[!\0-\ud7fe\ue000-\U0010ffff]", True),
+        ]:
+            self.assertIs(wax.Glob(expression).goes_on("x"), answer, expression)
+            self.assertIs(wax.GlobSet([expression]).goes_on("x"), answer, expression)
+
     def test_goes_on(self):
         for expression, true_for, false_for in [
             ("src/*/tests/*.rs", ["", "src", "src/net", "src/net/tests"], ["doc", "src/net/tests/a.rs"]),

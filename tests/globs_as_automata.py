@@ -6,6 +6,8 @@ each gap between them. What is below a folder is a plain path: one or more names
 import re
 from dataclasses import dataclass
 from functools import lru_cache
+from heapq import heappop, heappush
+from math import inf
 from typing import Optional
 
 SLASH = "/"
@@ -218,9 +220,10 @@ class Automaton:
         self.steps, self.silent = [], []
         self.end = self.state()
         self.start = self.build(glob, False, False, self.end)
-        # pairs of a state and whether a name has begun, from which the rest of a plain path leads to the end
+        # pairs of a state and whether a name has begun, from which the rest of a plain path leads to the end, each with the least
+        # number of names that have to begin on the way
         self.onward = self.leading_on()
-        self.below = frozenset(state for state, in_name in self.onward if not in_name)
+        self.below = {state: names for (state, in_name), names in self.onward.items() if not in_name}
         self.first = self.closed({self.start})
         self.known = {}
 
@@ -309,18 +312,19 @@ class Automaton:
         for state, steps in enumerate(self.steps):
             for target in self.silent[state]:
                 for in_name in (False, True):
-                    back.setdefault((target, in_name), []).append((state, in_name))
+                    back.setdefault((target, in_name), []).append(((state, in_name), 0))
             for characters, target in steps:
                 if characters & OTHERS:
-                    back.setdefault((target, True), []).extend([(state, False), (state, True)])
+                    back.setdefault((target, True), []).extend([((state, False), 1), ((state, True), 0)])
                 if SLASH in characters:
-                    back.setdefault((target, False), []).append((state, True))
-        found, left = {(self.end, True)}, [(self.end, True)]
+                    back.setdefault((target, False), []).append(((state, True), 0))
+        found, left = {}, [(0, (self.end, True))]
         while left:
-            for pair in back.get(left.pop(), ()):
-                if pair not in found:
-                    found.add(pair)
-                    left.append(pair)
+            names, pair = heappop(left)
+            if pair not in found:
+                found[pair] = names
+                for before, more in back.get(pair, ()):
+                    heappush(left, (names + more, before))
         return found
 
     def closed(self, states):
@@ -347,10 +351,10 @@ class Automaton:
     def matches(self, text):
         return self.end in self.after(text)
 
-    def goes_on(self, folder):
-        """Returns whether a plain path below the folder with this candidate is matched."""
+    def goes_on(self, folder, most=inf):
+        """Returns whether something at most so many names below the folder with this candidate is matched."""
         text = folder if folder in ("", SLASH) else folder + SLASH
-        return not self.below.isdisjoint(self.after(text))
+        return any(self.below[it] <= most for it in self.after(text) if it in self.below)
 
 
 @lru_cache(maxsize=None)

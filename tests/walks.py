@@ -3,6 +3,7 @@ tests/data/least_folders.tsv, walks of real folders by `globs walk`, and random 
 import os
 import re
 import subprocess
+from math import inf
 from typing import NamedTuple
 
 from draws import NAMES, Draws
@@ -39,7 +40,7 @@ class Walk(NamedTuple):
     def in_memory(self):
         """Returns the row of `wax_test_walks`."""
         options = "without captures" if self.options == "-" else f"{self.options}; without captures"
-        return "\t".join(["candidates", self.plan, self.start, self.expression, options])
+        return "\t".join(["candidates", self.plan, self.start, self.expression.replace("\0", "␀"), options])
 
     def words(self, ignored):
         """Returns the arguments of `globs`, if a file has the lines of the ignore list."""
@@ -59,13 +60,15 @@ def at(tree, names):
 
 
 class Found:
-    """What a walk has to keep and to open, by candidates."""
+    """What a walk has to keep and to open, by candidates. If its greatest depth isn't less than 64, or with `sees_deeper`, it
+    also opens folders below which all that can match is deeper."""
 
-    def __init__(self, walk, globs, rules):
+    def __init__(self, walk, globs, rules, sees_deeper=False):
         self.automaton = automaton_of((Alternation(tuple(globs)),) if walk.values("as") else globs[0])
         self.rules = rules
         self.least = int((walk.values("min") or [0])[0])
         self.most = int((walk.values("max") or [1 << 32])[0])
+        self.sees_deeper = sees_deeper or self.most >= 64
         self.kept, self.opened, self.has_error = [], [], False
         self.is_rooted, names = shared([names_of(it) for it in globs]) if walk.values("as") else names_of(globs[0]) or (False, None)
         start = [] if self.is_rooted else [it for it in walk.start.split(SLASH) if it not in ("", ".")]
@@ -84,7 +87,9 @@ class Found:
         excluded, all_below = excludes(self.rules, candidate, depth)
         if not excluded and self.least <= depth <= self.most and self.automaton.matches(candidate):
             self.kept.append(candidate)
-        if not isinstance(node, dict) or all_below or depth >= self.most or not self.automaton.goes_on(candidate):
+        left = self.most - depth
+        goes_on = left > 0 and self.automaton.goes_on(candidate, inf if self.sees_deeper else left)
+        if not isinstance(node, dict) or all_below or not goes_on:
             return
         self.opened.append(candidate)
         for name, inner in node.items():
@@ -147,7 +152,7 @@ def rows(report):
                 trees[plan] = fields[0]
             elif report.wants(f"{TABLE}:{number}"):
                 start, expression, options, kept, opened = fields
-                walk = Walk(trees.get(plan, plan), start.replace("''", ""), expression.replace("''", ""), options)
+                walk = Walk(trees.get(plan, plan), start.replace("''", ""), expression.replace("''", "").replace("␀", "\0"), options)
                 yield f"{TABLE}:{number}", line, place, walk, f"{kept}\t{opened}"
 
 
