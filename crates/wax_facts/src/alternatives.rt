@@ -9,7 +9,10 @@ use std::alloc::{AllocError, Global};
 use wax_query::diagnostics::NoMemory;
 use wax_token::token::Token;
 
+mod listed;
 mod opened;
+
+pub use listed::{Alternative, list_alternatives};
 
 /// Splits a token into its alternatives: it matches a path exactly if one of them does.
 ///

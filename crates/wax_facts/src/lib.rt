@@ -15,7 +15,7 @@ mod rest;
 mod root;
 mod rules;
 
-pub use alternatives::into_alternatives;
+pub use alternatives::{Alternative, into_alternatives, list_alternatives};
 pub use exhaustive::is_exhaustive;
 pub use invariant::{has_variant_casing, text};
 pub use laws::{law_of_copies, law_of_sizes, law_of_tables};
