@@ -1,7 +1,7 @@
 -- Characters between which no cut is pass the same tests.
 use Rattle.std.proofs.Common.{◌≡◌, ◌+◌, ◌<◌, ◌≤◌, ◌==◌, ◌&&◌, ◌||◌, ℕ, zero, suc, Bool, true, false, not}
-use Rattle.std.proofs.Common.{if◌then◌else◌, nat_le, nat_lt, List, [], ◌∷◌, IfSome, Contains, All, length}
-use Rattle.std.proofs.Common.{get_or, refl, sym, ◌∙◌, ap, subst, inl, inr, arith, rules}
+use Rattle.std.proofs.Common.{if◌then◌else◌, nat_le, nat_lt, List, [], ◌∷◌, ◌++◌, IfSome, Contains, All}
+use Rattle.std.proofs.Common.{length, get_or, refl, sym, ◌∙◌, ap, subst, inl, inr, arith, rules}
 use Rattle.std.specs.Str.{all_scalars}
 use Rattle.std.specs.Char.{IsScalar}
 use Rattle.std.specs.List.{list_any, list_all}
@@ -31,6 +31,12 @@ scalar_first c s h = search rules
 
 pub scalar_rest : (c : ℕ) (s : List ℕ) → all_scalars (c ∷ s) ≡ true → all_scalars s ≡ true
 scalar_rest c s h = search rules
+
+pub scalars_push : (s : List ℕ) (c : ℕ) → all_scalars s ≡ true → IsScalar c
+    → all_scalars (s ++ c ∷ []) ≡ true
+scalars_push [] c h scalar = search rules
+scalars_push (d ∷ s) c h scalar =
+    let rest : all_scalars (s ++ c ∷ []) ≡ true = scalars_push s c (scalar_rest d s h) scalar in search rules
 
 pub scalar_small : (c : ℕ) → IsScalar c → c < 1114112
 scalar_small c h = search rules

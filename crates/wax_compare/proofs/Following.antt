@@ -9,23 +9,22 @@ use Rattle.wax_compare.specs.declared.pairs.Reached.{Reached}
 use Rattle.wax_compare.specs.declared.search.Search.{Search}
 use Rattle.wax_compare.specs.Cuts.{StandsFor}
 use Rattle.wax_compare.specs.inner.Reaching.{AreFollowed}
-use Rattle.wax_compare.specs.inner.Searching.{readings}
-use Rattle.wax_compare.specs.inner.Visiting.{AreShallow, Grow, IsHeld, IsSameSearch, IsVisited}
-use Rattle.wax_compare.proofs.Blocks.{scalar_first}
+use Rattle.wax_compare.specs.inner.Searching.{IsSameSearch, readings}
+use Rattle.wax_compare.specs.inner.Visiting.{AreShallow, Grow, IsHeld, IsVisited}
 
 module _ (code other : List Instruction) (s : Search) (reached : List Reached) (at : ℕ)
     (held : IsHeld code other s reached at)
     (visited : (k : ℕ) → k < length s.letters.items
     → IsVisited (readings code other s) reached at (slice_index s.letters.items k)) where
   followed_all : AreFollowed (readings code other s) reached (at + 1)
-  followed_all i c t x lt is scalars h = elim (cases_lt i at) [
-    | inl less ↦ held.followed i c t x less is scalars h
+  followed_all i c x lt is scalar = elim (cases_lt i at) [
+    | inl less ↦ held.followed i c x less is scalar
     | inr past ↦ (let same : i ≡ at = omega (arith, lt, past) in
-        let found = held.letters c (scalar_first c t scalars) in
+        let found = held.letters c scalar in
         let letter : slice_index s.letters.items found.1.0 ≡ found.0 =
         get_or_default s.letters.items found.1.0 0 found.0 found.1.1 ∙ found.1.2 in
-        visited found.1.0 found.1.1 c t x (subst (λ n. slice_get reached n ≡ Some x) same is)
-        (subst (λ l. StandsFor code other l c) (sym letter) found.2) h)
+        visited found.1.0 found.1.1 c x (subst (λ n. slice_get reached n ≡ Some x) same is)
+        (subst (λ l. StandsFor code other l c) (sym letter) found.2))
   ]
 
   shallow_next : AreShallow reached (at + 1)
@@ -42,6 +41,7 @@ module _ (code other : List Instruction) (s : Search) (reached : List Reached) (
   held_next = record {
     automata = held.automata;
     letters = held.letters;
+    unlike = held.unlike;
     begin = held.begin;
     pairs = held.pairs;
     followed = followed_all;
@@ -55,5 +55,10 @@ grown_within old new at grow lt = elim (slice_get_cases old at).1 [
 ]
 
 pub same_on : (old mid new : Search) → IsSameSearch old mid → IsSameSearch mid new → IsSameSearch old new
-same_on old mid new f g =
-    record { wanted = g.wanted ∙ f.wanted; texts = g.texts ∙ f.texts; letters = g.letters ∙ f.letters }
+same_on old mid new f g = record {
+  wanted = g.wanted ∙ f.wanted;
+  texts = g.texts ∙ f.texts;
+  letters = g.letters ∙ f.letters;
+  first_criterion = g.first_criterion ∙ f.first_criterion;
+  second_criterion = g.second_criterion ∙ f.second_criterion;
+}

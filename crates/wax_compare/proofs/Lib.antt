@@ -3,9 +3,15 @@ pub mod Beginning
 pub mod Blocks
 pub mod Closed
 pub mod Closures
+pub mod Copying
+pub mod Covering
 pub mod Distinguished
+pub mod Exceeding
 pub mod Following
 pub mod Kept
+pub mod Knowing
+pub mod LastNumbers
+pub mod Leading
 pub mod Letters
 pub mod Merging
 pub mod PlainPaths
@@ -15,6 +21,7 @@ pub mod Automata
 pub mod ReadingBack
 pub mod Replaced
 pub mod Searching
+pub mod Selecting
 pub mod Steps
 pub mod Usual
 pub mod Visiting

@@ -1,20 +1,23 @@
 -- Letters that stand for others that pass the same tests.
-use Rattle.std.proofs.Common.{◌≡◌, ◌↔◌, ◌+◌, ◌<◌, ◌≤◌, ◌==◌, ℕ, Bool, true, false, List, ◌∷◌, [], ◌++◌, Some}
-use Rattle.std.proofs.Common.{IfSome, Contains, length, get_or, slice_get, slice_index, refl, sym, ◌∙◌, subst}
-use Rattle.std.proofs.Common.{inl, inr, arith}
+use Rattle.std.proofs.Common.{◌≡◌, ◌↔◌, ◌⊎◌, ◌+◌, ◌<◌, ◌≤◌, ◌==◌, ℕ, zero, suc, Bool, true, false, List, ◌∷◌}
+use Rattle.std.proofs.Common.{[], ◌++◌, Some, IsTrue, IfSome, Contains, add-one, ap, length, length-append}
+use Rattle.std.proofs.Common.{slice_get, slice_index, refl, sym, ◌∙◌, subst, inl, inr, arith}
 use Rattle.std.proofs.Math.Bool.{beq, not}
 use Rattle.std.proofs.lemmas.Bool.{cases_lt, eq-eqb, eqb-true}
-use Rattle.std.proofs.lemmas.List.{get_or_default}
-use Rattle.std.proofs.lemmas.Option.{slice_get_within}
+use Rattle.std.proofs.lemmas.List.{get_or_append_left, get_or_default, get_or_push}
+use Rattle.std.proofs.lemmas.List.Elements.{Contains-get_or}
+use Rattle.std.proofs.lemmas.Option.{IfSome_then, same_Some, slice_get_cases, slice_get_within}
 use Rattle.wax_program.specs.declared.instruction.Instruction.{Instruction}
 use Rattle.wax_program.specs.declared.instruction.Instruction.TheVariants.{Check, Repeat, Components, Fork}
 use Rattle.wax_program.specs.declared.instruction.Instruction.TheVariants.{Jump, Back, End}
 use Rattle.wax_program.specs.Machine.{PassesTest}
 use Rattle.wax_program.specs.Steady.{Alike}
-use Rattle.wax_program.specs.Tests.{test_of}
-use Rattle.wax_compare.specs.Cuts.{AreAlike, AreLetters, HasStandIn, StandsFor}
+use Rattle.wax_program.specs.declared.instruction.Test.{Test}
+use Rattle.wax_program.specs.Tests.{IsTestAt, test_of}
+use Rattle.wax_compare.specs.Cuts.{AreAlike, AreLetters, AreUnlike, HasStandIn, StandsFor}
 use Rattle.wax_compare.specs.inner.Cutting.{AreKept}
-use Rattle.wax_compare.specs.inner.Merging.{AgreeBefore, AreMerged}
+use Rattle.wax_compare.specs.inner.Merging.{AgreeAt, AgreeBefore, AreKeptLetters, AreMerged, IsDigestBefore}
+use Rattle.wax_compare.specs.inner.Merging.{IsDigestOf, PassesAt, stirred}
 use Rattle.wax_compare.proofs.Blocks.{no_mark}
 use Rattle.wax_compare.proofs.Steps.{same_alike}
 
@@ -109,3 +112,155 @@ pub same_slashes : (c d : ℕ) → not (beq (c == 47) (d == 47)) ≡ false → (
 same_slashes c d e =
     let same = same_bools (c == 47) (d == 47) e in
     ((λ h. eqb-true d 47 (sym same ∙ eq-eqb c 47 h)), (λ h. eqb-true c 47 (same ∙ eq-eqb d 47 h)))
+
+-- ---- characters that pass the same tests have the same digest
+
+agree_turned : (code : List Instruction) (at c d : ℕ) → AgreeAt code at c d → AgreeAt code at d c
+agree_turned code at c d agree i is = IfSome_then (test_of i) (agree i is) (λ t h. (h.1, h.0))
+
+passes_alike : (code : List Instruction) (at c d : ℕ) → AgreeAt code at c d → PassesAt code at c
+    → PassesAt code at d
+passes_alike code at c d agree h =
+    let both = subst (λ o. IfSome o (λ t. PassesTest t c ↔ PassesTest t d)) h.3 (agree h.0 h.2) in
+    (h.0, h.1, h.2, h.3, both.0 h.4)
+
+same_digest : (code : List Instruction) (c d seed other : ℕ) → seed ≡ other → (n : ℕ) → AgreeBefore code n c d
+    → (x y : ℕ) → IsDigestBefore code c seed n x → IsDigestBefore code d other n y → x ≡ y
+same_digest code c d seed other e zero agree x y h g = h ∙ e ∙ sym g
+same_digest code c d seed other e (suc at) agree x y h g =
+    let before : h.0 ≡ g.0 = same_digest code c d seed other e at
+    (λ k lt. agree k (omega (arith, lt))) h.0 g.0 h.1 g.1 in
+    let here : AgreeAt code at c d = agree at (omega arith) in
+    elim h.2 [
+      | inl p ↦ elim g.2 [
+        | inl q ↦ p.1 ∙ ap (λ z. stirred z at) before ∙ sym q.1
+        | inr q ↦ absurd (q.0 (passes_alike code at c d here p.0))
+      ]
+      | inr p ↦ elim g.2 [
+        | inl q ↦ absurd (p.0 (passes_alike code at d c (agree_turned code at c d here) q.0))
+        | inr q ↦ p.1 ∙ before ∙ sym q.1
+      ]
+    ]
+
+alike_agree : (i : Instruction) (c d : ℕ) → Alike i c d
+    → IfSome (test_of i) (λ t. PassesTest t c ↔ PassesTest t d)
+alike_agree (Check t) c d h = h
+alike_agree (Repeat t) c d h = h
+alike_agree Components c d h = tt
+alike_agree (Fork n) c d h = tt
+alike_agree (Jump n) c d h = tt
+alike_agree (Back n) c d h = tt
+alike_agree (End low high) c d h = tt
+
+pub alike_before : (code : List Instruction) (c d n : ℕ) → AreAlike code c d → AgreeBefore code n c d
+alike_before code c d n alike k lt i is = alike_agree i c d (alike k i is)
+
+pub stands_digest : (code other : List Instruction) (letter c x y : ℕ) → StandsFor code other letter c
+    → IsDigestOf code other c x → IsDigestOf code other letter y → x ≡ y
+stands_digest code other letter c x y stands h g =
+    let middle : h.0 ≡ g.0 = same_digest code c letter 1 1 refl (length code)
+    (alike_before code c letter (length code) stands.first) h.0 g.0 h.1 g.1 in
+    same_digest other c letter h.0 g.0 middle (length other)
+    (alike_before other c letter (length other) stands.second) x y h.2 g.2
+
+-- a digest with a place more
+pub digest_more : (code : List Instruction) (c seed at before digest : ℕ)
+    → IsDigestBefore code c seed at before
+    → (PassesAt code at c × (digest ≡ stirred before at)) ⊎ ((PassesAt code at c → ⊥) × (digest ≡ before))
+    → IsDigestBefore code c seed (at + 1) digest
+digest_more code c seed at before digest h how =
+    subst (λ n. IsDigestBefore code c seed n digest) (sym (add-one at)) (before, h, how)
+
+-- ---- a letter that is kept
+
+index_left : (xs : List ℕ) (x i : ℕ) → i < length xs → slice_index (xs ++ x ∷ []) i ≡ slice_index xs i
+index_left xs x i lt = get_or_append_left xs (x ∷ []) 0 i lt
+
+index_end : (xs : List ℕ) (x i : ℕ) → i ≡ length xs → slice_index (xs ++ x ∷ []) i ≡ x
+index_end xs x i e = get_or_push xs x 0 i (sym e)
+
+module _ (code other : List Instruction) (kept digests : List ℕ) (letter digest : ℕ)
+    (held : AreKeptLetters code other kept digests) (by : IsDigestOf code other letter digest)
+    (none : HasStandIn code other kept letter → ⊥) where
+  unlike_more : AreUnlike code other (kept ++ letter ∷ [])
+  unlike_more i j lt within stands =
+      let first : i < length kept = omega (arith, lt, within, length-append kept (letter ∷ [])) in
+      elim (cases_lt j (length kept)) [
+        | inl less ↦ held.unlike i j lt less (subst (λ c. StandsFor code other (slice_index kept i) c)
+            (index_left kept letter j less)
+            (subst (λ d. StandsFor code other d (slice_index (kept ++ letter ∷ []) j))
+            (index_left kept letter i first) stands))
+        | inr past ↦ (let last : j ≡ length kept =
+            omega (arith, past, within, length-append kept (letter ∷ [])) in
+            none (
+              slice_index kept i,
+              Contains-get_or kept i 0 first,
+              subst (λ c. StandsFor code other (slice_index kept i) c) (index_end kept letter j last)
+                  (subst (λ d. StandsFor code other d (slice_index (kept ++ letter ∷ []) j))
+                  (index_left kept letter i first) stands),
+            ))
+      ]
+
+  digests_more : (k : ℕ) → k < length (kept ++ letter ∷ [])
+      → IsDigestOf code other (slice_index (kept ++ letter ∷ []) k) (slice_index (digests ++ digest ∷ []) k)
+  digests_more k within = elim (cases_lt k (length kept)) [
+    | inl less ↦ subst (λ c. IsDigestOf code other c (slice_index (digests ++ digest ∷ []) k))
+        (sym (index_left kept letter k less))
+        (subst (IsDigestOf code other (slice_index kept k))
+        (sym (index_left digests digest k (omega (arith, less, held.long)))) (held.of k less))
+    | inr past ↦ (let last : k ≡ length kept =
+        omega (arith, past, within, length-append kept (letter ∷ [])) in
+        subst (λ c. IsDigestOf code other c (slice_index (digests ++ digest ∷ []) k))
+        (sym (index_end kept letter k last))
+        (subst (IsDigestOf code other letter)
+        (sym (index_end digests digest k (omega (arith, last, held.long)))) by))
+  ]
+
+  pub kept_more : AreKeptLetters code other (kept ++ letter ∷ []) (digests ++ digest ∷ [])
+  kept_more = record {
+    unlike = unlike_more;
+    long = omega (arith, held.long, length-append kept (letter ∷ []), length-append digests (digest ∷ []));
+    of = digests_more;
+  }
+
+pub kept_none : (code other : List Instruction) → AreKeptLetters code other [] []
+kept_none code other = record {
+  unlike = λ i j lt within stands. (let no : ⊥ = omega (arith, within) in no);
+  long = refl;
+  of = λ k lt. absurd (let no : ⊥ = omega (arith, lt) in no);
+}
+
+-- one of both characters is `/`, where the tests for it differ
+pub other_slashes : (c d : ℕ) → not (beq (c == 47) (d == 47)) ≡ true → (c ≡ 47) ↔ (d ≡ 47) → ⊥
+other_slashes c d e same = differ (c == 47) (d == 47) e (λ h. eq-eqb d 47 (same.0 (eqb-true c 47 h)))
+    (λ h. eq-eqb c 47 (same.1 (eqb-true d 47 h)))
+  where
+    differ : (a b : Bool) → not (beq a b) ≡ true → (a ≡ true → b ≡ true) → (b ≡ true → a ≡ true) → ⊥
+    differ true true e f g = cc
+    differ true false e f g = (let no : false ≡ true = f refl in cc)
+    differ false true e f g = (let no : false ≡ true = g refl in cc)
+    differ false false e f g = cc
+
+-- ---- the test of an instruction, if it has one
+module _ (code : List Instruction) (at : ℕ) (within : at < length code) (t : Test)
+    (is : IsTestAt code at (Some t))
+  where
+    instruction_at : (i : Instruction) × (slice_get code at ≡ Some i)
+    instruction_at = elim (slice_get_cases code at).1 [
+      | inl found ↦ (found.0, found.2)
+      | inr none ↦ (let no : ⊥ = omega (arith, within, none.0) in absurd no)
+    ]
+
+    pub test_passes : (c : ℕ) (b : Bool) → IsTrue b ↔ PassesTest t c → IsTrue b ↔ PassesAt code at c
+    test_passes c b by = (
+      (λ h. (instruction_at.0, t, instruction_at.1, sym (is instruction_at.0 instruction_at.1), by.0 h)),
+      (λ h. by.1 (subst (λ u. PassesTest u c) (sym (same_Some t h.1 (is h.0 h.2 ∙ h.3))) h.4)),
+    )
+
+    pub test_agrees : (c d : ℕ) (b : Bool) → IsTrue b ↔ (PassesTest t c ↔ PassesTest t d)
+        → IsTrue b ↔ AgreeAt code at c d
+    test_agrees c d b by = (
+      (λ h i at_i. subst (λ o. IfSome o (λ u. PassesTest u c ↔ PassesTest u d)) (is i at_i) (by.0 h)),
+      (λ agree. by.1 (subst (λ o. IfSome o (λ u. PassesTest u c ↔ PassesTest u d))
+          (sym (is instruction_at.0 instruction_at.1)) (agree instruction_at.0 instruction_at.1))),
+    )

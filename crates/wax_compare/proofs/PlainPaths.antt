@@ -1,8 +1,8 @@
 -- Plain paths, read character by character.
-use Rattle.std.proofs.Common.{◌≡◌, ◌≢◌, ◌==◌, ℕ, Bool, true, false, not, IsTrue, List, [], ◌∷◌, ◌++◌, ◌↔◌}
+use Rattle.std.proofs.Common.{◌≡◌, ◌≢◌, ◌==◌, ℕ, Bool, true, false, not, List, [], ◌∷◌, ◌++◌}
 use Rattle.std.proofs.Common.{refl, sym, ◌∙◌, ap, subst, inl, inr}
 use Rattle.std.proofs.lemmas.Bool.{cases_eq, eq-eqb, eqb-true}
-use Rattle.wax_query.specs.Below.{AreNames, IsPlainPath, joined_names, slashed}
+use Rattle.wax_query.specs.Below.{AreNames, IsPlainPath, slashed}
 use Rattle.wax_query.specs.Components.{Bare, BeginsWithSlash, EndsWithSlash, HasNoSlash}
 use Rattle.wax_compare.specs.Texts.{HasTwoSlashes}
 use Rattle.wax_compare.specs.inner.Going.{GoesOnInNames}

@@ -1,16 +1,18 @@
 -- What follows of the pairs that were reached: that no text is wanted, or that one is a shortest.
 use Rattle.std.proofs.Common.{◌≡◌, ◌+◌, ◌<◌, ◌≤◌, ℕ, true, List, [], ◌∷◌, Some, length, get_or, slice_get}
-use Rattle.std.proofs.Common.{sym, ◌∙◌, ap, subst, arith}
+use Rattle.std.proofs.Common.{sym, ◌∙◌, ap, subst, arith, inl, inr}
 use Rattle.std.proofs.lemmas.Option.{get_or_from_slice_get, slice_get-get_or, slice_get_within}
 use Rattle.std.specs.Str.{all_scalars}
 use Rattle.wax_program.specs.Machine.{Accepts}
 use Rattle.wax_compare.specs.declared.pairs.Reached.{Reached}
 use Rattle.wax_compare.specs.Comparison.{IsWanted}
+use Rattle.wax_compare.specs.Selected.{IsSelected}
 use Rattle.wax_compare.specs.inner.Going.{Goes, starts}
 use Rattle.wax_compare.specs.inner.Automata.{state_places}
 use Rattle.wax_compare.specs.inner.Reaching.{AreFollowed, AreReachedPairs, BeginAsPrograms, GoesAt, Readings}
+use Rattle.wax_compare.proofs.Blocks.{scalar_first}
 use Rattle.wax_compare.proofs.Closed.{longer, nothing}
-use Rattle.wax_compare.proofs.Steps.{goes_wanted, wanted_goes}
+use Rattle.wax_compare.proofs.Steps.{allowed_first, ends_wanted, goes_along, goes_wanted, wanted_goes}
 
 module _ (r : Readings) (reached : List Reached) (first : Reached)
     (is_first : slice_get reached 0 ≡ Some first) (pairs : AreReachedPairs r reached)
@@ -38,20 +40,25 @@ module _ (r : Readings) (reached : List Reached) (first : Reached)
       → i < done → all_scalars (c ∷ s) ≡ true → GoesFrom i (c ∷ s)
       → (j : ℕ) × (j < length reached) × (depth_at j ≤ depth_at i + 1) × GoesFrom j s
   closed_at done within followed i c s lt scalars h =
-      let next = followed i c s (pair_at i) lt (here i (omega (arith, lt, within))) scalars h in
-      let same : pair_at next.at ≡ next.pair =
-      get_or_from_slice_get reached next.at next.pair first next.is in (
-        next.at,
-        slice_get_within reached next.at next.pair next.is,
-        subst (λ x. x.depth ≤ depth_at i + 1) (sym same) next.near,
-        subst (λ x. GoesAt r x s) (sym same) next.goes,
-      )
+      let x = pair_at i in
+      elim (followed i c x lt (here i (omega (arith, lt, within))) (scalar_first c s scalars)
+      (allowed_first r.task.texts x.pair.may_end c s h.among)) [
+        | inl ends ↦ absurd (ends_wanted r x.pair c ends s h)
+        | inr next ↦ (let same : pair_at next.at ≡ next.next =
+            get_or_from_slice_get reached next.at next.next first next.is in (
+              next.at,
+              slice_get_within reached next.at next.next next.is,
+              subst (λ y. y.depth ≤ depth_at i + 1) (sym same) next.near,
+              subst (λ y. GoesAt r y s) (sym same) (goes_along r x.pair next.next.pair c next.step s h),
+            ))
+      ]
 
   zeroth : pair_at 0 ≡ first
   zeroth = get_or_from_slice_get reached 0 first first is_first
 
   abbrev WantedText : List ℕ → Type 0
-  WantedText s = IsWanted r.task.wanted r.task.texts (Accepts r.task.code 0) (Accepts r.task.other 0) s
+  WantedText s = IsWanted r.task.wanted r.task.texts (IsSelected r.task.criterion (Accepts r.task.code 0))
+      (IsSelected r.task.other_criterion (Accepts r.task.other 0)) s
 
   begin_at : (s : List ℕ) → Goes r.task (state_places r.firsts 0) (state_places r.seconds 0)
       (starts r.task.texts) s → GoesFrom 0 s

@@ -1,6 +1,6 @@
 -- Letters that lead from a pair where another one does.
-use Rattle.std.proofs.Common.{◌≡◌, ◌+◌, ◌<◌, ℕ, Bool, true, IsTrue, List, ◌∷◌, Some, length, slice_get}
-use Rattle.std.proofs.Common.{slice_index, sym, ◌∙◌, ap, subst, inl, inr, arith}
+use Rattle.std.proofs.Common.{◌≡◌, ◌+◌, ◌<◌, ℕ, List, Some, length, slice_get, slice_index, sym, ◌∙◌, ap}
+use Rattle.std.proofs.Common.{subst, inl, inr, arith}
 use Rattle.std.proofs.lemmas.Bool.{cases_lt}
 use Rattle.std.proofs.lemmas.Option.{slice_get_cases}
 use Rattle.wax_program.specs.declared.instruction.Instruction.{Instruction}
@@ -8,15 +8,14 @@ use Rattle.wax_compare.specs.declared.automaton.Automaton.{Automaton}
 use Rattle.wax_compare.specs.declared.pairs.StatePair.{StatePair}
 use Rattle.wax_compare.specs.declared.pairs.Reached.{Reached}
 use Rattle.wax_compare.specs.declared.search.Search.{Search}
-use Rattle.wax_compare.specs.Cuts.{StandsFor}
 use Rattle.wax_compare.specs.inner.Automata.{IsAutomatonOf, option_marks, option_places, state_marks}
 use Rattle.wax_compare.specs.inner.Automata.{state_places}
 use Rattle.wax_compare.specs.inner.Distinctions.{IsUnmarked, MarksOthers}
-use Rattle.wax_compare.specs.inner.Reaching.{GoesAt, Readings}
-use Rattle.wax_compare.specs.inner.Searching.{AreAutomataOf, GoesFrom, IsUsual, readings}
-use Rattle.wax_compare.specs.inner.Visiting.{IsSameSearch, IsVisited, KeepsBoth}
-use Rattle.wax_compare.proofs.Replaced.{alike_turned, replaced}
-use Rattle.wax_compare.proofs.Steps.{goes_replaced, same_alike}
+use Rattle.wax_compare.specs.inner.Reaching.{HasNext, IsFollowedBy, Readings}
+use Rattle.wax_compare.specs.inner.Searching.{AreAutomataOf, IsSameSearch, IsUsual, KeepsBoth, readings}
+use Rattle.wax_compare.specs.inner.Visiting.{IsVisited}
+use Rattle.wax_compare.proofs.Steps.{AlikeFrom, alike_on, allowed_alike, ends_alike, stands_alike}
+use Rattle.wax_compare.proofs.Steps.{stands_itself, step_alike}
 use Rattle.wax_compare.proofs.Visiting.{some_same}
 
 -- what the marks of a state say
@@ -35,17 +34,13 @@ marks_at code letters r t is lt = elim (slice_get_cases r.states.items t).1 [
 pub usual_alike : (code other : List Instruction) (s : Search) (p : StatePair) → AreAutomataOf code other s
     → p.first < length s.first.states.items → p.second < length s.second.states.items
     → (n m : ℕ) → n < length s.letters.items → m < length s.letters.items → IsUsual s p n → IsUsual s p m
-    → (t : List ℕ) → GoesFrom (readings code other s) p (slice_index s.letters.items n ∷ t)
-    → GoesFrom (readings code other s) p (slice_index s.letters.items m ∷ t)
-usual_alike code other s p automata first second n m ltn ltm un um t h =
-    let r = readings code other s in
-    let one =
-    marks_at code s.letters.items s.first p.first automata.one first n m ltn ltm un.first um.first t in
-    let two = marks_at other s.letters.items s.second p.second automata.two second n m ltn ltm
-    un.second um.second t in
-    goes_replaced r.task (state_places s.first.states.items p.first) (state_places s.second.states.items
-    p.second) p.may_end (slice_index s.letters.items n) (slice_index s.letters.items m) t
-    ((λ e. absurd (un.other e)), (λ e. absurd (um.other e))) one.0 two h
+    → AlikeFrom (readings code other s) p (slice_index s.letters.items n) (slice_index s.letters.items m)
+usual_alike code other s p automata first second n m ltn ltm un um = record {
+  first = marks_at code s.letters.items s.first p.first automata.one first n m ltn ltm un.first um.first;
+  second = marks_at other s.letters.items s.second p.second automata.two second n m ltn ltm un.second
+      um.second;
+  slash = ((λ e. absurd (un.other e)), (λ e. absurd (um.other e)));
+}
 
 -- they stay so
 pub usual_later : (old new : Search) (p : StatePair) (k : ℕ) → IsSameSearch old new → KeepsBoth old new
@@ -57,25 +52,29 @@ usual_later old new p k same keeps first second h = record {
   second = subst (λ z. IsUnmarked z k) (sym (keeps.seconds p.second second).2) h.second;
 }
 
--- a letter that leads where one does by which the pair was followed
-pub visited_alike : (r : Readings) (reached : List Reached) (at : ℕ) (x : Reached) → slice_get reached at
-    ≡ Some x → (known letter : ℕ) → ((s : List ℕ) → GoesAt r x (letter ∷ s) → GoesAt r x (known ∷ s))
+-- a character that leads where one does by which the pair was followed
+followed_alike : (r : Readings) (reached : List Reached) (x : Reached) (c d : ℕ) → AlikeFrom r x.pair c d
+    → IsFollowedBy r reached x d → IsFollowedBy r reached x c
+followed_alike r reached x c d alike followed may = elim (followed (allowed_alike r x.pair c d alike may)) [
+  | inl ends ↦ inl (ends_alike r x.pair c d alike ends)
+  | inr next ↦ (let on : HasNext r reached x c = record {
+    at = next.at;
+    next = next.next;
+    is = next.is;
+    near = next.near;
+    step = step_alike r x.pair c d next.next.pair alike next.step;
+  } in
+      inr on)
+]
+
+pub visited_alike : (r : Readings) (reached : List Reached) (at : ℕ) (x : Reached)
+    → slice_get reached at ≡ Some x → (known letter : ℕ) → AlikeFrom r x.pair letter known
     → IsVisited r reached at known → IsVisited r reached at letter
-visited_alike r reached at x at_is known letter alike visited c s y is stands h =
+visited_alike r reached at x at_is known letter alike visited c y is stands =
     let same : y ≡ x = some_same (sym is ∙ at_is) in
-    let places = state_places r.firsts x.pair.first in
-    let others = state_places r.seconds x.pair.second in
-    let there : GoesAt r x (letter ∷ s) = goes_replaced r.task places others x.pair.may_end c letter s
-    stands.slash (replaced r.task.code c letter stands.first places s) (
-      replaced r.task.other c letter stands.second others s,
-      replaced r.task.other letter c (alike_turned r.task.other c letter stands.second) others s,
-    ) (subst (λ z. GoesAt r z (c ∷ s)) same h) in
-    let itself : StandsFor r.task.code r.task.other known known = record {
-      first = same_alike r.task.code known;
-      second = same_alike r.task.other known;
-      slash = ((λ e. e), (λ e. e));
-    } in
-    visited known s y is itself (subst (λ z. GoesAt r z (known ∷ s)) (sym same) (alike s there))
+    subst (λ z. IsFollowedBy r reached z c) (sym same) (followed_alike r reached x c known
+    (alike_on r x.pair c letter known (stands_alike r x.pair letter c stands) alike)
+    (visited known x at_is (stands_itself r.task.code r.task.other known)))
 
 -- one more letter was followed, or didn't have to be
 pub visited_more_letters : (r : Readings) (reached : List Reached) (at number : ℕ) (letters : List ℕ)

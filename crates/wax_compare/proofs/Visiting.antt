@@ -1,6 +1,6 @@
 -- Pairs that are followed by letters.
-use Rattle.std.proofs.Common.{◌≡◌, ◌+◌, ◌<◌, ◌↔◌, ℕ, zero, suc, List, [], ◌∷◌, ◌++◌, Some, length, slice_get}
-use Rattle.std.proofs.Common.{refl, sym, ◌∙◌, ap, subst, arith}
+use Rattle.std.proofs.Common.{◌≡◌, ◌<◌, ◌↔◌, ℕ, zero, suc, List, [], ◌∷◌, ◌++◌, Some, length, slice_get}
+use Rattle.std.proofs.Common.{inl, inr, refl, sym, ◌∙◌, ap, subst, arith}
 use Rattle.wax_program.specs.declared.instruction.Instruction.{Instruction}
 use Rattle.wax_program.specs.Machine.{Accepts}
 use Rattle.wax_program.specs.Threads.{AnyAmong}
@@ -9,12 +9,17 @@ use Rattle.wax_compare.specs.declared.pairs.Reached.{Reached}
 use Rattle.wax_compare.specs.declared.automaton.ProgramState.{ProgramState}
 use Rattle.wax_compare.specs.declared.search.Search.{Search}
 use Rattle.wax_compare.specs.Cuts.{StandsFor}
-use Rattle.wax_compare.specs.inner.Going.{Goes, starts}
+use Rattle.wax_compare.specs.declared.wanted.Criterion.{Criterion}
+use Rattle.wax_compare.specs.declared.wanted.Texts.{Texts}
+use Rattle.wax_compare.specs.declared.wanted.Wanted.{Wanted}
+use Rattle.wax_states.specs.States.{LeadOn}
+use Rattle.wax_compare.specs.Limit.{EndsSearch, IsAtPlaces}
+use Rattle.wax_compare.specs.inner.Going.{Goes, GoesOnAmong, IsAllowed, Task, starts}
 use Rattle.wax_compare.specs.inner.Automata.{BeginsAsProgram, StatesStay, state_places}
-use Rattle.wax_compare.specs.inner.Reaching.{AreFollowed, AreReachedPairs, BeginAsPrograms, CameFrom, GoesAt}
-use Rattle.wax_compare.specs.inner.Reaching.{Reaches, Readings}
-use Rattle.wax_compare.specs.inner.Searching.{GoesFrom, readings}
-use Rattle.wax_compare.specs.inner.Visiting.{IsSameSearch, IsVisited}
+use Rattle.wax_compare.specs.inner.Reaching.{AreFollowed, AreReachedPairs, BeginAsPrograms, CameFrom, EndsBy}
+use Rattle.wax_compare.specs.inner.Reaching.{GoesFrom, HasNext, IsFollowedBy, IsLedBy, IsPairStep, Readings}
+use Rattle.wax_compare.specs.inner.Searching.{IsSameSearch, KeepsBoth, readings}
+use Rattle.wax_compare.specs.inner.Visiting.{IsVisited}
 
 pub some_same : {x y : Reached} → Some x ≡ Some y → x ≡ y
 some_same e = cc
@@ -34,24 +39,67 @@ pub record Later (r r' : Readings) : Type 0 where
   pub firsts : StatesStay r.firsts r'.firsts
   pub seconds : StatesStay r.seconds r'.seconds
 
-module _ (r r' : Readings) (later : Later r r') where
-  module _ (p : StatePair) (first : p.first < length r.firsts)
-      (second : p.second < length r.seconds) (s : List ℕ) where
-    pub goes_later : GoesFrom r p s → GoesFrom r' p s
-    goes_later h = subst (λ t. Goes t (state_places r'.firsts p.first)
-        (state_places r'.seconds p.second) p.may_end s) (sym later.task)
-        (subst (λ z. Goes r.task z (state_places r'.seconds p.second) p.may_end s)
-        (sym (later.firsts p.first first).1)
-        (subst (λ z. Goes r.task (state_places r.firsts p.first) z p.may_end s)
-        (sym (later.seconds p.second second).1) h))
+-- the pair is one of states
+abbrev pub IsPlaced : Readings → StatePair → Type 0
+IsPlaced r p = (p.first < length r.firsts) × (p.second < length r.seconds)
 
-    pub goes_before : GoesFrom r' p s → GoesFrom r p s
-    goes_before h = subst (λ z. Goes r.task (state_places r.firsts p.first) z p.may_end s)
-        (later.seconds p.second second).1
-        (subst (λ z. Goes r.task z (state_places r'.seconds p.second) p.may_end s)
-        (later.firsts p.first first).1
-        (subst (λ t. Goes t (state_places r'.firsts p.first) (state_places r'.seconds p.second) p.may_end s)
-        later.task h))
+module _ (r r' : Readings) (later : Later r r') where
+  module _ (p : StatePair) (placed : IsPlaced r p) where
+    first_stays : state_places r'.firsts p.first ≡ state_places r.firsts p.first
+    first_stays = (later.firsts p.first placed.0).1
+
+    second_stays : state_places r'.seconds p.second ≡ state_places r.seconds p.second
+    second_stays = (later.seconds p.second placed.1).1
+
+    pub placed_later : IsPlaced r' p
+    placed_later = ((later.firsts p.first placed.0).0, (later.seconds p.second placed.1).0)
+
+    -- what holds of the places of both programs still does
+    pub stays : (P : Task → List ℕ → List ℕ → Type 0)
+        → P r.task (state_places r.firsts p.first) (state_places r.seconds p.second)
+        → P r'.task (state_places r'.firsts p.first) (state_places r'.seconds p.second)
+    stays P h = subst (λ t. P t (state_places r'.firsts p.first) (state_places r'.seconds p.second))
+        (sym later.task)
+        (subst (λ z. P r.task z (state_places r'.seconds p.second)) (sym first_stays)
+        (subst (λ z. P r.task (state_places r.firsts p.first) z) (sym second_stays) h))
+
+    pub stayed : (P : Task → List ℕ → List ℕ → Type 0)
+        → P r'.task (state_places r'.firsts p.first) (state_places r'.seconds p.second)
+        → P r.task (state_places r.firsts p.first) (state_places r.seconds p.second)
+    stayed P h = subst (λ z. P r.task (state_places r.firsts p.first) z) second_stays
+        (subst (λ z. P r.task z (state_places r'.seconds p.second)) first_stays
+        (subst (λ t. P t (state_places r'.firsts p.first) (state_places r'.seconds p.second)) later.task h))
+
+    pub goes_later : (s : List ℕ) → GoesFrom r p s → GoesFrom r' p s
+    goes_later s h = stays (λ t places others. Goes t places others p.may_end s) h
+
+    pub goes_before : (s : List ℕ) → GoesFrom r' p s → GoesFrom r p s
+    goes_before s h = stayed (λ t places others. Goes t places others p.may_end s) h
+
+    pub led_later : (text : List ℕ) → IsLedBy r text p → IsLedBy r' text p
+    led_later text h = record {
+      first = stays (λ t places others. IsAtPlaces t.code text places) h.first;
+      second = stays (λ t places others. IsAtPlaces t.other text others) h.second;
+      among = subst (λ t. (s : List ℕ) → GoesOnAmong t.texts (starts t.texts) (text ++ s)
+          ↔ GoesOnAmong t.texts p.may_end s) (sym later.task) h.among;
+    }
+
+    pub ends_later : (c : ℕ) → EndsBy r p c → EndsBy r' p c
+    ends_later c h = stays (λ t places others. EndsSearch t.wanted
+        ((s : List ℕ) → AnyAmong t.code places (c ∷ s) → ⊥)
+        ((s : List ℕ) → AnyAmong t.other others (c ∷ s) → ⊥)) h
+
+  pub step_later : (p q : StatePair) → IsPlaced r p → IsPlaced r q → (c : ℕ) → IsPairStep r p c q
+      → IsPairStep r' p c q
+  step_later p q placed next c h = record {
+    first = stays p placed (λ t places others. LeadOn t.code c places (state_places r'.firsts q.first))
+        (subst (LeadOn r.task.code c (state_places r.firsts p.first)) (sym (first_stays q next)) h.first);
+    second = stays p placed (λ t places others. LeadOn t.other c others (state_places r'.seconds q.second))
+        (subst (LeadOn r.task.other c (state_places r.seconds p.second)) (sym (second_stays q next))
+        h.second);
+    among = subst (λ t. (s : List ℕ) → GoesOnAmong t.texts p.may_end (c ∷ s)
+        ↔ GoesOnAmong t.texts q.may_end s) (sym later.task) h.among;
+  }
 
   begins_later : (code : List Instruction) (old new : List ProgramState) → StatesStay old new
       → BeginsAsProgram code old → BeginsAsProgram code new
@@ -69,31 +117,30 @@ module _ (r r' : Readings) (later : Later r r') where
   }
 
   module _ (reached : List Reached) (pairs : AreReachedPairs r reached) where
-    at_later : (i : ℕ) (x : Reached) (s : List ℕ) → slice_get reached i ≡ Some x
-        → GoesAt r x s → GoesAt r' x s
-    at_later i x s is h = let p = pairs.placed i x is in goes_later x.pair p.0 p.1 s h
-
-    at_before : (i : ℕ) (x : Reached) (s : List ℕ) → slice_get reached i ≡ Some x
-        → GoesAt r' x s → GoesAt r x s
-    at_before i x s is h = let p = pairs.placed i x is in goes_before x.pair p.0 p.1 s h
-
-    reaches_later : (s : List ℕ) (depth : ℕ) → Reaches r reached s depth → Reaches r' reached s depth
-    reaches_later s depth h = record {
+    next_later : (i c : ℕ) (x : Reached) → slice_get reached i ≡ Some x → HasNext r reached x c
+        → HasNext r' reached x c
+    next_later i c x is h = record {
       at = h.at;
-      pair = h.pair;
+      next = h.next;
       is = h.is;
       near = h.near;
-      goes = at_later h.at h.pair s h.is h.goes;
+      step = step_later x.pair h.next.pair (pairs.placed i x is) (pairs.placed h.at h.next h.is) c h.step;
     }
 
+    by_later : (i c : ℕ) (x : Reached) → slice_get reached i ≡ Some x → IsFollowedBy r reached x c
+        → IsFollowedBy r' reached x c
+    by_later i c x is f may =
+        elim (f (subst (λ t. IsAllowed t.texts x.pair.may_end c) later.task may)) [
+          | inl ends ↦ inl (ends_later x.pair (pairs.placed i x is) c ends)
+          | inr next ↦ inr (next_later i c x is next)
+        ]
+
     pub followed_later : (done : ℕ) → AreFollowed r reached done → AreFollowed r' reached done
-    followed_later done f i c s x lt is scalars h =
-        reaches_later s (x.depth + 1) (f i c s x lt is scalars (at_before i x (c ∷ s) is h))
+    followed_later done f i c x lt is scalar = by_later i c x is (f i c x lt is scalar)
 
     pub visited_later : (at letter : ℕ) → IsVisited r reached at letter → IsVisited r' reached at letter
-    visited_later at letter v c s x is stands h =
-        reaches_later s (x.depth + 1) (v c s x is
-        (subst (λ t. StandsFor t.code t.other letter c) later.task stands) (at_before at x (c ∷ s) is h))
+    visited_later at letter v c x is stands = by_later at c x is
+        (v c x is (subst (λ t. StandsFor t.code t.other letter c) later.task stands))
 
     came_later : (i : ℕ) (x : Reached) → slice_get reached i ≡ Some x → CameFrom r reached x i
         → CameFrom r' reached x i
@@ -103,30 +150,43 @@ module _ (r r' : Readings) (later : Later r r') where
       earlier = came.earlier;
       scalar = came.scalar;
       deeper = came.deeper;
-      back = λ s h. at_later x.before came.from (x.letter ∷ s) came.is (came.back s (at_before i x s is h));
+      step = step_later came.from.pair x.pair (pairs.placed x.before came.from came.is) (pairs.placed i x is)
+          x.letter came.step;
     }
 
     pub pairs_later : AreReachedPairs r' reached
     pairs_later = record {
-      placed = λ i x is. (let p = pairs.placed i x is in
-          ((later.firsts x.pair.first p.0).0, (later.seconds x.pair.second p.1).0));
+      placed = λ i x is. placed_later x.pair (pairs.placed i x is);
+      led = λ i x is. (let led = pairs.led i x is in
+          (led.0, led.1, led_later x.pair (pairs.placed i x is) led.0 led.2));
+      differ = pairs.differ;
       beginning = λ x is. (let b = pairs.beginning x is in
           (b.0, b.1, b.2 ∙ ap (λ t. starts t.texts) (sym later.task), b.3));
       some = pairs.some;
       came = λ i x lt is. came_later i x is (pairs.came i x lt is);
-      none = λ i x is h. pairs.none i x is (at_before i x [] is h);
+      none = λ i x is h. pairs.none i x is (goes_before x.pair (pairs.placed i x is) [] h);
       low = pairs.low;
       rises = pairs.rises;
     }
 
 -- ---- a search whose automata grew
+abbrev task_of : List Instruction → List Instruction → Criterion → Criterion → Wanted → Texts → Task
+task_of code other criterion other_criterion wanted texts = record {
+  code = code;
+  other = other;
+  criterion = criterion;
+  other_criterion = other_criterion;
+  wanted = wanted;
+  texts = texts;
+}
+
 pub search_later : (code other : List Instruction) (old new : Search)
-    → IsSameSearch old new → StatesStay old.first.states.items new.first.states.items
-    → StatesStay old.second.states.items new.second.states.items
-    → Later (readings code other old) (readings code other new)
-search_later code other old new same one two = record {
-  task = ap (λ w. record { code = code; other = other; wanted = w; texts = new.texts }) same.wanted
-      ∙ ap (λ t. record { code = code; other = other; wanted = old.wanted; texts = t }) same.texts;
-  firsts = one;
-  seconds = two;
+    → IsSameSearch old new → KeepsBoth old new → Later (readings code other old) (readings code other new)
+search_later code other old new same keeps = record {
+  task = ap (λ w. task_of code other new.first.criterion new.second.criterion w new.texts) same.wanted
+      ∙ ap (λ t. task_of code other new.first.criterion new.second.criterion old.wanted t) same.texts
+      ∙ ap (λ v. task_of code other v new.second.criterion old.wanted old.texts) same.first_criterion
+      ∙ ap (λ v. task_of code other old.first.criterion v old.wanted old.texts) same.second_criterion;
+  firsts = keeps.firsts;
+  seconds = keeps.seconds;
 }

@@ -1,5 +1,5 @@
 -- Characters by which each instruction of a program does the same.
-use Rattle.std.specs.Prelude.{◌≡◌, ◌↔◌, ◌<◌, ◌≤◌, ℕ, List, Some, Contains, slice_get}
+use Rattle.std.specs.Prelude.{◌≡◌, ◌↔◌, ◌<◌, ◌≤◌, ℕ, List, Some, Contains, length, slice_get, slice_index}
 use Rattle.std.specs.Char.{IsScalar}
 use Rattle.wax_program.specs.declared.instruction.Instruction.{Instruction}
 use Rattle.wax_program.specs.Steady.{Alike}
@@ -29,3 +29,8 @@ HasStandIn code other letters c = (d : ℕ) × Contains letters d × StandsFor c
 -- this holds of every character
 abbrev pub AreLetters : List Instruction → List Instruction → List ℕ → Type 0
 AreLetters code other letters = (c : ℕ) → IsScalar c → HasStandIn code other letters c
+
+-- no letter stands for a later one
+abbrev pub AreUnlike : List Instruction → List Instruction → List ℕ → Type 0
+AreUnlike code other letters = (i j : ℕ) → i < j → j < length letters
+    → StandsFor code other (slice_index letters i) (slice_index letters j) → ⊥

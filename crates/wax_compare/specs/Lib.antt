@@ -1,4 +1,6 @@
 pub mod Comparison
 pub mod Cuts
+pub mod Limit
+pub mod Selected
 pub mod Texts
 pub mod inner

@@ -3,7 +3,7 @@ ghost use Rattle.std.specs.Prelude.{◌≡◌, ◌+◌, ◌<◌, ◌≤◌, ℕ,
 ghost use Rattle.std.specs.Prelude.{slice_index_or};
 ghost use Rattle.std.specs.Char.{IsScalar};
 ghost use Rattle.std.specs.List.Sorted.{IsNonDecreasing};
-ghost use Rattle.wax_compare.specs.Cuts.{AreLetters};
+ghost use Rattle.wax_compare.specs.Cuts.{AreLetters, AreUnlike};
 ghost use Rattle.wax_compare.specs.inner.Cutting.{AreKept, HasLetter, IsInBlock, Serve};
 
 use crate::cuts::{AFTER_SURROGATES, cuts};
@@ -22,13 +22,14 @@ const SURROGATES: u32 = 0xD800;
 const END: u32 = 0x11_0000;
 
 /// Returns characters such that for each character one of them passes the same tests of the two
-/// programs, and is `/` only if it is. The preferred ones come first.
+/// programs, and is `/` only if it is. No two of them pass the same tests. The preferred ones come first.
 pub fn alphabet(
     alloc: Global,
     first: &CompiledProgram,
     second: &CompiledProgram,
 ) -> Result<Vec<char>, AllocError>
-    ensures { IfOk result (λ v. AreLetters first.now.0 second.now.0 v.items) }
+    ensures letters { IfOk result (λ v. AreLetters first.now.0 second.now.0 v.items) }
+    ensures unlike { IfOk result (λ v. AreUnlike first.now.0 second.now.0 v.items) }
 {
     let cuts = cuts(alloc, first, second)?;
     let mut letters = letters_of(alloc, &cuts)?;

@@ -1,14 +1,21 @@
 //! The states of a program that texts lead to.
-ghost use Rattle.std.specs.Prelude.{◌≡◌, ◌+◌, ◌<◌, ◌↔◌, ◌⊎◌, [], IfOk, IfSome, IsTrue, length, slice_index};
-ghost use Rattle.std.specs.Prelude.{slice_set};
+ghost use Rattle.std.specs.Prelude.{◌≡◌, ◌+◌, ◌*◌, ◌<◌, ◌≤◌, ◌↔◌, ◌⊎◌, ℕ, [], None, Contains, IfOk, IsTrue};
+ghost use Rattle.std.specs.Prelude.{length, slice_index, slice_set};
+ghost use Rattle.std.specs.Char.{IsScalar};
+ghost use Rattle.std.specs.HashMap.{get};
+ghost use Rattle.std.specs.List.Sorted.{IsStrictlyIncreasing};
 ghost use Rattle.wax_program.specs.Threads.{AnyAmong};
-ghost use Rattle.wax_compare.specs.inner.Automata.{BeginsAsProgram, HasLearned, IsAutomatonOf, LeadsToState};
-ghost use Rattle.wax_compare.specs.inner.Automata.{StatesStay, state_marks, state_places};
+ghost use Rattle.wax_compare.specs.inner.Automata.{AcceptAlike, BeginsAsProgram, HasLearned, HasTextTo};
+ghost use Rattle.wax_compare.specs.inner.Automata.{IsAutomatonOf, LeadsToState, StatesStay, same_places};
+ghost use Rattle.wax_compare.specs.inner.Automata.{state_marks, state_places};
 ghost use Rattle.wax_compare.specs.inner.Distinctions.{IsUnmarked};
+ghost use Rattle.wax_compare.specs.Limit.{IsReachedState};
+ghost use Rattle.wax_compare.specs.Selected.{CanSelect, HasOddLast, IsSelected};
 
 use crate::distinctions::Distinctions;
-use crate::slots::{Slots, hash_of};
+use crate::wanted::Criterion;
 use std::alloc::{AllocError, Global};
+use std::collections::HashMap;
 use wax_program::{CompiledProgram, Meter};
 use wax_states::Stepper;
 
@@ -16,9 +23,9 @@ use wax_states::Stepper;
 #[derive(Drop)]
 pub struct ProgramState {
     /// The places, ascending.
-    pub places: Vec<usize>,
-    /// True if a text that ends here is accepted.
-    pub accepts: bool,
+    pub places: Vec<u32>,
+    /// True if a text that ends here is selected.
+    pub is_selected: bool,
     /// Which letters are marked. All others lead to the same.
     pub marked: Vec<bool>,
     /// For each letter, the number of the next state plus 1, or 0 if it isn't known.
@@ -29,15 +36,23 @@ pub struct ProgramState {
 #[derive(Drop)]
 pub struct Automaton {
     pub alloc: Global,
+    /// Which texts the program selects.
+    pub criterion: Criterion,
     pub stepper: Stepper,
     pub distinctions: Distinctions,
     pub states: Vec<ProgramState>,
-    /// The numbers of the states, by the hashes of their places.
-    pub slots: Slots,
+    /// The numbers of the states, by their places.
+    pub index: HashMap<Vec<u32>, usize>,
+    /// The places from which the last step began.
+    pub begun: Vec<usize>,
     /// The places that the last step reached.
     pub reached: Vec<usize>,
     /// The second list that a step writes. It isn't read.
     pub own: Vec<usize>,
+    /// The places that the last step reached, as those of a state.
+    pub sought: Vec<u32>,
+    /// The numbers with which the program accepts a text that leads to the last state.
+    pub numbers: Vec<usize>,
     /// The number of bytes that the states' places and rows take.
     pub bytes: usize,
     pub meter: Meter,
@@ -48,25 +63,32 @@ impl Automaton {
     pub fn new(
         alloc: Global,
         program: &CompiledProgram,
+        criterion: Criterion,
         letters: &[char],
     ) -> Result<Automaton, AllocError>
+        requires { CanSelect criterion program.now.0 }
         ensures automaton { IfOk result (IsAutomatonOf program.now.0 letters.now) }
         ensures begins { IfOk result (λ r. BeginsAsProgram program.now.0 r.states.items) }
+        ensures criterion { IfOk result (λ r. r.criterion ≡ criterion) }
     {
         let stepper = Stepper::new(alloc, program)?;
         let distinctions = Distinctions::new(alloc, program, letters)?;
         let mut automaton = Automaton {
             alloc,
+            criterion,
             stepper,
             distinctions,
             states: Vec::new(alloc),
-            slots: Slots::new(alloc)?,
+            index: HashMap::new(alloc),
+            begun: Vec::new(alloc),
             reached: vec![in alloc; 0usize]?,
             own: Vec::new(alloc),
+            sought: Vec::new(alloc),
+            numbers: Vec::new(alloc),
             bytes: 0,
             meter: Meter::new(),
         };
-        automaton.add(program, letters)?;
+        automaton.intern(program, letters)?;
         Ok(automaton)
     }
 
@@ -83,6 +105,7 @@ impl Automaton {
         requires number { number < length letters.now }
         ensures automaton { IfOk result (λ _. IsAutomatonOf program.now.0 letters.now self.new) }
         ensures kept { IfOk result (λ _. StatesStay self.old.states.items self.new.states.items) }
+        ensures criterion { IfOk result (λ _. self.new.criterion ≡ self.old.criterion) }
         ensures step { IfOk result (LeadsToState program.now.0 self.new.states.items
             (state_places self.old.states.items state) (slice_index letters.now number)) }
     {
@@ -90,45 +113,42 @@ impl Automaton {
         if known != 0 {
             return Ok(known as usize - 1);
         }
+        let letter = letter_at(letters, number);
+        copy_wide(&self.states[state].places, &mut self.begun)?;
         self.stepper.step(
             program,
-            &self.states[state].places,
-            letters[number],
+            &self.begun,
+            letter,
             &[],
             &mut self.reached,
             &mut self.own,
             &mut self.meter,
         )?;
         let next = self.intern(program, letters)?;
-        self.fill(state, number, next);
+        learn(&mut self.states, state, number, next);
         Ok(next)
-    }
-
-    /// Notes where a letter leads.
-    fn fill(&mut self, state: usize, number: usize, next: usize)
-        requires { state < length self.old.states.items }
-        ensures filled { HasLearned self.old.states.items self.new.states.items state number next }
-        ensures stepper { self.new.stepper ≡ self.old.stepper }
-        ensures distinctions { self.new.distinctions ≡ self.old.distinctions }
-    {
-        fill_row(&mut self.states[state].next, number, next);
     }
 
     /// Finds or adds the state with the places that were reached.
     fn intern(&mut self, program: &CompiledProgram, letters: &[char]) -> Result<usize, AllocError>
-        requires { IsAutomatonOf program.now.0 letters.now self.old }
+        requires automaton { IsAutomatonOf program.now.0 letters.now self.old }
+        requires text { HasTextTo program.now.0 self.old.reached.items }
         ensures automaton { IfOk result (λ _. IsAutomatonOf program.now.0 letters.now self.new) }
         ensures kept { IfOk result (λ _. StatesStay self.old.states.items self.new.states.items) }
-        ensures places { IfOk result (λ n. (n < length self.new.states.items)
-            × (state_places self.new.states.items n ≡ self.old.reached.items)) }
+        ensures criterion { IfOk result (λ _. self.new.criterion ≡ self.old.criterion) }
+        ensures zeroth { IfOk result (λ n. length self.old.states.items ≡ 0 → n ≡ 0) }
+        ensures within { IfOk result (λ n. n < length self.new.states.items) }
+        ensures places { IfOk result (λ n. AcceptAlike program.now.0
+            (state_places self.new.states.items n) self.old.reached.items) }
     {
-        if let Some(number) = self.find() {
-            return Ok(number);
+        copy_ascending(&self.reached, program.size(), &mut self.sought)?;
+        match self.index.get(&self.sought).copied() {
+            Some(number) => Ok(number),
+            None => self.add(program, letters),
         }
-        self.add(program, letters)
     }
 
-    /// Returns whether no text is accepted from a state on, since it has no places.
+    /// Returns whether no text is selected from a state on, since it has no places.
     pub fn is_dead(&self, state: usize) -> bool
         requires { state < length self.now.states.items }
         ensures { IsTrue result ↔ (state_places self.now.states.items state ≡ []) }
@@ -136,14 +156,15 @@ impl Automaton {
         self.states[state].places.is_empty()
     }
 
-    /// Returns whether a text that ends in the state is accepted. The program and the letters are
+    /// Returns whether a text that ends in the state is selected. The program and the letters are
     /// there for the contract only.
-    pub fn accepts(&self, _program: &CompiledProgram, _letters: &[char], state: usize) -> bool
+    pub fn selects(&self, _program: &CompiledProgram, _letters: &[char], state: usize) -> bool
         requires automaton { IsAutomatonOf _program.now.0 _letters.now self.now }
         requires state { state < length self.now.states.items }
-        ensures { IsTrue result ↔ AnyAmong _program.now.0 (state_places self.now.states.items state) [] }
+        ensures { IsTrue result ↔ IsSelected self.now.criterion
+            (AnyAmong _program.now.0 (state_places self.now.states.items state)) [] }
     {
-        self.states[state].accepts
+        self.states[state].is_selected
     }
 
     /// Returns whether a state doesn't mark a letter.
@@ -155,70 +176,147 @@ impl Automaton {
         number < marked.len() && !marked[number]
     }
 
-    /// Finds the state with the places that were reached.
-    fn find(&self) -> Option<usize>
-        ensures { IfSome result (λ n. (n < length self.now.states.items)
-            × (state_places self.now.states.items n ≡ self.now.reached.items)) }
-    {
-        let hash = hash_of(&self.reached);
-        for probe in 0..self.slots.len() {
-            let number = self.slots.look(hash, probe)?;
-            if self.has_reached(number) {
-                return Some(number);
-            }
-        }
-        None
-    }
-
-    /// Returns whether there is a state with this number and the places that were reached.
-    fn has_reached(&self, number: usize) -> bool
-        ensures { IsTrue result → (number < length self.now.states.items)
-            × (state_places self.now.states.items number ≡ self.now.reached.items) }
-    {
-        if number >= self.states.len() {
-            return false;
-        }
-        self.states[number].places.as_slice() == self.reached.as_slice()
-    }
-
-    /// Adds a state with the places that were reached, and returns its number.
+    /// Adds a state with the places that are sought, and returns its number.
     fn add(&mut self, program: &CompiledProgram, letters: &[char]) -> Result<usize, AllocError>
-        requires { IsAutomatonOf program.now.0 letters.now self.old }
+        requires automaton { IsAutomatonOf program.now.0 letters.now self.old }
+        requires state { IsReachedState program.now.0 self.old.sought.items }
+        requires alike { AcceptAlike program.now.0 self.old.sought.items self.old.reached.items }
+        requires absent { get same_places self.old.index self.old.sought ≡ None }
         ensures automaton { IfOk result (λ _. IsAutomatonOf program.now.0 letters.now self.new) }
         ensures kept { IfOk result (λ _. StatesStay self.old.states.items self.new.states.items) }
+        ensures criterion { IfOk result (λ _. self.new.criterion ≡ self.old.criterion) }
         ensures number { IfOk result (λ n. n ≡ length self.old.states.items) }
-        ensures places { IfOk result (λ n. (n < length self.new.states.items)
-            × (state_places self.new.states.items n ≡ self.old.reached.items)) }
+        ensures within { IfOk result (λ n. n < length self.new.states.items) }
+        ensures places { IfOk result (λ n.
+            state_places self.new.states.items n ≡ self.old.sought.items) }
     {
         let number = self.states.len();
-        let accepts = self
-            .stepper
-            .accepts(program, &self.reached, &mut self.meter);
-        let places = Vec::from_slice(self.alloc, &self.reached)?;
+        let is_selected = selects(
+            program,
+            self.criterion,
+            &self.reached,
+            &mut self.stepper,
+            &mut self.numbers,
+            &mut self.meter,
+        )?;
         let marked = self
             .distinctions
             .mark(self.alloc, program, letters, &self.reached)?;
         let next = vec![in self.alloc; 0u32; letters.len()]?;
         self.bytes = self
             .bytes
-            .saturating_add(bytes_of(self.reached.len(), letters.len()));
+            .saturating_add(bytes_of(self.sought.len(), letters.len()));
+        let places = Vec::from_slice(self.alloc, &self.sought)?;
+        let key = Vec::from_slice(self.alloc, &self.sought)?;
+        self.index.insert(key, number)?;
         self.states.push(ProgramState {
             places,
-            accepts,
+            is_selected,
             marked,
             next,
         })?;
-        self.enter(number)?;
         Ok(number)
     }
+}
 
-    /// Notes the number of the state with the places that were reached.
-    fn enter(&mut self, number: usize) -> Result<(), AllocError>
-        ensures states { self.new.states ≡ self.old.states }
-        ensures stepper { self.new.stepper ≡ self.old.stepper }
-        ensures distinctions { self.new.distinctions ≡ self.old.distinctions }
-    {
-        self.slots.enter(hash_of(&self.reached), number)
+/// Returns the letter with a number.
+fn letter_at(letters: &[char], number: usize) -> char
+    requires { number < length letters.now }
+    ensures letter { result ≡ slice_index letters.now number }
+    ensures scalar { IsScalar result }
+{
+    letters[number]
+}
+
+/// Notes where a letter leads from a state.
+fn learn(states: &mut Vec<ProgramState>, state: usize, number: usize, next: usize)
+    requires { state < length states.old.items }
+    ensures { HasLearned states.old.items states.new.items state number next }
+{
+    fill_row(&mut states[state].next, number, next);
+}
+
+/// Copies places of a state into a list as a step reads it.
+fn copy_wide(places: &[u32], wide: &mut Vec<usize>) -> Result<(), AllocError>
+    ensures { IfOk result (λ _. wide.new.items ≡ places.now) }
+{
+    wide.clear();
+    for place in places {
+        wide.push(*place as usize)?;
+    }
+    Ok(())
+}
+
+/// Copies the places up to the greatest one that a program has, its end, in ascending order and each once.
+///
+/// # Errors
+///
+/// Returns `AllocError` if allocation fails, or if such a place has more than 32 bits.
+fn copy_ascending(places: &[usize], end: usize, copy: &mut Vec<u32>) -> Result<(), AllocError>
+    ensures ascending { IfOk result (λ _. IsStrictlyIncreasing copy.new.items) }
+    ensures same { IfOk result (λ _. (k : ℕ)
+        → Contains copy.new.items k ↔ (Contains places.now k × (k ≤ end))) }
+{
+    copy_up_to(places, end, copy)?;
+    copy.sort_unstable();
+    copy.dedup();
+    Ok(())
+}
+
+/// Copies the places up to the end of a program.
+///
+/// # Errors
+///
+/// Returns `AllocError` if allocation fails, or if such a place has more than 32 bits.
+fn copy_up_to(places: &[usize], end: usize, copy: &mut Vec<u32>) -> Result<(), AllocError>
+    ensures { IfOk result (λ _. (k : ℕ)
+        → Contains copy.new.items k ↔ (Contains places.now k × (k ≤ end))) }
+{
+    copy.clear();
+    for place in places {
+        if *place > end {
+            continue;
+        }
+        if *place > u32::MAX as usize {
+            return Err(AllocError);
+        }
+        copy.push(*place as u32)?;
+    }
+    Ok(())
+}
+
+/// Returns whether a text that leads to the places and ends there is selected. Writes into `numbers`.
+fn selects(
+    program: &CompiledProgram,
+    criterion: Criterion,
+    places: &[usize],
+    stepper: &mut Stepper,
+    numbers: &mut Vec<usize>,
+    meter: &mut Meter,
+) -> Result<bool, AllocError>
+    requires size { stepper.old ≡ length program.now.0 }
+    requires can_select { CanSelect criterion program.now.0 }
+    ensures same { stepper.new ≡ stepper.old }
+    ensures selected { IfOk result
+        (λ b. IsTrue b ↔ IsSelected criterion (AnyAmong program.now.0 places.now) []) }
+{
+    match criterion {
+        Criterion::Accepted => Ok(stepper.accepts(program, places, meter)),
+        Criterion::OddLast => {
+            stepper.list_ends(program, places, numbers, meter)?;
+            Ok(ends_odd(numbers))
+        }
+    }
+}
+
+/// Returns whether the last number is odd, if there is one.
+fn ends_odd(numbers: &[usize]) -> bool
+    requires { IsStrictlyIncreasing numbers.now }
+    ensures { IsTrue result ↔ HasOddLast (Contains numbers.now) }
+{
+    match numbers.last() {
+        Some(number) => *number % 2 == 1,
+        None => false,
     }
 }
 
@@ -231,7 +329,9 @@ fn fill_row(row: &mut Vec<u32>, number: usize, next: usize)
 }
 
 /// Returns how many bytes a state with so many places and a row of so many letters takes.
-fn bytes_of(places: usize, letters: usize) -> usize {
+fn bytes_of(places: usize, letters: usize) -> usize
+    ensures { result ≤ 8 * places + 5 * letters }
+{
     places
         .saturating_mul(8)
         .saturating_add(letters.saturating_mul(5))

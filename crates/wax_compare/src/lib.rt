@@ -1,23 +1,22 @@
-//! Comparing programs by the texts that they accept: finding a shortest text that both accept, or that
-//! one accepts and the other doesn't, or proving that there is none.
+//! Comparing globs, sets, ignore lists and programs by the texts that they select: finding a shortest text
+//! that both select, or that only the first selects, or exactly one of them, or proving that there is none.
 #![tactic(auto)]
 
 mod alphabet;
 mod automaton;
 mod closure;
-mod compare;
 mod compared;
 mod cuts;
 mod distinctions;
+mod finding;
 mod law;
 mod merged;
 mod pairs;
 mod search;
-mod slots;
 mod wanted;
 mod witness;
 
-pub use compare::{MOST_STATES, find_text};
-pub use compared::{Compared, difference, overlap};
+pub use compared::{Compared, compare, difference, overlap};
+pub use finding::{MOST_STATES, find_selected, find_text};
 pub use law::law_of_plain_paths;
-pub use wanted::{Comparison, Texts, Wanted};
+pub use wanted::{Comparison, Criterion, Selector, Texts, Wanted};

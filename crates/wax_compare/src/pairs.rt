@@ -1,12 +1,12 @@
 //! Pairs of states, one of each program, that a text leads to.
-ghost use Rattle.std.specs.Prelude.{◌≡◌, ◌++◌, ◌∷◌, [], IfOk, IsTrue};
-ghost use Rattle.wax_compare.specs.inner.Visiting.{AreSamePairs, HasPair};
+ghost use Rattle.std.specs.Prelude.{◌≡◌, ◌↔◌, ◌++◌, ◌∷◌, [], IfOk, IsTrue};
+ghost use Rattle.wax_compare.specs.inner.Visiting.{AreKnown, HasPair};
 
-use crate::slots::{Slots, hash_of};
 use std::alloc::{AllocError, Global};
+use std::collections::HashSet;
 
 /// Where a text leads: a state of each program.
-#[derive(Clone, Copy)]
+#[derive(Clone, Copy, PartialEq, Eq, Hash)]
 pub struct StatePair {
     /// The number of the first program's state.
     pub first: usize,
@@ -33,60 +33,37 @@ pub struct Reached {
 #[derive(Drop)]
 pub struct Pairs {
     pub reached: Vec<Reached>,
-    /// The numbers of the pairs, by their hashes.
-    pub slots: Slots,
+    pub known: HashSet<StatePair>,
 }
 
 impl Pairs {
     /// Creates an empty list.
-    pub fn new(alloc: Global) -> Result<Pairs, AllocError>
-        ensures { IfOk result (λ p. p.reached.items ≡ []) }
+    pub fn new(alloc: Global) -> Pairs
+        ensures empty { result.reached.items ≡ [] }
+        ensures known { AreKnown result.reached.items result.known }
     {
-        Ok(Pairs {
+        Pairs {
             reached: Vec::new(alloc),
-            slots: Slots::new(alloc)?,
-        })
-    }
-
-    /// Returns whether a pair was reached. May return `false` even if it was.
-    pub fn contains(&self, pair: StatePair) -> bool
-        ensures { IsTrue result → HasPair self.now.reached.items pair }
-    {
-        let hash = hash_of_pair(pair);
-        for probe in 0..self.slots.len() {
-            let Some(number) = self.slots.look(hash, probe) else {
-                return false;
-            };
-            if self.is_at(number, pair) {
-                return true;
-            }
+            known: HashSet::new(alloc),
         }
-        false
     }
 
-    /// Returns whether the pair has this number.
-    fn is_at(&self, number: usize, pair: StatePair) -> bool
-        ensures { IsTrue result → HasPair self.now.reached.items pair }
+    /// Returns whether a pair was reached.
+    pub fn contains(&self, pair: StatePair) -> bool
+        requires { AreKnown self.now.reached.items self.now.known }
+        ensures { IsTrue result ↔ HasPair self.now.reached.items pair }
     {
-        number < self.reached.len() && is_same(self.reached[number].pair, pair)
+        self.known.contains(&pair)
     }
 
     /// Adds a pair.
     pub fn push(&mut self, reached: Reached) -> Result<(), AllocError>
-        ensures { IfOk result (λ _. self.new.reached.items ≡ self.old.reached.items ++ reached ∷ []) }
+        requires { AreKnown self.old.reached.items self.old.known }
+        ensures items { IfOk result (λ _. self.new.reached.items ≡ self.old.reached.items ++ reached ∷ []) }
+        ensures known { IfOk result (λ _. AreKnown self.new.reached.items self.new.known) }
     {
-        let number = self.reached.len();
+        self.known.insert(reached.pair)?;
         self.reached.push(reached)?;
-        self.slots.enter(hash_of_pair(reached.pair), number)
+        Ok(())
     }
-}
-
-fn is_same(pair: StatePair, other: StatePair) -> bool
-    ensures { IsTrue result → AreSamePairs pair other }
-{
-    pair.first == other.first && pair.second == other.second && pair.may_end == other.may_end
-}
-
-fn hash_of_pair(pair: StatePair) -> usize {
-    hash_of(&[pair.first, pair.second, usize::from(pair.may_end)])
 }

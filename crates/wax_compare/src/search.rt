@@ -1,9 +1,12 @@
 //! Steps of two programs at once.
-ghost use Rattle.std.specs.Prelude.{◌≡◌, ◌<◌, ◌↔◌, [], IfOk, IsTrue, length, slice_index};
-ghost use Rattle.wax_compare.specs.declared.wanted.Wanted.TheVariants.{Both};
+ghost use Rattle.std.specs.Prelude.{◌≡◌, ◌≢◌, ◌<◌, ◌↔◌, [], IfOk, IsTrue, length, slice_index};
+ghost use Rattle.wax_compare.specs.Comparison.{AsWanted};
+ghost use Rattle.wax_compare.specs.declared.wanted.Wanted.TheVariants.{Both, OneOnly};
 ghost use Rattle.wax_compare.specs.inner.Going.{IsAllowed, begun_after};
-ghost use Rattle.wax_compare.specs.inner.Automata.{StatesStay, state_places};
-ghost use Rattle.wax_compare.specs.inner.Searching.{AreAutomataOf, GoesFrom, IsNextOrNone, IsUsual, readings};
+ghost use Rattle.wax_compare.specs.inner.Automata.{state_places};
+ghost use Rattle.wax_compare.specs.inner.Reaching.{GoesFrom};
+ghost use Rattle.wax_compare.specs.inner.Searching.{AreAutomataOf, IsNextOrNone, IsSameSearch, IsUsual};
+ghost use Rattle.wax_compare.specs.inner.Searching.{KeepsBoth, readings};
 
 use crate::automaton::Automaton;
 use crate::pairs::StatePair;
@@ -35,13 +38,8 @@ impl Search {
         requires second { from.second < length self.old.second.states.items }
         requires number { number < length self.old.letters.items }
         ensures automata { IfOk result (λ _. AreAutomataOf first.now.0 second.now.0 self.new) }
-        ensures letters { IfOk result (λ _. self.new.letters ≡ self.old.letters) }
-        ensures wanted { IfOk result (λ _. self.new.wanted ≡ self.old.wanted) }
-        ensures texts { IfOk result (λ _. self.new.texts ≡ self.old.texts) }
-        ensures firsts { IfOk result (λ _.
-            StatesStay self.old.first.states.items self.new.first.states.items) }
-        ensures seconds { IfOk result (λ _.
-            StatesStay self.old.second.states.items self.new.second.states.items) }
+        ensures same { IfOk result (λ _. IsSameSearch self.old self.new) }
+        ensures keeps { IfOk result (λ _. KeepsBoth self.old self.new) }
         ensures next { IfOk result (IsNextOrNone (readings first.now.0 second.now.0 self.new)
             (slice_index self.old.letters.items number) from) }
     {
@@ -50,13 +48,13 @@ impl Search {
             return Ok(None);
         }
         let to = self.first.follow(first, &self.letters, from.first, number)?;
-        if self.first.is_dead(to) {
+        if self.ends_first(to) {
             return Ok(None);
         }
         let other = self
             .second
             .follow(second, &self.letters, from.second, number)?;
-        if self.is_over(other) {
+        if self.ends_second(other) {
             return Ok(None);
         }
         Ok(Some(StatePair {
@@ -78,12 +76,12 @@ impl Search {
         requires second { pair.second < length self.now.second.states.items }
         ensures { IsTrue result ↔ GoesFrom (readings first.now.0 second.now.0 self.now) pair [] }
     {
-        let accepted = self.second.accepts(second, &self.letters, pair.second);
-        let decided = match self.wanted {
-            Wanted::Both => accepted,
-            Wanted::FirstOnly => !accepted,
-        };
-        pair.may_end && decided && self.first.accepts(first, &self.letters, pair.first)
+        if !pair.may_end {
+            return false;
+        }
+        let by_first = self.first.selects(first, &self.letters, pair.first);
+        let by_second = self.second.selects(second, &self.letters, pair.second);
+        is_as_wanted(self.wanted, by_first, by_second)
     }
 
     /// Returns whether a letter is usual in a pair: it isn't `/`, and neither state marks it. All usual
@@ -99,16 +97,40 @@ impl Search {
             && self.second.is_unmarked(pair.second, number)
     }
 
-    /// Returns whether no wanted text goes on from a state of the second program.
-    fn is_over(&self, state: usize) -> bool
+    /// Returns whether the search ends in a state of the first program, since no text goes on from there
+    /// that the program has to select.
+    fn ends_first(&self, state: usize) -> bool
+        requires { state < length self.now.first.states.items }
+        ensures { IsTrue result → (self.now.wanted ≢ OneOnly)
+            × (state_places self.now.first.states.items state ≡ []) }
+    {
+        match self.wanted {
+            Wanted::Both | Wanted::FirstOnly => self.first.is_dead(state),
+            Wanted::OneOnly => false,
+        }
+    }
+
+    /// Returns whether the search ends in a state of the second program, for the same reason.
+    fn ends_second(&self, state: usize) -> bool
         requires { state < length self.now.second.states.items }
         ensures { IsTrue result → (self.now.wanted ≡ Both)
             × (state_places self.now.second.states.items state ≡ []) }
     {
         match self.wanted {
             Wanted::Both => self.second.is_dead(state),
-            Wanted::FirstOnly => false,
+            Wanted::FirstOnly | Wanted::OneOnly => false,
         }
+    }
+}
+
+/// Returns whether a text is wanted that these of both programs select.
+fn is_as_wanted(wanted: Wanted, by_first: bool, by_second: bool) -> bool
+    ensures { IsTrue result ↔ AsWanted wanted (IsTrue by_first) (IsTrue by_second) }
+{
+    match wanted {
+        Wanted::Both => by_first && by_second,
+        Wanted::FirstOnly => by_first && !by_second,
+        Wanted::OneOnly => by_first != by_second,
     }
 }
 

@@ -1,12 +1,19 @@
 -- The states of a program that letters lead to.
-use Rattle.std.specs.Prelude.{◌≡◌, ◌+◌, ◌<◌, ◌↔◌, ℕ, Bool, List, [], Option, Some, None, IsTrue, ◌⊎◌, length}
-use Rattle.std.specs.Prelude.{slice_get, slice_index, slice_set}
+use Rattle.std.specs.Prelude.{◌≡◌, ◌+◌, ◌<◌, ◌≤◌, ◌↔◌, ℕ, Bool, true, List, [], Option, Some, None, IsTrue}
+use Rattle.std.specs.Prelude.{◌⊎◌, length, map, nat_eq, slice_get, slice_index, slice_set}
+use Rattle.std.specs.Cmp.Lexicographic.{pointwise}
+use Rattle.std.specs.Global.{Vec}
+use Rattle.std.specs.HashMap.{HashMap, get}
+use Rattle.std.specs.Str.{all_scalars}
 use Rattle.wax_program.specs.declared.instruction.Instruction.{Instruction}
 use Rattle.wax_program.specs.Machine.{Accepts}
 use Rattle.wax_program.specs.Threads.{AnyAmong}
 use Rattle.wax_states.specs.Reached.{AreReached}
+use Rattle.wax_compare.specs.Limit.{IsAtPlaces, IsReachedState, bytes_of_states}
+use Rattle.wax_compare.specs.Selected.{CanSelect, IsSelected}
 use Rattle.wax_compare.specs.declared.automaton.Automaton.{Automaton}
 use Rattle.wax_compare.specs.declared.automaton.ProgramState.{ProgramState}
+use Rattle.wax_compare.specs.declared.wanted.Criterion.{Criterion}
 use Rattle.wax_compare.specs.inner.Distinctions.{AreDistinctions, MarksOthers}
 
 abbrev pub option_places : Option ProgramState → List ℕ
@@ -35,10 +42,34 @@ abbrev pub LeadsToState : List Instruction → List ProgramState → List ℕ �
 LeadsToState code states places c n =
     (n < length states) × AreReached code c places [] (state_places states n)
 
--- a state says rightly whether a text may end in it, and where letters lead, as far as it is known
-pub record IsStateOf (code : List Instruction) (letters : List ℕ) (states : List ProgramState)
-    (s : ProgramState) : Type 0 where
-  pub ends : IsTrue s.accepts ↔ AnyAmong code s.places.items []
+-- from either list of places the program accepts the same texts
+abbrev pub AcceptAlike : List Instruction → List ℕ → List ℕ → Type 0
+AcceptAlike code places others = (s : List ℕ) → AnyAmong code places s ↔ AnyAmong code others s
+
+-- a text of characters leads to the places
+abbrev pub HasTextTo : List Instruction → List ℕ → Type 0
+HasTextTo code places = (text : List ℕ) × (all_scalars text ≡ true) × IsAtPlaces code text places
+
+-- the places of each state
+abbrev pub all_places : List ProgramState → List (List ℕ)
+all_places states = map (λ s. s.places.items) states
+
+-- two lists of places are equal
+abbrev pub same_places : Vec ℕ → Vec ℕ → Bool
+same_places p q = pointwise nat_eq p.items q.items
+
+-- the index finds the number of each state by its places, and no other number
+pub record IsIndexOf {S : Type 0} (states : List ProgramState) (index : HashMap (Vec ℕ) ℕ S) : Type 0 where
+  pub has : (t : ℕ) (s : ProgramState) → slice_get states t ≡ Some s → get same_places index s.places ≡ Some t
+  pub only : (p : Vec ℕ) (t : ℕ) → get same_places index p ≡ Some t
+      → (t < length states) × (state_places states t ≡ p.items)
+
+-- a state is reached, and it says rightly whether a text that ends in it is selected, and where letters lead,
+-- as far as it is known
+pub record IsStateOf (criterion : Criterion) (code : List Instruction) (letters : List ℕ)
+    (states : List ProgramState) (s : ProgramState) : Type 0 where
+  pub reached : IsReachedState code s.places.items
+  pub ends : IsTrue s.is_selected ↔ IsSelected criterion (AnyAmong code s.places.items) []
   pub marks : MarksOthers code letters s.places.items s.marked.items
   pub room : length s.next.items ≡ length letters
   pub says : (k n : ℕ) → k < length letters → slice_index s.next.items k ≡ n + 1
@@ -47,9 +78,12 @@ pub record IsStateOf (code : List Instruction) (letters : List ℕ) (states : Li
 -- the automaton is one of a program of these instructions
 pub record IsAutomatonOf (code : List Instruction) (letters : List ℕ) (r : Automaton) : Type 0 where
   pub size : r.stepper ≡ length code
+  pub can_select : CanSelect r.criterion code
   pub distinctions : AreDistinctions code letters r.distinctions
   pub rows : (t : ℕ) (s : ProgramState) → slice_get r.states.items t ≡ Some s
-      → IsStateOf code letters r.states.items s
+      → IsStateOf r.criterion code letters r.states.items s
+  pub index : IsIndexOf r.states.items r.index
+  pub bytes : r.bytes ≤ bytes_of_states (length letters) (all_places r.states.items)
 
 -- the first state accepts what the program does
 pub record BeginsAsProgram (code : List Instruction) (states : List ProgramState) : Type 0 where
@@ -63,6 +97,6 @@ pub record HasLearned (old new : List ProgramState) (state number next : ℕ) : 
   pub at : slice_get old state ≡ Some was
   pub set : new ≡ slice_set old state is
   pub places : is.places ≡ was.places
-  pub accepts : is.accepts ≡ was.accepts
+  pub is_selected : is.is_selected ≡ was.is_selected
   pub marked : is.marked ≡ was.marked
   pub row : (is.next.items ≡ was.next.items) ⊎ (is.next.items ≡ slice_set was.next.items number (next + 1))

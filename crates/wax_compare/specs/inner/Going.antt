@@ -4,13 +4,17 @@ use Rattle.wax_program.specs.declared.instruction.Instruction.{Instruction}
 use Rattle.wax_program.specs.Threads.{AnyAmong}
 use Rattle.wax_compare.specs.declared.wanted.Texts.{Texts}
 use Rattle.wax_compare.specs.declared.wanted.Texts.TheVariants.{All, Paths}
+use Rattle.wax_compare.specs.declared.wanted.Criterion.{Criterion}
 use Rattle.wax_compare.specs.declared.wanted.Wanted.{Wanted}
 use Rattle.wax_compare.specs.Comparison.{AsWanted}
+use Rattle.wax_compare.specs.Selected.{IsSelected}
 
--- two programs, and which texts are looked for
+-- two programs, which texts each of them selects, and which are looked for
 pub record Task : Type 0 where
   pub code : List Instruction
   pub other : List Instruction
+  pub criterion : Criterion
+  pub other_criterion : Criterion
   pub wanted : Wanted
   pub texts : Texts
 
@@ -41,6 +45,6 @@ IsAllowed Paths begun c = c ≡ 47 → IsTrue begun
 
 -- a text that led to these places of the two programs is wanted, if it goes on with s
 pub record Goes (t : Task) (places others : List ℕ) (begun : Bool) (s : List ℕ) : Type 0 where
-  pub first : AnyAmong t.code places s
-  pub second : AsWanted t.wanted (AnyAmong t.other others s)
+  pub decided : AsWanted t.wanted (IsSelected t.criterion (AnyAmong t.code places) s)
+      (IsSelected t.other_criterion (AnyAmong t.other others) s)
   pub among : GoesOnAmong t.texts begun s

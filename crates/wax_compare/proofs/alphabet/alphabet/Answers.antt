@@ -7,8 +7,8 @@ use Rattle.wax_compare.proofs.Letters.{letters_stand}
 use Rattle.wax_compare.proofs.Merging.{letters_merged}
 use Rattle.wax_compare.proofs.alphabet.alphabet.Goals as goal
 
-pub returns : goal.returns
-returns c =
+pub returns-clause-letters : goal.returns-clause-letters
+returns-clause-letters c =
     let code = c.args.first.now.0 in
     let other = c.args.second.now.0 in
     let cuts = c.in_ok-cuts.cuts.items in
@@ -21,4 +21,4 @@ returns c =
     told.begin told.slash told.first told.second serve
     (λ x h. Contains-permutation letters sorted x c.sort_unstable_by_key.ensures.permutation h) in
     IfOk-weaker c.merge.result _ _ (λ v merged. letters_merged code other c.deref-2.result.now v.items
-    (subst (AreLetters code other) (sym c.deref-2.ensures.value) stand) merged) c.merge.ensures
+    (subst (AreLetters code other) (sym c.deref-2.ensures.value) stand) merged) c.merge.ensures.stands

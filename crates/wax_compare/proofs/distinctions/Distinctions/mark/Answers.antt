@@ -1,8 +1,8 @@
-use Rattle.std.proofs.Common.{ℕ, ◌≡◌, ◌<◌, not, List, length, replicate, slice_index, sym, ◌∙◌, ap, subst}
+use Rattle.std.proofs.Common.{◌≡◌, not, List, length, replicate, slice_index, sym, ◌∙◌, ap, subst}
 use Rattle.std.proofs.Common.{inl, inr, arith}
-use Rattle.std.proofs.Common.{Bool, true}
+use Rattle.std.proofs.Common.{Bool}
 use Rattle.std.proofs.lemmas.List.{length-replicate}
-use Rattle.wax_compare.specs.inner.Distinctions.{AreMarkedAt, IsClosure, KeepsMarks}
+use Rattle.wax_compare.specs.inner.Distinctions.{AreMarkedAt, KeepsMarks}
 use Rattle.wax_compare.proofs.Distinguished.{all_marked, keeps_marks_on, keeps_marks_same, marks_all}
 use Rattle.wax_compare.proofs.Distinguished.{marks_others, places_more, true_or_false}
 use Rattle.wax_compare.proofs.distinctions.Distinctions.mark.Goals as goal
