@@ -19,20 +19,16 @@ use Rattle.wax_walk.specs.Candidates.{Candidate}
 use Rattle.wax_walk.specs.Given.{Mark, with_tree}
 use Rattle.wax_exclude.proofs.Descending.{covered, everything_meant, wild_goes_on}
 use Rattle.wax_exclude.proofs.Ignored.{below_ignored, below_tested}
-use Rattle.wax_exclude.proofs.ListingLines.{says_lines}
 use Rattle.wax_exclude.proofs.Tests.{covers_tested}
 use Rattle.wax_exclude.specs.Candidates.{NoSlashAfterNames, folder_at}
 use Rattle.wax_exclude.specs.Covers.{Covers, CoversSome, covers_test, is_everything, some_everything}
 use Rattle.wax_exclude.specs.Covers.{wild_test}
 use Rattle.wax_exclude.specs.Excluded.{excluded_mark, some_test}
 use Rattle.wax_exclude.specs.GlobRequests.{IsRuleOf}
-use Rattle.wax_exclude.specs.Held.{HasLines}
-use Rattle.wax_exclude.specs.Ignored.{IgnoresBelow, Line, below_test, ignore_mark, is_ignored}
+use Rattle.wax_exclude.specs.Ignored.{IgnoresBelow, Line, all_ignore, below_test, ignore_mark, is_ignored}
 use Rattle.wax_exclude.specs.Marks.{covered_mark}
 use Rattle.wax_exclude.specs.Walked.{ExcludesBelow}
 use Rattle.wax_exclude.specs.Wanted.{Filter, excludes, filter_mark, not_ignored, not_meant}
-use Rattle.wax_exclude.specs.declared.rules.IgnoreLine.{IgnoreLine}
-use Rattle.wax_exclude.specs.inner.Listed.{below_by, ignored_by, listed_mark, none_reincludes}
 
 -- ---- folders as rules see them
 
@@ -71,13 +67,13 @@ module _ (c d : Candidate) (text : c.text ≡ d.text) (depth : nat_lt 0 c.depth 
   excluded_alike : {A : Type 0} (ts : List (Tree A)) → excluded_mark ts c ≡ excluded_mark ts d
   excluded_alike ts = λ i. covered_mark (covers_alike ts i) (some_test ts (text i))
 
-  below_alike : (lines : List IgnoreLine) → below_by lines c ≡ below_by lines d
+  below_alike : (lines : List (Line Span)) → below_test lines c ≡ below_test lines d
   below_alike [] = refl
   below_alike (line ∷ lines) = λ i.
-      (line.ignores && (none_reincludes lines && covers_alike line.alternatives i)) || below_alike lines i
+      (line.ignores && (all_ignore lines && covers_alike (alternatives line.glob) i)) || below_alike lines i
 
-  listed_alike : (lines : List IgnoreLine) → listed_mark lines c ≡ listed_mark lines d
-  listed_alike lines = λ i. covered_mark (below_alike lines i) (ignored_by false lines (text i))
+  ignored_alike : (lines : List (Line Span)) → ignore_mark lines c ≡ ignore_mark lines d
+  ignored_alike lines = λ i. covered_mark (below_alike lines i) (is_ignored lines (text i))
 
 -- ---- marks
 
@@ -100,20 +96,16 @@ module _ (answer : Bool) (mark : Mark) (asks : Asks answer mark) (c d : Candidat
       let tested = covers_tested ts d in
       ((λ t. tested.0 (so.0 (says.0 t))), (λ h. says.1 (so.1 (tested.1 h))))
 
-  module _ (held : List IgnoreLine) (e : mark ≡ listed_mark held c) where
-    pub answers_listed : Asks answer (listed_mark held d)
-    answers_listed = answers_same answer mark (listed_mark held d) (e ∙ listed_alike c d text depth held) asks
+  module _ (lines : List (Line Span)) (e : mark ≡ ignore_mark lines c) where
+    pub answers_mark : Asks answer (ignore_mark lines d)
+    answers_mark =
+        answers_same answer mark (ignore_mark lines d) (e ∙ ignored_alike c d text depth lines) asks
 
-    pub answers_lines : (lines : List (Line Span)) → HasLines held lines
-        → IsTrue answer ↔ IgnoresBelow lines d
-    answers_lines lines has =
-        let says : listed_mark held d ≡ ignore_mark lines d =
-        ap (λ rule. rule d) (says_lines held lines has) in
+    pub answers_lines : IsTrue answer ↔ IgnoresBelow lines d
+    answers_lines =
         let so = covered_so (below_test lines d) (is_ignored lines d.text) in
-        let tested = below_tested lines d in (
-          (λ t. tested.0 (so.0 (sym says ∙ answers_listed.0 t))),
-          (λ h. answers_listed.1 (says ∙ so.1 (tested.1 h))),
-        )
+        let tested = below_tested lines d in
+        ((λ t. tested.0 (so.0 (answers_mark.0 t))), (λ h. answers_mark.1 (so.1 (tested.1 h))))
 
 excludes_so : {A : Type 0} (x : Filter A) (c : Candidate) → (filter_mark x c ≡ with_tree) ↔ ExcludesBelow x c
 excludes_so (not_meant t) c =

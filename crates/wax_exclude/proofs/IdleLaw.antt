@@ -1,131 +1,276 @@
--- Without a line that decides nothing, a list ignores the same plain paths.
-use Rattle.std.proofs.Common.{◌≡◌, ◌∙◌, ◌<◌, ◌++◌, ◌∷◌, [], ℕ, zero, suc, Bool, true, false, cond, List, Some}
-use Rattle.std.proofs.Common.{ap, arith, inl, inr, length, refl, slice_get, sym, subst}
-use Rattle.std.proofs.lemmas.Bool.{cases_Bool}
+-- Without lines that decide nothing, a list ignores the same plain paths.
+use Rattle.std.proofs.Common.{◌≡◌, ◌≢◌, ◌∙◌, ◌⊎◌, ◌<◌, ◌==◌, ◌++◌, ◌∷◌, [], ℕ, zero, suc, Bool, true, false}
+use Rattle.std.proofs.Common.{cond, Contains, List, Some, ap, arith, eq-eqb, inl, inr, length, map, refl}
+use Rattle.std.proofs.Common.{slice_get, sym, subst}
+use Rattle.std.proofs.lemmas.Bool.{cases_Bool, cases_eq, cases_lt, eqb-true, false_from_ne_true, false≢true}
+use Rattle.std.proofs.lemmas.List.Elements.{Contains-append_right}
 use Rattle.std.proofs.lemmas.Option.{none-some, same_Some}
-use Rattle.wax_exclude.specs.Idle.{IdleLinesCanGo, IsCoveredBy, IsPath, LineIgnores, LineMeans, TakesNothing}
+use Rattle.std.specs.List.{list_any}
+use Rattle.std.specs.Prelude.{filter}
+use Rattle.wax_exclude.proofs.Tests.{or_true}
+use Rattle.wax_exclude.specs.Idle.{AllIdleLinesCanGo, DecidesNothing, IdleLinesCanGo}
+use Rattle.wax_exclude.specs.Idle.{IdleLinesCanGoTogether, IsPath, IsReason, LineIgnores, LineMeans}
+use Rattle.wax_exclude.specs.Idle.{TakesNothing, drop_where, is_known, known_indexes}
+use Rattle.wax_exclude.specs.declared.idle.IdleLine.{IdleLine}
+use Rattle.wax_exclude.specs.declared.idle.IdleReason.{IdleReason}
 use Rattle.wax_exclude.specs.declared.idle.IdleReason.TheVariants.{Covered, TakesNothingBack, Unknown}
 use Rattle.wax_exclude.specs.Ignored.{Line, ignored_after, is_ignored}
 use Rattle.wax_token.specs.Decided.{means_test, means_tested}
 use Rattle.wax_token.specs.Meaning.{Means}
 use Rattle.wax_token.specs.Reads.{Span}
 
+-- where no line goes, all stay
+none_goes : (lines : List (Line Span)) (goes : ℕ → Bool) → ((k : ℕ) → goes k ≡ false)
+    → drop_where goes lines ≡ lines
+none_goes [] goes none = refl
+none_goes (line ∷ lines) goes none =
+    let rest = drop_where (λ k. goes (suc k)) lines in
+    ap (λ g. cond g rest (line ∷ rest)) (none 0)
+    ∙ ap (λ ls. line ∷ ls) (none_goes lines (λ k. goes (suc k)) (λ k. none (suc k)))
+
+-- the line after some others goes alone
+one_goes : (before after : List (Line Span)) (line : Line Span) (goes : ℕ → Bool)
+    → goes (length before) ≡ true → ((k : ℕ) → goes k ≡ true → k ≡ length before)
+    → drop_where goes (before ++ line ∷ after) ≡ before ++ after
+one_goes [] after line goes is only =
+    let rest = drop_where (λ k. goes (suc k)) after in
+    ap (λ g. cond g rest (line ∷ rest)) is ∙ none_goes after (λ k. goes (suc k)) (λ k.
+    false_from_ne_true (goes (suc k)) (λ e. let at : suc k ≡ 0 = only (suc k) e in omega (arith, at)))
+one_goes (first ∷ before) after line goes is only =
+    let rest = drop_where (λ k. goes (suc k)) (before ++ line ∷ after) in
+    ap (λ g. cond g rest (first ∷ rest)) (false_from_ne_true (goes 0) (λ e.
+    let at : 0 ≡ suc (length before) = only 0 e in omega (arith, at)))
+    ∙ ap (λ ls. first ∷ ls) (one_goes before after line (λ k. goes (suc k)) is (λ k e.
+    let at : suc k ≡ suc (length before) = only (suc k) e in omega (arith, at)))
+
 module _ (s : List ℕ) where
-  -- one of the lines means the text
-  Some_means : List (Line Span) → Type 0
-  Some_means lines = (k : ℕ) × LineMeans lines k s
+  -- what is said after a line
+  abbrev Said : Line Span → Bool → Bool
+  Said line was = cond (means_test line.glob false false s) line.ignores was
 
-  -- then it doesn't matter what was before them
-  decided_after : (lines : List (Line Span)) (k : ℕ) (b c : Bool) → LineMeans lines k s
-      → ignored_after b lines s ≡ ignored_after c lines s
-  decided_after [] k b c m = absurd (none-some m.line m.is)
-  decided_after (line ∷ lines) zero b c m =
-      let means : means_test line.glob false false s ≡ true =
-      (means_tested line.glob false false s).1
-      (subst (λ l. Means l.glob false false s) (sym (same_Some line m.line m.is)) m.means) in
-      ap (λ t. ignored_after (cond t line.ignores b) lines s) means
-      ∙ sym (ap (λ t. ignored_after (cond t line.ignores c) lines s) means)
-  decided_after (line ∷ lines) (suc k) b c m =
-      decided_after lines k (cond (means_test line.glob false false s) line.ignores b)
-      (cond (means_test line.glob false false s) line.ignores c)
-      (record { line = m.line; is = m.is; means = m.means })
+  abbrev NoneMeans : List (Line Span) → Type 0
+  NoneMeans lines = (k : ℕ) → LineMeans lines k s → ⊥
 
-  -- lines before others
-  after_both : (before after : List (Line Span)) (b : Bool)
-      → ignored_after b (before ++ after) s ≡ ignored_after (ignored_after b before s) after s
-  after_both [] after b = refl
-  after_both (line ∷ before) after b =
-      after_both before after (cond (means_test line.glob false false s) line.ignores b)
+  -- no line after the one with this index means the text
+  abbrev IsLast : List (Line Span) → ℕ → Type 0
+  IsLast lines k = (later : ℕ) → k < later → LineMeans lines later s → ⊥
 
-  -- no line that ignores means the text
-  none_ignored : (lines : List (Line Span)) → ((k : ℕ) → LineIgnores lines k → LineMeans lines k s → ⊥)
-      → ignored_after false lines s ≡ false
-  none_ignored [] none = refl
-  none_ignored (line ∷ lines) none =
-      ap (λ b. ignored_after b lines s) first ∙ none_ignored lines (λ k i m.
-      none (suc k) (record { line = i.line; is = i.is; ignores = i.ignores })
-      (record { line = m.line; is = m.is; means = m.means }))
+  module _ (line : Line Span) (lines : List (Line Span)) where
+    -- a line that goes says nothing
+    after_first : (rest : List (Line Span)) (gone was : Bool)
+        → ignored_after was (cond gone rest (line ∷ rest)) s
+        ≡ ignored_after (cond gone was (Said line was)) rest s
+    after_first rest true was = refl
+    after_first rest false was = refl
+
+    means_first : Means line.glob false false s → LineMeans (line ∷ lines) 0 s
+    means_first m = record { line = line; is = refl; means = m }
+
+    means_later : (k : ℕ) → LineMeans lines k s → LineMeans (line ∷ lines) (suc k) s
+    means_later k m = record { line = m.line; is = m.is; means = m.means }
+
+    abbrev means_earlier : (k : ℕ) → LineMeans (line ∷ lines) (suc k) s → LineMeans lines k s
+    means_earlier k m = record { line = m.line; is = m.is; means = m.means }
+
+    missed : (was : Bool) → (Means line.glob false false s → ⊥) → Said line was ≡ was
+    missed was none = ap (λ t. cond t line.ignores was)
+        (false_from_ne_true (means_test line.glob false false s)
+        (λ e. none ((means_tested line.glob false false s).0 e)))
+
+    meant : (was : Bool) (m : LineMeans (line ∷ lines) 0 s) → Said line was ≡ m.line.ignores
+    meant was m =
+        let same : line ≡ m.line = same_Some line m.line m.is in
+        ap (λ t. cond t line.ignores was) ((means_tested line.glob false false s).1
+        (subst (λ l. Means l.glob false false s) (sym same) m.means))
+        ∙ ap (λ l. l.ignores) same
+
+    last_later : (k : ℕ) → IsLast lines k → IsLast (line ∷ lines) (suc k)
+    last_later k last zero lt m = absurd (omega (arith, lt))
+    last_later k last (suc later) lt m = last later (omega (arith, lt)) (means_earlier later m)
+
+    last_first : NoneMeans lines → IsLast (line ∷ lines) 0
+    last_first none zero lt m = absurd (omega (arith, lt))
+    last_first none (suc later) lt m = none later (means_earlier later m)
+
+    none_more : means_test line.glob false false s ≡ false → NoneMeans lines → NoneMeans (line ∷ lines)
+    none_more e none zero m = false≢true (sym e ∙ (means_tested line.glob false false s).1
+        (subst (λ l. Means l.glob false false s) (sym (same_Some line m.line m.is)) m.means))
+    none_more e none (suc k) m = none k (means_earlier k m)
+
+  stays : (gone was now : Bool) → now ≡ was → cond gone was now ≡ was
+  stays true was now e = refl
+  stays false was now e = e
+
+  -- lines that don't mean the text say nothing, whichever of them go
+  pub unmatched : (lines : List (Line Span)) (goes : ℕ → Bool) (was : Bool) → NoneMeans lines
+      → ignored_after was (drop_where goes lines) s ≡ was
+  unmatched [] goes was none = refl
+  unmatched (line ∷ lines) goes was none =
+      after_first line lines (drop_where (λ k. goes (suc k)) lines) (goes 0) was
+      ∙ unmatched lines (λ k. goes (suc k)) (cond (goes 0) was (Said line was))
+      (λ k m. none (suc k) (means_later line lines k m))
+      ∙ stays (goes 0) was (Said line was)
+      (missed line lines was (λ m. none 0 (means_first line lines m)))
+
+  -- the last line that means the text decides, if it stays
+  pub last_decides : (lines : List (Line Span)) (goes : ℕ → Bool) (k : ℕ) (was : Bool)
+      (m : LineMeans lines k s) → goes k ≡ false → IsLast lines k
+      → ignored_after was (drop_where goes lines) s ≡ m.line.ignores
+  last_decides [] goes k was m stay last = absurd (none-some m.line m.is)
+  last_decides (line ∷ lines) goes zero was m stay last =
+      let rest = drop_where (λ k. goes (suc k)) lines in
+      after_first line lines rest (goes 0) was
+      ∙ ap (λ g. ignored_after (cond g was (Said line was)) rest s) stay
+      ∙ unmatched lines (λ k. goes (suc k)) (Said line was)
+      (λ k h. last (suc k) (omega arith) (means_later line lines k h))
+      ∙ meant line lines was m
+  last_decides (line ∷ lines) goes (suc k) was m stay last =
+      after_first line lines (drop_where (λ k. goes (suc k)) lines) (goes 0) was
+      ∙ last_decides lines (λ k. goes (suc k)) k (cond (goes 0) was (Said line was))
+      (means_earlier line lines k m) stay
+      (λ later lt h. last (suc later) (omega (arith, lt)) (means_later line lines later h))
+
+  -- lines of which none that ignores means the text don't ignore it, whichever of them go
+  none_ignored : (lines : List (Line Span)) (goes : ℕ → Bool)
+      → ((k : ℕ) → LineIgnores lines k → LineMeans lines k s → ⊥)
+      → ignored_after false (drop_where goes lines) s ≡ false
+  none_ignored [] goes none = refl
+  none_ignored (line ∷ lines) goes none =
+      let rest = drop_where (λ k. goes (suc k)) lines in
+      after_first line lines rest (goes 0) false
+      ∙ ap (λ b. ignored_after b rest s) (stays (goes 0) false (Said line false) first)
+      ∙ none_ignored lines (λ k. goes (suc k)) (λ k i m.
+      none (suc k) (record { line = i.line; is = i.is; ignores = i.ignores }) (means_later line lines k m))
     where
       at : (t i : Bool) → means_test line.glob false false s ≡ t → line.ignores ≡ i → cond t i false ≡ false
       at true true e f = absurd (none 0 (record { line = line; is = refl; ignores = f })
-          (record { line = line; is = refl; means = (means_tested line.glob false false s).0 e }))
+          (means_first line lines ((means_tested line.glob false false s).0 e)))
       at true false e f = refl
       at false i e f = refl
 
-      first : cond (means_test line.glob false false s) line.ignores false ≡ false
+      first : Said line false ≡ false
       first = at (means_test line.glob false false s) line.ignores refl refl
 
-  module _ (before after : List (Line Span)) (line : Line Span) where
-    abbrev all : List (Line Span)
-    all = before ++ line ∷ after
+  -- as if no line went
+  abbrev pub none : ℕ → Bool
+  none k = false
 
-    -- the line stands after those before it
-    here : (bs : List (Line Span)) → slice_get (bs ++ line ∷ after) (length bs) ≡ Some line
-    here [] = refl
-    here (b ∷ bs) = here bs
+  pub all_stay : (lines : List (Line Span)) → is_ignored (drop_where none lines) s ≡ is_ignored lines s
+  all_stay lines = ap (λ ls. is_ignored ls s) (none_goes lines none (λ k. refl))
 
-    later_at : (bs : List (Line Span)) (k : ℕ) → length bs < k → LineMeans (bs ++ line ∷ after) k s
-        → (j : ℕ) × LineMeans after j s
-    later_at [] zero lt m = absurd (omega (arith, lt))
-    later_at [] (suc k) lt m = (k, record { line = m.line; is = m.is; means = m.means })
-    later_at (b ∷ bs) zero lt m = absurd (omega (arith, lt))
-    later_at (b ∷ bs) (suc k) lt m =
-        later_at bs k (omega (arith, lt)) (record { line = m.line; is = m.is; means = m.means })
+  -- no line means the text, or there is a last one that does
+  find_last : (lines : List (Line Span)) → NoneMeans lines ⊎ ((k : ℕ) × LineMeans lines k s × IsLast lines k)
+  find_last [] = inl (λ k m. none-some m.line m.is)
+  find_last (line ∷ lines) = elim (find_last lines) [
+    | inr f ↦ inr (suc f.0, means_later line lines f.0 f.1, last_later line lines f.0 f.2)
+    | inl none ↦ elim (cases_Bool (means_test line.glob false false s)) [
+      | inl e ↦ inr (
+        0,
+        means_first line lines ((means_tested line.glob false false s).0 e),
+        last_first line lines none,
+      )
+      | inr e ↦ inl (none_more line lines e none)
+    ]
+  ]
 
-    -- if it means the text, nothing that it does matters
-    without : (ignored_after (ignored_after false before s) after s ≡ ignored_after
-        (cond (means_test line.glob false false s) line.ignores (ignored_after false before s)) after s)
-        → is_ignored (before ++ after) s ≡ is_ignored all s
-    without e = after_both before after false ∙ e ∙ sym (after_both before (line ∷ after) false)
+  module _ (lines : List (Line Span)) (goes : ℕ → Bool)
+      (nothing : (k : ℕ) → goes k ≡ true → DecidesNothing lines k) (path : IsPath s) where
+    none_ignores : (k : ℕ) → LineMeans lines k s → IsLast lines k
+        → TakesNothing (LineIgnores lines) (LineMeans lines) k
+        → (j : ℕ) → LineIgnores lines j → LineMeans lines j s → ⊥
+    none_ignores k m last takes j i h = elim (cases_lt j k) [
+      | inl before ↦ takes.none s path (m, (j, before, i, h))
+      | inr past ↦ elim (cases_eq j k) [
+        | inl same ↦ takes.re_includes (subst (LineIgnores lines) same i)
+        | inr other ↦ last j (omega (arith, past, other)) h
+      ]
+    ]
 
-    means_here : means_test line.glob false false s ≡ true → LineMeans all (length before) s
-    means_here t =
-        record { line = line; is = here before; means = (means_tested line.glob false false s).0 t }
+    -- the last line that means the text goes: then it takes nothing back, so no line that ignores means it
+    by_reason : (k : ℕ) → LineMeans lines k s → IsLast lines k → (reason : IdleReason) → reason ≢ Unknown
+        → IsReason (LineIgnores lines) (LineMeans lines) k reason
+        → is_ignored (drop_where goes lines) s ≡ is_ignored lines s
+    by_reason k m last (Covered covers) known h = let c = h s path m in absurd (last c.0 c.2 c.3)
+    by_reason k m last TakesNothingBack known h =
+        none_ignored lines goes (none_ignores k m last h)
+        ∙ sym (none_ignored lines none (none_ignores k m last h)) ∙ all_stay lines
+    by_reason k m last Unknown known h = absurd (known refl)
 
-    by_cases : (means_test line.glob false false s ≡ true → ignored_after (ignored_after false before s) after
-        s ≡ ignored_after line.ignores after s) → is_ignored (before ++ after) s ≡ is_ignored all s
-    by_cases f = without (elim (cases_Bool (means_test line.glob false false s)) [
-      | inl t ↦
-          f t ∙ sym (ap (λ b. ignored_after (cond b line.ignores (ignored_after false before s)) after s) t)
-      | inr t ↦ sym (ap (λ b. ignored_after (cond b line.ignores (ignored_after false before s)) after s) t)
-    ])
+    by_last : (k : ℕ) → LineMeans lines k s → IsLast lines k → (gone : Bool) → goes k ≡ gone
+        → is_ignored (drop_where goes lines) s ≡ is_ignored lines s
+    by_last k m last false e = last_decides lines goes k false m e last
+        ∙ sym (last_decides lines none k false m refl last) ∙ all_stay lines
+    by_last k m last true e = let n = nothing k e in by_reason k m last n.reason n.is_known n.is
 
-    pub covered_same : (covers : List ℕ) → IsPath s → IsCoveredBy (LineMeans all) (length before) covers
-        → is_ignored (before ++ after) s ≡ is_ignored all s
-    covered_same covers path covered = by_cases (λ t.
-        let c = covered s path (means_here t) in
-        let m = later_at before c.0 c.2 c.3 in
-        decided_after after m.0 (ignored_after false before s) line.ignores m.1)
+    pub same_without : is_ignored (drop_where goes lines) s ≡ is_ignored lines s
+    same_without = elim (find_last lines) [
+      | inl n ↦ unmatched lines goes false n ∙ sym (unmatched lines none false n) ∙ all_stay lines
+      | inr f ↦ by_last f.0 f.1 f.2 (goes f.0) refl
+    ]
 
-    earlier_at : (bs : List (Line Span)) (k : ℕ) (l : Line Span) → slice_get bs k ≡ Some l
-        → (k < length bs) × (slice_get (bs ++ line ∷ after) k ≡ Some l)
-    earlier_at [] k l e = absurd (none-some l e)
-    earlier_at (b ∷ bs) zero l e = (omega arith, e)
-    earlier_at (b ∷ bs) (suc k) l e = let r = earlier_at bs k l e in (omega (arith, r.0), r.1)
-
-    out : (b : Bool) → line.ignores ≡ b → TakesNothing (LineIgnores all) (LineMeans all) (length before)
-        → line.ignores ≡ false
-    out true e takes = absurd (takes.re_includes (record { line = line; is = here before; ignores = e }))
-    out false e takes = e
-
-    pub nothing_back_same : IsPath s → TakesNothing (LineIgnores all) (LineMeans all) (length before)
-        → is_ignored (before ++ after) s ≡ is_ignored all s
-    nothing_back_same path takes = by_cases (λ t.
-        let none : ignored_after false before s ≡ false = none_ignored before (λ k i m.
-        let at = earlier_at before k i.line i.is in
-        takes.none s path (
-          means_here t,
-          (
-            k,
-            at.0,
-            record { line = i.line; is = at.1; ignores = i.ignores },
-            record { line = m.line; is = (earlier_at before k m.line m.is).1; means = m.means },
-          ),
-        )) in
-        ap (λ b. ignored_after b after s) (none ∙ sym (out line.ignores refl takes)))
+-- ---- one line, some lines, and all lines that decide nothing
 
 pub idle_can_go : IdleLinesCanGo
-idle_can_go before after line (Covered covers) s known path h =
-    covered_same s before after line covers.items path h
-idle_can_go before after line TakesNothingBack s known path h = nothing_back_same s before after line path h
-idle_can_go before after line Unknown s known path h = absurd (known refl)
+idle_can_go before after line reason s known path h =
+    let at = length before in
+    let goes = λ (k : ℕ). k == at in
+    let all = before ++ line ∷ after in
+    ap (λ ls. is_ignored ls s)
+    (sym (one_goes before after line goes (eq-eqb at at refl) (λ k e. eqb-true k at e)))
+    ∙ same_without s all goes (λ k e. record {
+      reason = reason;
+      is_known = known;
+      is = subst (λ n. IsReason (LineIgnores all) (LineMeans all) n reason) (sym (eqb-true k at e)) h;
+    }) path
+
+listed : (k : ℕ) (indexes : List ℕ) → list_any (λ i. i == k) indexes ≡ true → Contains indexes k
+listed k [] e = absurd (false≢true e)
+listed k (i ∷ indexes) e = elim (or_true (i == k) (list_any (λ j. j == k) indexes) e) [
+  | inl here ↦ (0, omega arith, eqb-true i k here)
+  | inr later ↦ Contains-append_right (i ∷ []) indexes k (listed k indexes later)
+]
+
+pub idle_can_go_together : IdleLinesCanGoTogether
+idle_can_go_together lines indexes s nothing path =
+    same_without s lines (λ k. list_any (λ i. i == k) indexes) (λ k e. nothing k (listed k indexes e)) path
+
+-- an idle line with this index whose reason is known
+record KnownAt (idle : List IdleLine) (index : ℕ) : Type 0 where
+  pub at : ℕ
+  pub line : IdleLine
+  pub is : slice_get idle at ≡ Some line
+  pub known : is_known line.reason ≡ true
+  pub index_is : line.index ≡ index
+
+known_later : (x : IdleLine) (idle : List IdleLine) (index : ℕ) → KnownAt idle index
+    → KnownAt (x ∷ idle) index
+known_later x idle index h =
+    record { at = suc h.at; line = h.line; is = h.is; known = h.known; index_is = h.index_is }
+
+known_first : (x : IdleLine) (idle : List IdleLine) (index : ℕ) (known : Bool) → is_known x.reason ≡ known
+    → (Contains (known_indexes idle) index → KnownAt idle index)
+    → Contains (map (λ y. y.index) (cond known (x ∷ filter (λ y. is_known y.reason) idle)
+    (filter (λ y. is_known y.reason) idle))) index
+    → KnownAt (x ∷ idle) index
+known_first x idle index true e further (zero, lt, at) =
+    record { at = 0; line = x; is = refl; known = e; index_is = at }
+known_first x idle index true e further (suc i, lt, at) =
+    known_later x idle index (further (i, omega (arith, lt), at))
+known_first x idle index false e further found = known_later x idle index (further found)
+
+known_at : (idle : List IdleLine) (index : ℕ) → Contains (known_indexes idle) index → KnownAt idle index
+known_at [] index h = absurd (let lt : h.0 < 0 = h.1 in omega (arith, lt))
+known_at (x ∷ idle) index h = known_first x idle index (is_known x.reason) refl (known_at idle index) h
+
+pub known_reason : (reason : IdleReason) → is_known reason ≡ true → reason ≢ Unknown
+known_reason reason known e = false≢true (sym (ap is_known e) ∙ known)
+
+pub all_idle_can_go : AllIdleLinesCanGo
+all_idle_can_go lines idle s are path = idle_can_go_together lines (known_indexes idle) s (λ index has.
+    let x = known_at idle index has in
+    record {
+      reason = x.line.reason;
+      is_known = known_reason x.line.reason x.known;
+      is = subst (λ n. IsReason (LineIgnores lines) (LineMeans lines) n x.line.reason) x.index_is
+          (are.each x.at x.line x.is);
+    }) path

@@ -9,134 +9,39 @@ use Rattle.std.proofs.lemmas.List.Sorted.{Contains-permutation}
 use Rattle.std.proofs.lemmas.Map.Made.{Contains-tail}
 use Rattle.std.proofs.lemmas.Option.{none-some, same_Some, slice_get_within}
 use Rattle.std.specs.Prelude.{IfOk, Result, Ok, Err}
-use Rattle.wax_facts.proofs.Means.{means_one_of}
-use Rattle.wax_facts.specs.Alternatives.{alternatives}
 use Rattle.wax_compare.specs.Comparison.{IsWanted}
 use Rattle.wax_compare.specs.declared.wanted.Texts.TheVariants.{Paths}
 use Rattle.wax_compare.specs.declared.wanted.Wanted.TheVariants.{Both, FirstOnly}
-use Rattle.wax_exclude.specs.Covers.{ends_wild}
-use Rattle.wax_exclude.specs.Held.{HasLines, line_of}
 use Rattle.wax_exclude.specs.Idle.{AreIdle, AreIdleAmong, DecidesSome, HasEffect, IsCoveredBy, IsLastOfSome}
 use Rattle.wax_exclude.specs.Idle.{IsPath, IsReason, IsTakenBack, LineIgnores, LineMeans, TakesNothing}
+use Rattle.wax_exclude.specs.inner.Idle.{AreMatchedBy, SomeLineMeans}
 use Rattle.wax_exclude.specs.Ignored.{Line}
 use Rattle.wax_exclude.specs.declared.idle.IdleLine.{IdleLine}
 use Rattle.wax_exclude.specs.declared.idle.IdleReason.{IdleReason}
 use Rattle.wax_exclude.specs.declared.idle.IdleReason.TheVariants.{Covered, TakesNothingBack, Unknown}
-use Rattle.wax_exclude.specs.declared.rules.IgnoreLine.{IgnoreLine}
-use Rattle.wax_exclude.specs.inner.Idle.{AreMatchedBy, HeldIgnores, HeldMeans, SomeHeldMeans}
-use Rattle.wax_exclude.specs.inner.Numbers.{MatchesBy}
 use Rattle.wax_lazy.specs.Numbers.{IsLastNumber}
+use Rattle.wax_match.proofs.Numbered.{numbered_push}
 use Rattle.wax_match.specs.Numbered.{MeansNumbered}
 use Rattle.wax_match.specs.declared.encode.ends.Numbered.{Numbered}
 use Rattle.wax_program.specs.Closed.{IsClosed}
 use Rattle.wax_program.specs.Machine.{Accepts, mark}
 use Rattle.wax_program.specs.declared.instruction.Instruction.{Instruction}
-use Rattle.wax_token.specs.Decided.{Decided, some_decided}
-use Rattle.wax_token.specs.Meaning.{MeansSome}
+use Rattle.wax_token.specs.Decided.{Decided, means_decided}
+use Rattle.wax_token.specs.Meaning.{Means, MeansSome}
 use Rattle.wax_token.specs.Reads.{Span}
 use Rattle.wax_token.specs.Syntax.{Tree}
-use Rattle.wax_token.specs.Words.{members, trees}
-
--- ---- lines, and how they are held
-held_line : (lines : List (Line Span)) (i : ℕ) (held : IgnoreLine)
-    → slice_get (map line_of lines) i ≡ Some held
-    → (line : Line Span) × (slice_get lines i ≡ Some line) × (held ≡ line_of line)
-held_line [] i held e = absurd (none-some held e)
-held_line (line ∷ lines) zero held e = (line, refl, sym (same_Some (line_of line) held e))
-held_line (line ∷ lines) (suc i) held e = held_line lines i held e
-
-line_held : (lines : List (Line Span)) (i : ℕ) (line : Line Span) → slice_get lines i ≡ Some line
-    → slice_get (map line_of lines) i ≡ Some (line_of line)
-line_held [] i line e = absurd (none-some line e)
-line_held (l ∷ lines) zero line e = ap (λ x. Some (line_of x)) (same_Some l line e)
-line_held (l ∷ lines) (suc i) line e = line_held lines i line e
-
-length_held : (lines : List (Line Span)) → length (map line_of lines) ≡ length lines
-length_held [] = refl
-length_held (line ∷ lines) = ap suc (length_held lines)
-
-module _ (lines : List (Line Span)) where
-  abbrev held : List IgnoreLine
-  held = map line_of lines
-
-  ignores_as : (i : ℕ) → HeldIgnores held i ↔ LineIgnores lines i
-  ignores_as i = (
-    (λ h. (let is = held_line lines i h.line h.is in
-        record { line = is.0; is = is.1; ignores = sym (ap (λ l. l.ignores) is.2) ∙ h.ignores })),
-    (λ h. record { line = line_of h.line; is = line_held lines i h.line h.is; ignores = h.ignores }),
-  )
-
-  means_as : (i : ℕ) (s : List ℕ) → HeldMeans held i s ↔ LineMeans lines i s
-  means_as i s = (
-    (λ h. (let is = held_line lines i h.line h.is in
-        let glob = is.0.glob in
-        record {
-          line = is.0;
-          is = is.1;
-          means = (means_one_of glob (alternatives glob) refl false false s).1
-              (subst (λ l. MeansSome (trees l.alternatives) false false s) is.2 h.means);
-        })),
-    (λ h. (let glob = h.line.glob in
-        record {
-          line = line_of h.line;
-          is = line_held lines i h.line h.is;
-          means = (means_one_of glob (alternatives glob) refl false false s).0 h.means;
-        })),
-  )
-
-  taken_as : (i : ℕ) (s : List ℕ) → IsTakenBack (HeldIgnores held) (HeldMeans held) i s
-      ↔ IsTakenBack (LineIgnores lines) (LineMeans lines) i s
-  taken_as i s = (
-    (λ h. ((means_as i s).0 h.0, (h.1.0, h.1.1, (ignores_as h.1.0).0 h.1.2, (means_as h.1.0 s).0 h.1.3))),
-    (λ h. ((means_as i s).1 h.0, (h.1.0, h.1.1, (ignores_as h.1.0).1 h.1.2, (means_as h.1.0 s).1 h.1.3))),
-  )
-
-  reason_as : (i : ℕ) (reason : IdleReason) → IsReason (HeldIgnores held) (HeldMeans held) i reason
-      → IsReason (LineIgnores lines) (LineMeans lines) i reason
-  reason_as i (Covered covers) h =
-      λ s path m. (let c = h s path ((means_as i s).1 m) in (c.0, c.1, c.2, (means_as c.0 s).0 c.3))
-  reason_as i TakesNothingBack h = record {
-    re_includes = λ g. h.re_includes ((ignores_as i).1 g);
-    none = λ s path t. h.none s path ((taken_as i s).1 t);
-  }
-  reason_as i Unknown h = tt
-
-  decides_as : (i : ℕ) → DecidesSome (HeldIgnores held) (HeldMeans held) i
-      → DecidesSome (LineIgnores lines) (LineMeans lines) i
-  decides_as i d = (
-    record {
-      path = d.0.path;
-      is_path = d.0.is_path;
-      means = (means_as i d.0.path).0 d.0.means;
-      is_last = λ later lt m. d.0.is_last later lt ((means_as later d.0.path).1 m);
-    },
-    elim d.1 [
-      | inl g ↦ inl ((ignores_as i).0 g)
-      | inr t ↦ inr (t.0, t.1, (taken_as i t.0).0 t.2)
-    ],
-  )
-
-  idle_as : (idle : List IdleLine)
-      → AreIdleAmong (HeldIgnores held) (HeldMeans held) (length held) idle → AreIdle lines idle
-  idle_as idle a = record {
-    within = λ k x is. subst (λ n. x.index < n) (length_held lines) (a.within k x is);
-    ascending = a.ascending;
-    each = λ k x is. reason_as x.index x.reason (a.each k x is);
-    others = λ i lt none. decides_as i (a.others i (subst (λ n. i < n) (sym (length_held lines)) lt) none);
-  }
-
-pub idle_of_lines : (held : List IgnoreLine) (lines : List (Line Span)) (idle : List IdleLine)
-    → HasLines held lines
-    → AreIdleAmong (HeldIgnores held) (HeldMeans held) (length held) idle → AreIdle lines idle
-idle_of_lines stored lines idle has a =
-    idle_as lines idle (subst (λ ls. AreIdleAmong (HeldIgnores ls) (HeldMeans ls) (length ls) idle) has a)
+use Rattle.wax_token.specs.Words.{trees}
 
 -- ---- what some lines mean
-means_both : (ts us : List (Tree Span)) (s : List ℕ) → MeansSome (trees (ts ++ us)) false false s
-    ↔ (MeansSome (trees ts) false false s ⊎ MeansSome (trees us) false false s)
-means_both [] us s = ((λ h. inr h), (λ h. elim h [ inl n ↦ absurd n | inr m ↦ m ]))
-means_both (t ∷ ts) us s =
-    let r = means_both ts us s in (
+some_push : (ts : List (Tree Span)) (t : Tree Span) (s : List ℕ)
+    → MeansSome (trees (ts ++ t ∷ [])) false false s
+    ↔ (MeansSome (trees ts) false false s ⊎ Means t false false s)
+some_push [] t s = (
+  (λ h. elim h [ inl m ↦ inr m | inr n ↦ absurd n ]),
+  (λ h. elim h [ inl n ↦ absurd n | inr m ↦ inl m ]),
+)
+some_push (u ∷ ts) t s =
+    let r = some_push ts t s in (
       (λ h. elim h [ inl m ↦ inl (inl m) | inr m ↦ elim (r.0 m) [ inl n ↦ inl (inr n) | inr n ↦ inr n ] ]),
       (λ h. elim h [
         | inl m ↦ elim m [ inl n ↦ inl n | inr n ↦ inr (r.1 (inl n)) ]
@@ -144,16 +49,16 @@ means_both (t ∷ ts) us s =
       ]),
     )
 
-module _ (lines : List IgnoreLine) where
-  not_among : (s : List ℕ) → SomeHeldMeans lines [] s → ⊥
+module _ (lines : List (Line Span)) where
+  not_among : (s : List ℕ) → SomeLineMeans lines [] s → ⊥
   not_among s h = absurd (let lt : h.1.0 < 0 = h.1.1 in omega (arith, lt))
 
-  pub some_more : (indexes : List ℕ) (i : ℕ) (s : List ℕ) → SomeHeldMeans lines (indexes ++ i ∷ []) s
-      ↔ (SomeHeldMeans lines indexes s ⊎ HeldMeans lines i s)
+  pub some_more : (indexes : List ℕ) (i : ℕ) (s : List ℕ) → SomeLineMeans lines (indexes ++ i ∷ []) s
+      ↔ (SomeLineMeans lines indexes s ⊎ LineMeans lines i s)
   some_more indexes i s = (
     (λ h. elim (Contains-push_cases indexes i h.0 h.1) [
       | inl old ↦ inl (h.0, old, h.2)
-      | inr same ↦ inr (subst (λ k. HeldMeans lines k s) (sym same) h.2)
+      | inr same ↦ inr (subst (λ k. LineMeans lines k s) (sym same) h.2)
     ]),
     (λ h. elim h [
       | inl old ↦ (old.0, Contains-append_left indexes (i ∷ []) old.0 old.1, old.2)
@@ -161,7 +66,7 @@ module _ (lines : List IgnoreLine) where
     ]),
   )
 
-  pub only_one : (i : ℕ) (s : List ℕ) → SomeHeldMeans lines (i ∷ []) s ↔ HeldMeans lines i s
+  pub only_one : (i : ℕ) (s : List ℕ) → SomeLineMeans lines (i ∷ []) s ↔ LineMeans lines i s
   only_one i s = (
     (λ h. elim ((some_more [] i s).0 h) [ inl n ↦ absurd (not_among s n) | inr m ↦ m ]),
     (λ m. (some_more [] i s).1 (inr m)),
@@ -170,17 +75,17 @@ module _ (lines : List IgnoreLine) where
   -- the tokens mean what the lines with these indexes do
   abbrev pub AreTokensOf : List (Tree Span) → List ℕ → Type 0
   AreTokensOf tokens indexes = (s : List ℕ) → MeansSome (trees tokens) false false s
-      ↔ SomeHeldMeans lines indexes s
+      ↔ SomeLineMeans lines indexes s
 
   pub no_tokens : (tokens : List (Tree Span)) → tokens ≡ [] → AreTokensOf tokens []
-  no_tokens tokens e s = subst (λ ts. MeansSome (trees ts) false false s ↔ SomeHeldMeans lines [] s) (sym e)
+  no_tokens tokens e s = subst (λ ts. MeansSome (trees ts) false false s ↔ SomeLineMeans lines [] s) (sym e)
       ((λ h. absurd h), (λ h. absurd (not_among s h)))
 
-  pub tokens_more : (old new : List (Tree Span)) (indexes : List ℕ) (i : ℕ) (line : IgnoreLine)
-      → slice_get lines i ≡ Some line → new ≡ old ++ line.alternatives
+  pub tokens_more : (old new : List (Tree Span)) (indexes : List ℕ) (i : ℕ) (line : Line Span)
+      → slice_get lines i ≡ Some line → new ≡ old ++ line.glob ∷ []
       → AreTokensOf old indexes → AreTokensOf new (indexes ++ i ∷ [])
   tokens_more old new indexes i line is grown are s =
-      let both = means_both old line.alternatives s in
+      let both = some_push old line.glob s in
       let more = some_more indexes i s in (
         (λ h. more.1 (elim (both.0 (subst (λ ts. MeansSome (trees ts) false false s) grown h)) [
           | inl m ↦ inl ((are s).0 m)
@@ -188,8 +93,8 @@ module _ (lines : List IgnoreLine) where
         ])),
         (λ h. subst (λ ts. MeansSome (trees ts) false false s) (sym grown) (both.1 (elim (more.0 h) [
           | inl m ↦ inl ((are s).1 m)
-          | inr m ↦ inr (subst (λ l. MeansSome (trees l.alternatives) false false s)
-              (same_Some m.line line (sym m.is ∙ is)) m.means)
+          | inr m ↦ inr (subst (λ l. Means l.glob false false s) (same_Some m.line line (sym m.is ∙ is))
+              m.means)
         ]))),
       )
 
@@ -204,25 +109,25 @@ module _ (lines : List IgnoreLine) where
       )
 
   -- ---- whether lines mean a text
-  held_decided : (i : ℕ) (s : List ℕ) → Decided (HeldMeans lines i s)
-  held_decided i s = at (slice_get lines i) refl
+  line_decided : (i : ℕ) (s : List ℕ) → Decided (LineMeans lines i s)
+  line_decided i s = at (slice_get lines i) refl
     where
-      at : (found : Option IgnoreLine) → slice_get lines i ≡ found → Decided (HeldMeans lines i s)
+      at : (found : Option (Line Span)) → slice_get lines i ≡ found → Decided (LineMeans lines i s)
       at None e = inr (λ m. none-some m.line (sym e ∙ m.is))
-      at (Some line) e = elim (some_decided (trees line.alternatives) false false s) [
+      at (Some line) e = elim (means_decided line.glob false false s) [
         | inl m ↦ inl (record { line = line; is = e; means = m })
-        | inr n ↦ inr (λ m. n (subst (λ l. MeansSome (trees l.alternatives) false false s)
+        | inr n ↦ inr (λ m. n (subst (λ l. Means l.glob false false s)
             (same_Some m.line line (sym m.is ∙ e)) m.means))
       ]
 
-  among_decided : (indexes : List ℕ) (s : List ℕ) → Decided (SomeHeldMeans lines indexes s)
+  among_decided : (indexes : List ℕ) (s : List ℕ) → Decided (SomeLineMeans lines indexes s)
   among_decided [] s = inr (not_among s)
-  among_decided (i ∷ indexes) s = elim (held_decided i s) [
+  among_decided (i ∷ indexes) s = elim (line_decided i s) [
     | inl m ↦ inl (i, Contains-append_left (i ∷ []) indexes i (Contains-push [] i), m)
     | inr n ↦ elim (among_decided indexes s) [
       | inl h ↦ inl (h.0, Contains-append_right (i ∷ []) indexes h.0 h.1, h.2)
       | inr none ↦ inr (λ h. elim (cases_eq i h.0) [
-        | inl same ↦ n (subst (λ k. HeldMeans lines k s) (sym same) h.2)
+        | inl same ↦ n (subst (λ k. LineMeans lines k s) (sym same) h.2)
         | inr other ↦ none (h.0, Contains-tail i indexes h.0 other h.1, h.2)
       ])
     ]
@@ -234,11 +139,11 @@ module _ (lines : List IgnoreLine) where
 
   -- no plain path that the line means is left
   pub covered : (index : ℕ) (covers sorted : List ℕ) → IsPermutation covers sorted → AreLater index covers
-      → ((s : List ℕ) → IsWanted FirstOnly Paths (HeldMeans lines index) (SomeHeldMeans lines covers) s → ⊥)
-      → IsCoveredBy (HeldMeans lines) index sorted
+      → ((s : List ℕ) → IsWanted FirstOnly Paths (LineMeans lines index) (SomeLineMeans lines covers) s → ⊥)
+      → IsCoveredBy (LineMeans lines) index sorted
   covered index covers sorted p later none s path m = elim (among_decided covers s) [
     | inl h ↦ (h.0, Contains-permutation covers sorted h.0 p h.1, later h.0 h.1, h.2)
-    | inr n ↦ absurd (none s (record { scalars = path.0; among = path.1; first = m; second = n }))
+    | inr n ↦ absurd (none s (record { scalars = path.0; among = path.1; decided = (m, n) }))
   ]
 
   pub one_later : (index last : ℕ) (old new : List ℕ) → new ≡ old ++ last ∷ [] → index < last
@@ -253,11 +158,11 @@ module _ (lines : List IgnoreLine) where
   module _ (index : ℕ) where
     -- no plain path that the line means is meant by one of the first lines that ignore
     abbrev pub TakesNoneOf : ℕ → Type 0
-    TakesNoneOf count = (k : ℕ) (s : List ℕ) → k < count → HeldIgnores lines k → IsPath s
-        → HeldMeans lines index s → HeldMeans lines k s → ⊥
+    TakesNoneOf count = (k : ℕ) (s : List ℕ) → k < count → LineIgnores lines k → IsPath s
+        → LineMeans lines index s → LineMeans lines k s → ⊥
 
     pub takes_none_more : (k : ℕ)
-        → ((s : List ℕ) → IsWanted Both Paths (HeldMeans lines index) (SomeHeldMeans lines (k ∷ [])) s → ⊥)
+        → ((s : List ℕ) → IsWanted Both Paths (LineMeans lines index) (SomeLineMeans lines (k ∷ [])) s → ⊥)
         → TakesNoneOf k → TakesNoneOf (k + 1)
     takes_none_more k none before j s lt ignores path m other = elim (cases_lt j k) [
       | inl earlier ↦ before j s earlier ignores path m other
@@ -265,12 +170,11 @@ module _ (lines : List IgnoreLine) where
           none s (record {
             scalars = path.0;
             among = path.1;
-            first = m;
-            second = (only_one k s).1 (subst (λ n. HeldMeans lines n s) same other);
+            decided = (m, (only_one k s).1 (subst (λ n. LineMeans lines n s) same other));
           }))
     ]
 
-    pub takes_none_of_other : (k : ℕ) (line : IgnoreLine) → slice_get lines k ≡ Some line
+    pub takes_none_of_other : (k : ℕ) (line : Line Span) → slice_get lines k ≡ Some line
         → line.ignores ≡ false → TakesNoneOf k → TakesNoneOf (k + 1)
     takes_none_of_other k line is out before j s lt ignores path m other = elim (cases_lt j k) [
       | inl earlier ↦ before j s earlier ignores path m other
@@ -279,29 +183,32 @@ module _ (lines : List IgnoreLine) where
           (sym is ∙ ap (slice_get lines) (sym same) ∙ ignores.is)) ∙ ignores.ignores)))
     ]
 
-    pub takes_nothing : (line : IgnoreLine) → slice_get lines index ≡ Some line → line.ignores ≡ false
-        → TakesNoneOf index → TakesNothing (HeldIgnores lines) (HeldMeans lines) index
+    pub takes_nothing : (line : Line Span) → slice_get lines index ≡ Some line → line.ignores ≡ false
+        → TakesNoneOf index → TakesNothing (LineIgnores lines) (LineMeans lines) index
     takes_nothing line is out none = record {
       re_includes =
           λ g. false≢true (sym out ∙ ap (λ l. l.ignores) (same_Some line g.line (sym is ∙ g.is)) ∙ g.ignores);
       none = λ s path t. none t.1.0 s t.1.1 t.1.2 path t.0 t.1.3;
     }
 
-    pub takes_some : (k : ℕ) (line : IgnoreLine) (s : List ℕ) → slice_get lines k ≡ Some line
+    pub takes_some : (k : ℕ) (line : Line Span) (s : List ℕ) → slice_get lines k ≡ Some line
         → line.ignores ≡ true → k < index
-        → IsWanted Both Paths (HeldMeans lines index) (SomeHeldMeans lines (k ∷ [])) s
-        → HasEffect (HeldIgnores lines) (HeldMeans lines) index
+        → IsWanted Both Paths (LineMeans lines index) (SomeLineMeans lines (k ∷ [])) s
+        → HasEffect (LineIgnores lines) (LineMeans lines) index
     takes_some k line s is ignores lt w = inr (
       s,
       (w.scalars, w.among),
-      (w.first, (k, lt, record { line = line; is = is; ignores = ignores }, (only_one k s).0 w.second)),
+      (
+        w.decided.0,
+        (k, lt, record { line = line; is = is; ignores = ignores }, (only_one k s).0 w.decided.1),
+      ),
     )
 
   -- ---- the last line that means a path
   pub last_of_some : (code : List Instruction) (index : ℕ) (s : List ℕ) (last : Option ℕ)
       → AreMatchedBy lines code → IsLastNumber code s last
-      → ((k : ℕ) → last ≡ Some k → k ≤ index) → IsPath s → HeldMeans lines index s
-      → IsLastOfSome (HeldMeans lines) index
+      → ((k : ℕ) → last ≡ Some k → k ≤ index) → IsPath s → LineMeans lines index s
+      → IsLastOfSome (LineMeans lines) index
   last_of_some code index s None by none few path m = absurd (none index ((by.means index s).1 m))
   last_of_some code index s (Some k) by is few path m = record {
     path = s;
@@ -311,48 +218,34 @@ module _ (lines : List IgnoreLine) where
   }
 
 -- ---- lines by their indexes
-by_index : (i : ℕ) (ts : List (Tree Span)) (k : ℕ) (s : List ℕ)
-    → MatchesBy i i ts k s ↔ ((k ≡ i) × MeansSome (trees ts) false false s)
-by_index i [] k s = ((λ h. absurd h), (λ h. absurd h.1))
-by_index i (t ∷ ts) k s =
-    let either = same_number (ends_wild (members t)) in
-    let r = by_index i ts k s in (
-      (λ h. elim h [ inl m ↦ (m.0 ∙ either, inl m.1) | inr m ↦ (let n = r.0 m in (n.0, inr n.1)) ]),
-      (λ h. elim h.1 [ inl m ↦ inl (h.0 ∙ sym either, m) | inr m ↦ inr (r.1 (h.0, m)) ]),
-    )
-  where
-    same_number : (b : Bool) → cond b i i ≡ i
-    same_number true = refl
-    same_number false = refl
-
-module _ (lines : List IgnoreLine) where
+module _ (lines : List (Line Span)) where
   -- the patterns are those of the first lines, each with the index of its line
   abbrev pub AreOfFirst : List Numbered → ℕ → Type 0
   AreOfFirst patterns count = (k : ℕ) (s : List ℕ) → MeansNumbered patterns k s
-      ↔ ((k < count) × HeldMeans lines k s)
+      ↔ ((k < count) × LineMeans lines k s)
 
-  pub line_numbered : (old new : List Numbered) (i : ℕ) (line : IgnoreLine) → slice_get lines i ≡ Some line
-      → ((k : ℕ) (s : List ℕ) → MeansNumbered new k s
-      ↔ (MeansNumbered old k s ⊎ MatchesBy i i line.alternatives k s)) → AreOfFirst old i
-      → AreOfFirst new (i + 1)
-  line_numbered old new i line is added are k s =
-      let one = by_index i line.alternatives k s in (
-        (λ h. elim ((added k s).0 h) [
-          | inl m ↦ (let n = (are k s).0 m in (omega (arith, n.0), n.1))
-          | inr m ↦ (let n = one.0 m in (
-            omega (arith, n.0),
-            subst (λ j. HeldMeans lines j s) (sym n.0) (record { line = line; is = is; means = n.1 }),
+  pub line_numbered : (old : List Numbered) (i : ℕ) (line : Line Span) (p : Numbered)
+      → slice_get lines i ≡ Some line → p.number ≡ i → p.pattern.now ≡ line.glob → AreOfFirst old i
+      → AreOfFirst (old ++ p ∷ []) (i + 1)
+  line_numbered old i line p is number pattern are k s =
+      let push = numbered_push old p k s in (
+        (λ h. elim (push.0 h) [
+          | inl m ↦ (let at : k ≡ i = m.0 ∙ number in (
+            omega (arith, at),
+            subst (λ j. LineMeans lines j s) (sym at)
+                (record { line = line; is = is; means = subst (λ t. Means t false false s) pattern m.1 }),
           ))
+          | inr m ↦ (let n = (are k s).0 m in (omega (arith, n.0), n.1))
         ]),
-        (λ h. (added k s).1 (elim (cases_lt k i) [
-          | inl lt ↦ inl ((are k s).1 (lt, h.1))
+        (λ h. push.1 (elim (cases_lt k i) [
+          | inl lt ↦ inr ((are k s).1 (lt, h.1))
           | inr past ↦ (let same : k ≡ i = omega (arith, past, h.0) in
-              let m = subst (λ j. HeldMeans lines j s) same h.1 in
-              inr (one.1 (
-                same,
-                subst (λ l. MeansSome (trees l.alternatives) false false s)
-                    (same_Some m.line line (sym m.is ∙ is)) m.means,
-              )))
+              let m = subst (λ j. LineMeans lines j s) same h.1 in
+              inl (
+                same ∙ sym number,
+                subst (λ t. Means t false false s) (sym pattern)
+                    (subst (λ l. Means l.glob false false s) (same_Some m.line line (sym m.is ∙ is)) m.means),
+              ))
         ])),
       )
 

@@ -1,7 +1,8 @@
 -- What is kept of a plain walk without what lines ignore.
-use Rattle.std.proofs.Common.{◌∙◌, ◌+◌, ◌≤◌, ℕ, false, List, filter, refl, ap, arith, subst}
+use Rattle.std.proofs.Common.{◌≡◌, ◌∙◌, ◌+◌, ◌≤◌, ℕ, false, List, filter, refl, ap, arith, subst}
 use Rattle.wax_directory.specs.Law.{Law}
 use Rattle.wax_directory.specs.Shown.{Shown}
+use Rattle.wax_token.specs.Reads.{Span}
 use Rattle.wax_tree.specs.Begins.{Begins}
 use Rattle.wax_tree.specs.Plain.{count_shown}
 use Rattle.wax_walk.specs.Collected.{Yielded, whole, lacks_memory, over_budget}
@@ -12,16 +13,12 @@ use Rattle.wax_walk.specs.Ruled.{ruled_view}
 use Rattle.wax_walk.specs.View.{WalkView, IsSeenAs}
 use Rattle.wax_exclude.proofs.Allowing.{lists_allowed}
 use Rattle.wax_exclude.proofs.KeptItems.{cut_kept, kept_entries}
-use Rattle.wax_exclude.specs.Ignored.{ignore_mark}
+use Rattle.wax_exclude.specs.Ignored.{Line, ignore_mark}
 use Rattle.wax_exclude.specs.Unignored.{GivesUnignored, LosesIgnored}
 use Rattle.wax_exclude.specs.Premises.{IsPlainShown}
 use Rattle.wax_exclude.specs.Wanted.{is_kept_entry}
-use Rattle.wax_exclude.proofs.ListingLines.{says_lines}
-use Rattle.wax_exclude.specs.Held.{HasLines}
 use Rattle.wax_exclude.specs.Due as due
 use Rattle.wax_exclude.specs.Kept.{KeepsUnignored, PlainRequest, requested_plain, unignored_walk}
-use Rattle.wax_exclude.specs.declared.rules.IgnoreLine.{IgnoreLine}
-use Rattle.wax_exclude.specs.inner.Listed.{listed_mark}
 
 -- ---- what comes
 
@@ -29,14 +26,14 @@ abbrev unignored_pending : PlainRequest → Shown → List (List ℕ) → Pendin
 unignored_pending request s listed = pending nothing (unignored_walk request s) listed (count_shown s)
 
 module _ {D C : Type 0} (law : Law D C) (d : D) (request : PlainRequest)
-    (rule : List IgnoreLine) (v u : WalkView D)
-    (held : HasLines rule request.lines) (begins : Begins law d request.start request.range v)
-    (seen : IsSeenAs (ruled_view v (λ c. listed_mark rule c) false) u) where
+    (rule : List (Line Span)) (v u : WalkView D)
+    (held : rule ≡ request.lines) (begins : Begins law d request.start request.range v)
+    (seen : IsSeenAs (ruled_view v (λ c. ignore_mark rule c) false) u) where
   comes : (s : Shown) (listed : List (List ℕ)) → law.shows d request.start s → law.tells d listed
       → u.to_come (unignored_pending request s listed)
   comes s listed shows told =
       let ignoring : IsSeenAs (ruled_view v (ignore_mark request.lines) false) u =
-      subst (λ r. IsSeenAs (ruled_view v r false) u) (says_lines rule request.lines held) seen in
+      subst (λ ls. IsSeenAs (ruled_view v (ignore_mark ls) false) u) held seen in
       ignoring.to_come (unignored_pending request s listed) (
         refl,
         (

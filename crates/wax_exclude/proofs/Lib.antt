@@ -9,7 +9,9 @@ pub mod Closing
 pub mod Components
 pub mod Costs
 pub mod Covered
+pub mod DecidingLine
 pub mod Descending
+pub mod Dropped
 pub mod Empty
 pub mod Exactly
 pub mod Excluding
@@ -53,6 +55,7 @@ pub mod Steps
 pub mod Telling
 pub mod Tests
 pub mod Texts
+pub mod TidyUp
 pub mod Unslashed
 pub mod Walked
 pub mod Wanting

@@ -14,7 +14,7 @@ use Rattle.wax_token.specs.Syntax.{Tree}
 use Rattle.wax_token.specs.Words.{members}
 use Rattle.wax_exclude.proofs.Tests.{and_true}
 use Rattle.wax_exclude.specs.Covers.{ends_wild, some_everything}
-use Rattle.wax_exclude.specs.declared.rules.IgnoreLine.{IgnoreLine}
+use Rattle.wax_exclude.specs.declared.split.SplitLine.{SplitLine}
 use Rattle.wax_exclude.specs.inner.Listed.{none_reincludes}
 use Rattle.wax_exclude.specs.inner.Numbers.{HasMatch, IsSettledFrom, MatchesBy, covers_everything}
 use Rattle.wax_exclude.specs.inner.Numbers.{number_after}
@@ -54,7 +54,7 @@ module _ (Whole : ℕ → List ℕ → Type 0) where
       )
 
   -- one more line
-  pub line_added : (top before number covering i : ℕ) (lines : List IgnoreLine) (line : IgnoreLine)
+  pub line_added : (top before number covering i : ℕ) (lines : List SplitLine) (line : SplitLine)
       (old new : List Numbered)
       → i < length lines → line ≡ get_or lines i line → number ≡ number_after before line.ignores
       → covering ≡ cond (none_reincludes (drop i lines)) top number
@@ -94,7 +94,7 @@ module _ (Whole : ℕ → List ℕ → Type 0) where
       )
 
 -- ---- the last line that re-includes
-all_later : (lines : List IgnoreLine) (m i : ℕ) → none_reincludes (drop m lines) ≡ true → m ≤ i
+all_later : (lines : List SplitLine) (m i : ℕ) → none_reincludes (drop m lines) ≡ true → m ≤ i
     → none_reincludes (drop i lines) ≡ true
 all_later [] m i h le = none_left i
   where
@@ -107,7 +107,7 @@ all_later (line ∷ lines) zero (suc i) h le =
 all_later (line ∷ lines) (suc m) zero h le = absurd (omega (arith, le))
 all_later (line ∷ lines) (suc m) (suc i) h le = all_later lines m i h (omega (arith, le))
 
-some_later : (lines : List IgnoreLine) (m i : ℕ) (line : IgnoreLine) → m < length lines
+some_later : (lines : List SplitLine) (m i : ℕ) (line : SplitLine) → m < length lines
     → get_or lines m line ≡ line → line.ignores ≡ false → i ≤ m
     → none_reincludes (drop i lines) ≡ false
 some_later [] m i line lt at out le = absurd (omega (arith, lt))
@@ -124,7 +124,7 @@ some_later (l ∷ lines) (suc m) zero line lt at out le =
 some_later (l ∷ lines) (suc m) (suc i) line lt at out le =
     some_later lines m i line (omega (arith, lt)) at out (omega (arith, le))
 
-pub settled_at_start : (lines : List IgnoreLine) (settled : ℕ) → settled ≡ 0
+pub settled_at_start : (lines : List SplitLine) (settled : ℕ) → settled ≡ 0
     → none_reincludes (drop settled lines) ≡ true → IsSettledFrom lines settled
 settled_at_start lines settled none h = record {
   within = omega (arith, none);
@@ -132,7 +132,7 @@ settled_at_start lines settled none h = record {
       λ i. all_later lines settled i h (omega (arith, none)) ∙ sym (le-leb settled i (omega (arith, none)));
 }
 
-pub settled_after : (lines : List IgnoreLine) (settled at : ℕ) (line : IgnoreLine) → settled ≤ length lines
+pub settled_after : (lines : List SplitLine) (settled at : ℕ) (line : SplitLine) → settled ≤ length lines
     → settled ≡ at + 1 → get_or lines at line ≡ line → line.ignores ≡ false
     → none_reincludes (drop settled lines) ≡ true → IsSettledFrom lines settled
 settled_after lines settled at line within e here out h = record {
@@ -148,10 +148,10 @@ settled_after lines settled at line within e here out h = record {
     cases i = elim (cases_lt i settled) [ inl lt ↦ inr lt | inr le ↦ inl le ]
 
 -- ---- what covers everything
-abbrev pub Everything : IgnoreLine → Bool
+abbrev pub Everything : SplitLine → Bool
 Everything line = some_everything line.alternatives
 
-any_settled : (lines : List IgnoreLine) → none_reincludes lines ≡ true
+any_settled : (lines : List SplitLine) → none_reincludes lines ≡ true
     → list_any Everything lines ≡ covers_everything lines
 any_settled [] h = refl
 any_settled (line ∷ lines) h =
@@ -164,7 +164,7 @@ suc_le n i = elim (cases_lt i n) [
   | inr le ↦ le-leb (suc n) (suc i) (omega (arith, le)) ∙ sym (le-leb n i le)
 ]
 
-pub any_from : (lines : List IgnoreLine) (settled : ℕ)
+pub any_from : (lines : List SplitLine) (settled : ℕ)
     → ((i : ℕ) → none_reincludes (drop i lines) ≡ nat_le settled i)
     → list_any Everything (drop settled lines) ≡ covers_everything lines
 any_from lines zero marks = any_settled lines (marks zero ∙ le-leb zero zero (omega arith))

@@ -2,8 +2,9 @@
 use Rattle.std.proofs.Common.{◌==◌, ◌≡◌, ◌↔◌, ℕ, suc, ◌≤◌, ◌<◌, ◌+◌, ◌%◌, Bool, true, false, not, ◌&&◌, ◌||◌}
 use Rattle.std.proofs.Common.{cond, ◌⊎◌, List, [], ◌∷◌, ◌++◌, Option, Some, None, length, refl, sym, ◌∙◌, ap}
 use Rattle.std.proofs.Common.{subst, inl, inr, arith, eq-eqb, ne_eqb}
-use Rattle.std.specs.Prelude.{nat_lt}
+use Rattle.std.specs.Prelude.{IsTrue, nat_lt}
 use Rattle.std.proofs.lemmas.Bool.{and_from, cases_lt, false≢true}
+use Rattle.wax_compare.specs.Selected.{HasOddLast}
 use Rattle.wax_lazy.specs.Numbers.{IsLastNumber}
 use Rattle.wax_program.specs.Machine.{Accepts, mark}
 use Rattle.wax_token.specs.Decided.{holds_truly, some_decided}
@@ -18,7 +19,7 @@ use Rattle.wax_exclude.specs.Covers.{WildMeans, ends_wild, some_everything, wild
 use Rattle.wax_exclude.specs.Excluded.{some_test}
 use Rattle.wax_exclude.specs.Marks.{covered_mark}
 use Rattle.wax_exclude.specs.declared.numbers.NumberedLines.{NumberedLines}
-use Rattle.wax_exclude.specs.declared.rules.IgnoreLine.{IgnoreLine}
+use Rattle.wax_exclude.specs.declared.split.SplitLine.{SplitLine}
 use Rattle.wax_exclude.specs.inner.Listed.{below_by, ignored_by, listed_mark, none_reincludes}
 use Rattle.wax_exclude.specs.inner.Numbers.{HasMatch, KnowsLines, MatchesBy, covering_number}
 use Rattle.wax_exclude.specs.inner.Numbers.{covers_everything, is_odd, number_after, numbered_mark}
@@ -42,7 +43,7 @@ next_or_same n true e = odd_suc n ∙ ap not e
 next_or_same n false e = e
 
 -- the numbers of lines that ignore are odd
-odd_next : (n : ℕ) (ignores : Bool) → is_odd (number_after n ignores) ≡ ignores
+pub odd_next : (n : ℕ) (ignores : Bool) → is_odd (number_after n ignores) ≡ ignores
 odd_next n true = same_or_next n (is_odd n) refl
 odd_next n false = next_or_same n (is_odd n) refl
 
@@ -55,7 +56,7 @@ module _ (n : ℕ) where
   at_most true = (omega arith, omega arith)
   at_most false = (omega arith, omega arith)
 
-  next_more : (ignores : Bool) → n ≤ number_after n ignores
+  pub next_more : (ignores : Bool) → n ≤ number_after n ignores
   next_more true = (at_least (is_odd n)).0
   next_more false = (at_least (is_odd n)).1
 
@@ -66,26 +67,26 @@ module _ (n : ℕ) where
 module _ (s : List ℕ) where
   -- whether an alternative that ends with `**` matches, in a line that ignores and
   -- after which none re-includes
-  abbrev top_test : List IgnoreLine → Bool
+  abbrev top_test : List SplitLine → Bool
   top_test [] = false
   top_test (line ∷ lines) =
       (none_reincludes (line ∷ lines) && wild_test line.alternatives s) || top_test lines
 
   -- a line with the number k matches, if the line before these has the number n
-  abbrev LineMatches : ℕ → List IgnoreLine → ℕ → Type 0
+  abbrev LineMatches : ℕ → List SplitLine → ℕ → Type 0
   LineMatches n [] k = ⊥
   LineMatches n (line ∷ lines) k =
       ((k ≡ number_after n line.ignores) × (some_test line.alternatives s ≡ true))
       ⊎ LineMatches (number_after n line.ignores) lines k
 
-  matched_most : (n : ℕ) (lines : List IgnoreLine) (k : ℕ) → LineMatches n lines k → k ≤ n + length lines
+  matched_most : (n : ℕ) (lines : List SplitLine) (k : ℕ) → LineMatches n lines k → k ≤ n + length lines
   matched_most n [] k h = absurd h
   matched_most n (line ∷ lines) k (inl h) = omega (arith, h.0, next_most n line.ignores)
   matched_most n (line ∷ lines) k (inr h) =
       omega (arith, next_most n line.ignores, matched_most (number_after n line.ignores) lines k h)
 
   -- ---- the number of the last line that matches
-  abbrev best : ℕ → ℕ → List IgnoreLine → ℕ
+  abbrev best : ℕ → ℕ → List SplitLine → ℕ
   best n found [] = found
   best n found (line ∷ lines) =
       best (number_after n line.ignores)
@@ -96,7 +97,7 @@ module _ (s : List ℕ) where
   odd_cond true m found g was e f = e
   odd_cond false m found g was e f = f
 
-  best_decides : (n found : ℕ) (was : Bool) (lines : List IgnoreLine) → is_odd found ≡ was
+  best_decides : (n found : ℕ) (was : Bool) (lines : List SplitLine) → is_odd found ≡ was
       → is_odd (best n found lines) ≡ ignored_by was lines s
   best_decides n found was [] e = e
   best_decides n found was (line ∷ lines) e =
@@ -105,7 +106,7 @@ module _ (s : List ℕ) where
       best_decides m (cond d m found) (cond d line.ignores was) lines
       (odd_cond d m found line.ignores was (odd_next n line.ignores) e)
 
-  module _ (m found : ℕ) (lines : List IgnoreLine) where
+  module _ (m found : ℕ) (lines : List SplitLine) where
     keeps_both : (b : Bool) → found ≤ m → m ≤ best m m lines → found ≤ best m found lines
         → found ≤ best m (cond b m found) lines
     keeps_both true le p q = omega (arith, le, p)
@@ -130,7 +131,7 @@ module _ (s : List ℕ) where
     rest_both true k p q = p
     rest_both false k p q = q
 
-  best_keeps : (n found : ℕ) (lines : List IgnoreLine) → found ≤ n → found ≤ best n found lines
+  best_keeps : (n found : ℕ) (lines : List SplitLine) → found ≤ n → found ≤ best n found lines
   best_keeps n found [] le = omega arith
   best_keeps n found (line ∷ lines) le =
       let m = number_after n line.ignores in
@@ -138,7 +139,7 @@ module _ (s : List ℕ) where
       keeps_both m found lines (some_test line.alternatives s) lm (best_keeps m m lines (omega arith))
       (best_keeps m found lines lm)
 
-  best_greatest : (n found : ℕ) (lines : List IgnoreLine) (k : ℕ) → found ≤ n → LineMatches n lines k
+  best_greatest : (n found : ℕ) (lines : List SplitLine) (k : ℕ) → found ≤ n → LineMatches n lines k
       → k ≤ best n found lines
   best_greatest n found [] k le h = absurd h
   best_greatest n found (line ∷ lines) k le (inl h) =
@@ -151,7 +152,7 @@ module _ (s : List ℕ) where
       rest_both m found lines (some_test line.alternatives s) k (best_greatest m m lines k (omega arith) h)
       (best_greatest m found lines k (omega (arith, le, next_more n line.ignores)) h)
 
-  best_found : (n found : ℕ) (lines : List IgnoreLine) → (best n found lines ≡ found)
+  best_found : (n found : ℕ) (lines : List SplitLine) → (best n found lines ≡ found)
       ⊎ LineMatches n lines (best n found lines)
   best_found n found [] = inl refl
   best_found n found (line ∷ lines) =
@@ -180,7 +181,7 @@ module _ (s : List ℕ) where
   chosen_true true g was e f = e
   chosen_true false g was e f = f
 
-  stays_true : (was : Bool) (lines : List IgnoreLine) → was ≡ true → none_reincludes lines ≡ true
+  stays_true : (was : Bool) (lines : List SplitLine) → was ≡ true → none_reincludes lines ≡ true
       → ignored_by was lines s ≡ true
   stays_true was [] w h = w
   stays_true was (line ∷ lines) w h =
@@ -188,7 +189,7 @@ module _ (s : List ℕ) where
       stays_true (cond (some_test line.alternatives s) line.ignores was) lines
       (chosen_true (some_test line.alternatives s) line.ignores was k.0 w) k.1
 
-  top_ignored : (was : Bool) (lines : List IgnoreLine) → top_test lines ≡ true → ignored_by was lines s ≡ true
+  top_ignored : (was : Bool) (lines : List SplitLine) → top_test lines ≡ true → ignored_by was lines s ≡ true
   top_ignored was [] h = cc
   top_ignored was (line ∷ lines) h =
       let next = cond (some_test line.alternatives s) line.ignores was in
@@ -239,7 +240,7 @@ module _ (s : List ℕ) where
     by_any (t ∷ ts) le (inr h) = (let r = by_any ts le h in (r.0, r.1, inr r.2))
 
   module _ (top : ℕ) where
-    found_line : (n : ℕ) (lines : List IgnoreLine) (k : ℕ) → HasMatch top n lines k s
+    found_line : (n : ℕ) (lines : List SplitLine) (k : ℕ) → HasMatch top n lines k s
         → ((k ≡ top) × (top_test lines ≡ true)) ⊎ LineMatches n lines k
     found_line n [] k h = absurd h
     found_line n (line ∷ lines) k (inl h) =
@@ -266,7 +267,7 @@ module _ (s : List ℕ) where
       | inr m ↦ inr (inr m)
     ]
 
-    covered_found : (n : ℕ) (lines : List IgnoreLine) → top_test lines ≡ true → HasMatch top n lines top s
+    covered_found : (n : ℕ) (lines : List SplitLine) → top_test lines ≡ true → HasMatch top n lines top s
     covered_found n [] h = cc
     covered_found n (line ∷ lines) h =
         let own = number_after n line.ignores in
@@ -278,7 +279,7 @@ module _ (s : List ℕ) where
           | inr p ↦ inr (covered_found own lines p)
         ]
 
-    line_found : (n : ℕ) (lines : List IgnoreLine) (k : ℕ) → n + length lines < top → LineMatches n lines k
+    line_found : (n : ℕ) (lines : List SplitLine) (k : ℕ) → n + length lines < top → LineMatches n lines k
         → (j : ℕ) × (k ≤ j) × HasMatch top n lines j s
     line_found n [] k lt h = absurd h
     line_found n (line ∷ lines) k lt (inl h) =
@@ -310,7 +311,7 @@ below_step true true true d w f t = refl
 below_step true true false true w f t = or_swap w f t
 below_step true true false false w f t = refl
 
-below_parts : (lines : List IgnoreLine) (c : Candidate)
+below_parts : (lines : List SplitLine) (c : Candidate)
     → below_by lines c ≡ (covers_everything lines || (nat_lt 0 c.depth && top_test c.text lines))
 below_parts [] c = none_below (nat_lt 0 c.depth)
   where
@@ -327,7 +328,7 @@ below_parts (line ∷ lines) c =
     ∙ below_step g a e d w (covers_everything lines) (top_test c.text lines)
 
 -- ---- the greatest number decides
-module _ (lines : List IgnoreLine) (c : Candidate) (top : ℕ) (above : length lines < top) where
+module _ (lines : List SplitLine) (c : Candidate) (top : ℕ) (above : length lines < top) where
   abbrev s : List ℕ
   s = c.text
 
@@ -419,13 +420,83 @@ module _ (lines : List IgnoreLine) (c : Candidate) (top : ℕ) (above : length l
   decided true e last h = sym (ap (λ b. covered_mark (b || (named && top_test s lines)) ignored) e)
   decided false e last h = h ∙ sym (ap (λ b. covered_mark (b || (named && top_test s lines)) ignored) e)
 
+-- the greatest number of an alternative that matches is odd exactly if the lines ignore the text
+module _ (lines : List SplitLine) (top : ℕ) (above : length lines < top) (odd : is_odd top ≡ true)
+    (s : List ℕ) where
+  abbrev Matched : ℕ → Type 0
+  Matched k = HasMatch top 0 lines k s
+
+  abbrev Ignored : Type 0
+  Ignored = IsTrue (ignored_by false lines s)
+
+  abbrev alone_of : Candidate
+  alone_of = record { names = []; text = s; depth = 0 }
+
+  by_cover : (b : Bool) → top_test s lines ≡ b → HasOddLast Matched ↔ Ignored
+  by_cover true e = (
+    (λ h. top_ignored s false lines e),
+    (λ h. record {
+      last = top;
+      holds = covered_found s top 0 lines e;
+      greatest = λ k m. elim (found_line s top 0 lines k m) [
+        | inl t ↦ omega (arith, t.0)
+        | inr l ↦ (let few = matched_most s 0 lines k l in omega (arith, few, above))
+      ];
+      odd = odd;
+    }),
+  )
+  by_cover false e = (
+    (λ h. sym (is_best lines alone_of top above h.last h.greatest (inr h.holds) e) ∙ h.odd),
+    (λ h. (
+        let b = best s 0 0 lines in
+        let decides : is_odd b ≡ ignored_by false lines s = best_decides s 0 0 false lines refl in
+        elim (best_found s 0 0 lines) [
+          | inl none ↦ absurd (false≢true (sym (ap is_odd none) ∙ decides ∙ h))
+          | inr m ↦ (let j = line_found s top 0 lines b (omega (arith, above)) m in
+              let least : (k : ℕ) → Matched k → k ≤ b = λ k w. elim (found_line s top 0 lines k w) [
+                | inl t ↦ absurd (false≢true (sym e ∙ t.1))
+                | inr l ↦ best_greatest s 0 0 lines k (omega arith) l
+              ] in
+              let few : j.0 ≤ b = least j.0 j.2 in
+              let same : j.0 ≡ b = omega (arith, few, j.1) in
+              record {
+                last = b;
+                holds = subst Matched same j.2;
+                greatest = least;
+                odd = decides ∙ h;
+              })
+        ])),
+  )
+
+  pub odd_selects : HasOddLast Matched ↔ Ignored
+  odd_selects = by_cover (top_test s lines) refl
+
 -- what the greatest number excludes of an entry is what the lines exclude
-pub numbers_decide : (lines : List IgnoreLine) (numbered : NumberedLines) (c : Candidate) (last : Option ℕ)
+pub numbers_decide : (lines : List SplitLine) (numbered : NumberedLines) (c : Candidate) (last : Option ℕ)
     → KnowsLines lines numbered
     → IsLastNumber numbered.matcher c.text last
     → numbered_mark numbered.covers_all numbered.top (nat_lt 0 c.depth) last ≡ listed_mark lines c
 numbers_decide lines numbered c last knows h =
-    let above : length lines < numbered.top = omega (arith, knows.top) in
-    decided lines c numbered.top above numbered.covers_all (sym knows.all) last
-    (by_last lines c numbered.top above last numbered.matcher (λ k. knows.means k c.text) h)
+    decided lines c numbered.top knows.above numbered.covers_all (sym knows.all) last
+    (by_last lines c numbered.top knows.above last numbered.matcher (λ k. knows.means k c.text) h)
     ∙ ap (λ b. covered_mark b (ignored_by false lines c.text)) (sym (below_parts lines c))
+
+odd_same : (P Q : ℕ → Type 0) → ((k : ℕ) → P k ↔ Q k) → HasOddLast P → HasOddLast Q
+odd_same P Q same h = record {
+  last = h.last;
+  holds = (same h.last).0 h.holds;
+  greatest = λ k q. h.greatest k ((same k).1 q);
+  odd = h.odd;
+}
+
+-- the program selects what the lines ignore, by the greatest number
+pub numbers_select : (lines : List SplitLine) (numbered : NumberedLines) (s : List ℕ)
+    → KnowsLines lines numbered
+    → HasOddLast (λ k. Accepts numbered.matcher 0 (s ++ mark k ∷ [])) ↔ IsTrue (ignored_by false lines s)
+numbers_select lines numbered s knows =
+    let decides = odd_selects lines numbered.top knows.above knows.odd s in
+    let back : (k : ℕ) → HasMatch numbered.top 0 lines k s ↔ Accepts numbered.matcher 0 (s ++ mark k ∷ []) =
+    λ k. ((knows.means k s).1, (knows.means k s).0) in (
+      (λ h. decides.0 (odd_same _ _ (λ k. knows.means k s) h)),
+      (λ h. odd_same _ _ back (decides.1 h)),
+    )

@@ -5,7 +5,7 @@ use Rattle.wax_prefilter.specs.Literals.{LiteralsView, MayPass}
 use Rattle.wax_token.specs.Meaning.{Means}
 use Rattle.wax_token.specs.Reads.{Span}
 use Rattle.wax_token.specs.Syntax.{Tree}
-use Rattle.wax_exclude.specs.declared.rules.IgnoreLine.{IgnoreLine}
+use Rattle.wax_exclude.specs.declared.split.SplitLine.{SplitLine}
 use Rattle.wax_exclude.specs.inner.Numbers.{AlternativesPass, HasMatch, LinesPass, MatchesBy, covering_number}
 use Rattle.wax_exclude.specs.inner.Numbers.{number_after}
 
@@ -16,7 +16,7 @@ KeepPassing old new = (s : List ℕ) → MayPass old s → MayPass new s
 abbrev TokenPasses : LiteralsView → Tree Span → Type 0
 TokenPasses literals t = (s : List ℕ) → Means t false false s → MayPass literals s
 
-abbrev LinePasses : LiteralsView → IgnoreLine → Type 0
+abbrev LinePasses : LiteralsView → SplitLine → Type 0
 LinePasses literals line = AlternativesPass line.alternatives literals
 
 alternatives_keep : (old new : LiteralsView) (ts : List (Tree Span)) → KeepPassing old new
@@ -35,7 +35,7 @@ alternative_passes ts i t old new lt is keeps adds before =
     (subst (TokenPasses new) is adds)
 
 -- one more line
-pub line_passes : (lines : List IgnoreLine) (i : ℕ) (line : IgnoreLine) (old new : LiteralsView)
+pub line_passes : (lines : List SplitLine) (i : ℕ) (line : SplitLine) (old new : LiteralsView)
     → i < length lines → line ≡ get_or lines i line
     → KeepPassing old new → AlternativesPass line.alternatives new → LinesPass (take i lines) old
     → LinesPass (take (i + 1) lines) new
@@ -55,7 +55,7 @@ alternative_matched literals own above (t ∷ ts) k s all (inl m) =
 alternative_matched literals own above (t ∷ ts) k s all (inr m) =
     alternative_matched literals own above ts k s (All-tail (TokenPasses literals) t ts all) m
 
-pub matched_passes : (literals : LiteralsView) (top n : ℕ) (lines : List IgnoreLine) (k : ℕ) (s : List ℕ)
+pub matched_passes : (literals : LiteralsView) (top n : ℕ) (lines : List SplitLine) (k : ℕ) (s : List ℕ)
     → LinesPass lines literals
     → HasMatch top n lines k s → MayPass literals s
 matched_passes literals top n [] k s all m = absurd m

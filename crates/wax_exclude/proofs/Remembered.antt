@@ -2,11 +2,7 @@
 use Rattle.std.proofs.Common.{◌≡◌, Bool, true, false, not, is_some, Some, None, Option, List, refl, ap, ◌∙◌}
 use Rattle.std.proofs.lemmas.Bool.{false≢true, true≢false}
 use Rattle.wax_exclude.proofs.Ignored.{ignore_keeps}
-use Rattle.wax_exclude.proofs.ListingLines.{says_lines}
-use Rattle.wax_exclude.specs.Held.{HasLines}
-use Rattle.wax_exclude.specs.Ignored.{Line, is_ignored}
-use Rattle.wax_exclude.specs.declared.rules.IgnoreLine.{IgnoreLine}
-use Rattle.wax_exclude.specs.inner.Listed.{listed_mark}
+use Rattle.wax_exclude.specs.Ignored.{Line, ignore_mark, is_ignored}
 use Rattle.wax_exclude.specs.inner.Stacks.{keeps}
 use Rattle.wax_token.specs.Reads.{Span}
 use Rattle.wax_walk.specs.Candidates.{Candidate}
@@ -24,9 +20,7 @@ some_excluded (Some Tree) true h = refl
 some_excluded (Some Tree) false h = absurd (false≢true h)
 
 -- something is excluded exactly if the lines ignore the text
-pub excluded_if_ignored : (held : List IgnoreLine) (lines : List (Line Span)) (c : Candidate)
-    (r : Option EntryResidue) →
-    HasLines held lines → mark_of r ≡ listed_mark held c → is_some r ≡ is_ignored lines c.text
-excluded_if_ignored held lines c r has said =
-    some_excluded r (is_ignored lines c.text)
-    (ap keeps (said ∙ ap (λ rule. rule c) (says_lines held lines has)) ∙ ignore_keeps lines c)
+pub excluded_if_ignored : (lines : List (Line Span)) (c : Candidate) (r : Option EntryResidue)
+    → mark_of r ≡ ignore_mark lines c → is_some r ≡ is_ignored lines c.text
+excluded_if_ignored lines c r said =
+    some_excluded r (is_ignored lines c.text) (ap keeps said ∙ ignore_keeps lines c)

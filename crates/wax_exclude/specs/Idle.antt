@@ -1,7 +1,8 @@
 -- Lines of ignore lists that decide nothing about plain paths. Lines are known by their indexes: which of
 -- them ignore, and which texts they mean.
-use Rattle.std.specs.Prelude.{◌≡◌, ◌≢◌, ◌⊎◌, ◌<◌, ◌++◌, ◌∷◌, ℕ, true, false, List, Some, Contains, length}
-use Rattle.std.specs.Prelude.{slice_get, ⊤}
+use Rattle.std.specs.Prelude.{◌≡◌, ◌≢◌, ◌⊎◌, ◌<◌, ◌==◌, ◌++◌, [], ◌∷◌, ℕ, suc, Bool, true, false, List, Some}
+use Rattle.std.specs.Prelude.{Contains, filter, if◌then◌else◌, length, map, slice_get, ⊤}
+use Rattle.std.specs.List.{list_any}
 use Rattle.std.specs.Str.{all_scalars}
 use Rattle.wax_query.specs.Below.{IsPlainPath}
 use Rattle.wax_exclude.specs.Ignored.{Line, is_ignored}
@@ -87,3 +88,43 @@ IdleLinesCanGo = (before after : List (Line Span)) (line : Line Span) (reason : 
     → IsReason (LineIgnores (before ++ line ∷ after)) (LineMeans (before ++ line ∷ after)) (length before)
     reason
     → is_ignored (before ++ after) s ≡ is_ignored (before ++ line ∷ after) s
+
+-- ---- lines that go together
+
+-- the elements whose indexes don't pass the test
+abbrev pub drop_where : {X : Type 0} → (ℕ → Bool) → List X → List X
+drop_where goes [] = []
+drop_where goes (x ∷ xs) =
+    if goes 0 then drop_where (λ k. goes (suc k)) xs else x ∷ drop_where (λ k. goes (suc k)) xs
+
+-- the elements whose indexes aren't among these
+abbrev pub without : {X : Type 0} → List ℕ → List X → List X
+without indexes xs = drop_where (λ k. list_any (λ i. i == k) indexes) xs
+
+-- the line with this index decides nothing, and it is known why
+pub record DecidesNothing {A : Type 0} (lines : List (Line A)) (index : ℕ) : Type 0 where
+  pub reason : IdleReason
+  pub is_known : reason ≢ Unknown
+  pub is : IsReason (LineIgnores lines) (LineMeans lines) index reason
+
+-- without some of the lines that decide nothing, a list ignores the same plain paths
+abbrev pub IdleLinesCanGoTogether : Type 0
+IdleLinesCanGoTogether = (lines : List (Line Span)) (indexes : List ℕ) (s : List ℕ)
+    → ((index : ℕ) → Contains indexes index → DecidesNothing lines index) → IsPath s
+    → is_ignored (without indexes lines) s ≡ is_ignored lines s
+
+-- whether it is known why a line decides nothing
+abbrev pub is_known : IdleReason → Bool
+is_known (Covered covers) = true
+is_known TakesNothingBack = true
+is_known Unknown = false
+
+-- the indexes of those of these lines of which it is known why they decide nothing
+abbrev pub known_indexes : List IdleLine → List ℕ
+known_indexes idle = map (λ x. x.index) (filter (λ x. is_known x.reason) idle)
+
+-- so all of them can go at once
+abbrev pub AllIdleLinesCanGo : Type 0
+AllIdleLinesCanGo = (lines : List (Line Span)) (idle : List IdleLine) (s : List ℕ)
+    → AreIdle lines idle → IsPath s
+    → is_ignored (without (known_indexes idle) lines) s ≡ is_ignored lines s

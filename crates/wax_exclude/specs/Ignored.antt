@@ -1,8 +1,11 @@
 -- Lists of lines that ignore or re-include, as filters.
-use Rattle.std.specs.Prelude.{◌≡◌, ℕ, Bool, true, false, ◌&&◌, ◌||◌, if◌then◌else◌, ◌⊎◌, List, [], ◌∷◌}
+use Rattle.std.specs.Prelude.{◌≡◌, ℕ, Bool, true, false, ◌&&◌, ◌||◌, if◌then◌else◌, ◌⊎◌, List, [], ◌∷◌, refl}
+use Rattle.std.specs.Coded.{Coded, code_by, coded×, coded_bool, coded_ℕ}
 use Rattle.wax_facts.specs.Alternatives.{alternatives}
 use Rattle.wax_token.specs.Decided.{means_test}
+use Rattle.wax_token.specs.Reads.{Span}
 use Rattle.wax_token.specs.Syntax.{Tree}
+use Rattle.wax_token.specs.TreeCode.{tree_code}
 use Rattle.wax_walk.specs.Candidates.{Candidate}
 use Rattle.wax_walk.specs.Given.{Mark}
 use Rattle.wax_exclude.specs.Covers.{CoversSome, covers_test}
@@ -12,6 +15,11 @@ use Rattle.wax_exclude.specs.Marks.{covered_mark}
 pub record Line (A : Type 0) : Type 0 where
   pub ignores : Bool
   pub glob : Tree A
+
+-- how a line is stored
+abbrev pub line_code : Coded (Line Span)
+line_code = code_by (Bool × Tree Span) (coded× coded_bool (tree_code (coded× coded_ℕ coded_ℕ)))
+    (λ line. (line.ignores, line.glob)) (λ p. record { ignores = p.0; glob = p.1 }) (λ _. refl)
 
 -- the last line that matches the text decides; if there is none, the result is `was`
 abbrev pub ignored_after : {A : Type 0} → Bool → List (Line A) → List ℕ → Bool

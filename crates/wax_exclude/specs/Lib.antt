@@ -4,7 +4,6 @@ pub mod Compiled
 pub mod Covers
 pub mod Deciding
 pub mod Excluded
-pub mod Held
 pub mod Idle
 pub mod Ignored
 pub mod Kept
@@ -22,6 +21,7 @@ pub mod Pruned
 pub mod Due
 pub mod GlobRequests
 pub mod Feeds
+pub mod Tidy
 pub mod Told
 pub mod Unignored
 pub mod Walked

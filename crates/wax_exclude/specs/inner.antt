@@ -3,4 +3,6 @@ pub mod Idle
 pub mod Listed
 pub mod Numbers
 pub mod Shared
+pub mod Split
 pub mod Stacks
+pub mod Tidy

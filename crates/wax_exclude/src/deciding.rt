@@ -1,8 +1,83 @@
-//! The law of ignore lists: which line decides.
-ghost use Rattle.wax_exclude.specs.Deciding.{LastMatchDecides};
+//! Which line of an ignore list decides.
+ghost use Rattle.std.specs.Prelude.{◌≡◌, IfOk, List, chars};
+ghost use Rattle.wax_exclude.specs.Deciding.{DecidingLineDecides, IsDecidingLine, LastMatchDecides};
+ghost use Rattle.wax_exclude.specs.Deciding.{SaysLines};
+ghost use Rattle.wax_exclude.specs.Ignored.{Line};
+ghost use Rattle.wax_token.specs.Reads.{Span};
+
+use crate::idle::numbered_by_index;
+use crate::rules::IgnoreLine;
+use std::alloc::Global;
+use std::marker::Model;
+use wax_lazy::{Matcher, last_number};
+use wax_match::encode::CompiledProgram;
+use wax_query::diagnostics::NoMemory;
+use wax_query::matching::CandidatePath;
+
+/// Finds the line of an ignore list that decides a path: the last one that matches it. Keeps what it
+/// learns from each path for the next ones. Contracts see its program.
+#[derive(Drop)]
+pub struct DecidingLines {
+    /// Accepts a path with the indexes of the lines that match it.
+    numbered: Matcher<CompiledProgram>,
+}
+
+impl Model for DecidingLines {
+    ghost use Rattle.std.specs.Prelude.{List};
+    ghost use Rattle.std.specs.Coded.{coded_list};
+    ghost use Rattle.wax_program.specs.declared.instruction.Instruction.{Instruction};
+    ghost use Rattle.wax_program.specs.contracts.instruction.Instruction as instruction;
+    ghost use Rattle.wax_program.specs.Closed.{IsClosed};
+
+    ghost Value = { List Instruction };
+
+    ghost coded = { coded_list instruction.the_row.coded };
+
+    ghost view = { λ d. d.numbered };
+
+    ghost invariant = { λ d. IsClosed d.numbered };
+}
+
+impl DecidingLines {
+    /// Compiles the lines once more.
+    pub(crate) fn new(alloc: Global, lines: &[IgnoreLine]) -> Result<DecidingLines, NoMemory>
+        ensures { IfOk result (SaysLines lines.now) }
+    {
+        let program = numbered_by_index(alloc, lines)?;
+        let numbered = Matcher::new(alloc, program)?;
+        Ok(DecidingLines { numbered })
+    }
+
+    /// Returns the index of the last line that matches the path, from 0, or `None` if no line does.
+    ///
+    /// # Errors
+    ///
+    /// Returns `NoMemory` if allocation fails. Further paths can be asked for after that.
+    pub fn deciding_line(&mut self, path: &CandidatePath<'_>) -> Result<Option<usize>, NoMemory>
+        ensures line { IfOk result (λ found. (lines : List (Line Span)) → SaysLines lines self.old
+            → IsDecidingLine lines path.now found) }
+        ensures same { self.new ≡ self.old }
+    {
+        self.numbered.last_number(path.as_str())
+    }
+}
+
+/// Returns the index of the last line that matches a path, or `None` if no line does.
+pub(crate) fn deciding_line(
+    alloc: Global,
+    lines: &[IgnoreLine],
+    path: &str,
+) -> Result<Option<usize>, NoMemory>
+    ensures { IfOk result (IsDecidingLine lines.now (chars path.now)) }
+{
+    let program = numbered_by_index(alloc, lines)?;
+    let found = last_number(alloc, &program, path)?;
+    Ok(found)
+}
 
 /// States that an ignore list ignores a text exactly if its last line that matches the text has no
-/// `!`.
+/// `!`, whichever way that line is named.
 pub fn law_of_last_match()
-    ensures { LastMatchDecides }
+    ensures last { LastMatchDecides }
+    ensures index { DecidingLineDecides }
 {}

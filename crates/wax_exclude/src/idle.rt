@@ -1,22 +1,21 @@
 //! Lines of an ignore list that decide nothing.
-ghost use Rattle.std.specs.Prelude.{◌≡◌, ◌↔◌, ◌++◌, ◌<◌, ℕ, List, IfOk, IfSome, MatchOption, OnOk, length};
+ghost use Rattle.std.specs.Prelude.{◌≡◌, ◌↔◌, ◌<◌, ℕ, List, IfOk, IfSome, MatchOption, length};
 ghost use Rattle.std.specs.Bool.{MatchBool};
 ghost use Rattle.wax_compare.specs.Comparison.{IsAnswer, IsWanted};
 ghost use Rattle.wax_compare.specs.declared.wanted.Texts.TheVariants.{Paths};
-ghost use Rattle.wax_exclude.specs.Idle.{AreIdleAmong, DecidesSome, HasEffect, IdleLinesCanGo};
-ghost use Rattle.wax_exclude.specs.Idle.{IsReason, TakesNothing};
-ghost use Rattle.wax_exclude.specs.inner.Idle.{AreMatchedBy, HeldIgnores, HeldMeans, IsCovering};
-ghost use Rattle.wax_exclude.specs.inner.Idle.{SomeHeldMeans};
+ghost use Rattle.wax_exclude.specs.Idle.{AllIdleLinesCanGo, AreIdle, DecidesSome, HasEffect};
+ghost use Rattle.wax_exclude.specs.Idle.{IdleLinesCanGo, IdleLinesCanGoTogether, IsReason, LineIgnores};
+ghost use Rattle.wax_exclude.specs.Idle.{LineMeans, TakesNothing};
+ghost use Rattle.wax_exclude.specs.inner.Idle.{AreMatchedBy, IsCovering, SomeLineMeans};
 ghost use Rattle.wax_program.specs.Machine.{Accepts};
 
-use crate::numbers::add_alternatives;
 use crate::rules::IgnoreLine;
-use std::alloc::{AllocError, Global};
+use std::alloc::Global;
 use wax_compare::{Comparison, Texts, Wanted, find_text};
 use wax_lazy::Matcher;
-use wax_match::encode::{CompiledProgram, compile_numbered, compile_token};
+use wax_match::encode::{CompiledProgram, Numbered, compile_numbered, compile_token};
 use wax_query::diagnostics::{NoMemory, Refusal};
-use wax_token::token::{Alternation, BranchKind, ExpressionMetadata, Sides, Token, new_branch};
+use wax_token::token::{Alternation, BranchKind, ExpressionMetadata, Sides, new_branch};
 
 /// A line of an ignore list that decides nothing about plain paths: without it, the list ignores the
 /// same ones.
@@ -65,8 +64,7 @@ pub(crate) fn idle_lines(
     lines: &[IgnoreLine],
     most_states: usize,
 ) -> Result<Vec<IdleLine>, NoMemory>
-    ensures { let all = lines.now in IfOk result
-        (λ idle. AreIdleAmong (HeldIgnores all) (HeldMeans all) (length all) idle.items) }
+    ensures { IfOk result (λ idle. AreIdle lines.now idle.items) }
 {
     let numbered = Matcher::new(alloc, numbered_by_index(alloc, lines)?)?;
     let mut compared = Lines {
@@ -92,8 +90,8 @@ impl Lines<'_> {
         ensures lines { self.new.lines ≡ self.old.lines }
         ensures numbered { self.new.numbered ≡ self.old.numbered }
         ensures reason { let lines = self.old.lines.now in IfOk result (λ reason. MatchOption reason
-            (DecidesSome (HeldIgnores lines) (HeldMeans lines) index)
-            (IsReason (HeldIgnores lines) (HeldMeans lines) index)) }
+            (DecidesSome (LineIgnores lines) (LineMeans lines) index)
+            (IsReason (LineIgnores lines) (LineMeans lines) index)) }
     {
         let covering = self.covering(index)?;
         if let Covering::By(covers) = covering {
@@ -145,14 +143,14 @@ impl Lines<'_> {
     fn has_effect(&self, index: usize) -> Result<Option<bool>, NoMemory>
         requires { index < length self.now.lines.now }
         ensures { let lines = self.now.lines.now in IfOk result (λ known. IfSome known (λ answer.
-            MatchBool answer (HasEffect (HeldIgnores lines) (HeldMeans lines) index)
-            (TakesNothing (HeldIgnores lines) (HeldMeans lines) index))) }
+            MatchBool answer (HasEffect (LineIgnores lines) (LineMeans lines) index)
+            (TakesNothing (LineIgnores lines) (LineMeans lines) index))) }
     {
-        if self.lines[index].ignores {
+        if self.lines[index].ignores() {
             return Ok(Some(true));
         }
         for earlier in 0..index {
-            if !self.lines[earlier].ignores {
+            if !self.lines[earlier].ignores() {
                 continue;
             }
             match self.compare(index, &[earlier], Wanted::Both)? {
@@ -172,7 +170,7 @@ impl Lines<'_> {
         wanted: Wanted,
     ) -> Result<Comparison, NoMemory>
         ensures { let lines = self.now.lines.now in IfOk result (IsAnswer
-            (IsWanted wanted Paths (HeldMeans lines index) (SomeHeldMeans lines others.now))) }
+            (IsWanted wanted Paths (LineMeans lines index) (SomeLineMeans lines others.now))) }
     {
         let first = union_of(self.alloc, self.lines, &[index])?;
         let second = union_of(self.alloc, self.lines, others)?;
@@ -188,12 +186,15 @@ impl Lines<'_> {
 }
 
 /// Compiles lines to a program that says which of them match a text, by their indexes.
-fn numbered_by_index(alloc: Global, lines: &[IgnoreLine]) -> Result<CompiledProgram, NoMemory>
+pub fn numbered_by_index(alloc: Global, lines: &[IgnoreLine]) -> Result<CompiledProgram, NoMemory>
     ensures { IfOk result (λ p. AreMatchedBy lines.now p.0) }
 {
     let mut patterns = Vec::new(alloc);
     for (index, line) in lines.iter().enumerate() {
-        add_alternatives(&mut patterns, line.alternatives(), index, index)?;
+        patterns.push(Numbered {
+            number: index,
+            pattern: line.glob(),
+        })?;
     }
     compile_numbered(alloc, &patterns)
 }
@@ -206,12 +207,12 @@ fn union_of(
     indexes: &[usize],
 ) -> Result<Option<CompiledProgram>, NoMemory>
     ensures { IfOk result (λ known. IfSome known (λ p. (s : List ℕ)
-        → Accepts p.0 0 s ↔ SomeHeldMeans lines.now indexes.now s)) }
+        → Accepts p.0 0 s ↔ SomeLineMeans lines.now indexes.now s)) }
 {
     let mut tokens = Vec::new(alloc);
     for index in indexes {
         if let Some(line) = lines.get(*index) {
-            copy_to(alloc, line.alternatives(), &mut tokens)?;
+            tokens.push(line.glob().to_owned(alloc)?)?;
         }
     }
     let branch = BranchKind::Alternation(Alternation { tokens });
@@ -223,22 +224,10 @@ fn union_of(
     }
 }
 
-/// Adds copies of tokens.
-fn copy_to(
-    alloc: Global,
-    tokens: &[Token<'static, ExpressionMetadata>],
-    copies: &mut Vec<Token<'static, ExpressionMetadata>>,
-) -> Result<(), NoMemory>
-    ensures { OnOk result (copies.new.items ≡ copies.old.items ++ tokens.now) }
-{
-    for token in tokens {
-        let copy = token.to_owned(alloc)?;
-        copies.push(copy)?;
-    }
-    Ok(())
-}
-
-/// States that without a line that decides nothing, an ignore list ignores the same plain paths.
+/// States that without a line that decides nothing, an ignore list ignores the same plain paths; and
+/// so without some of these lines, or without all of them at once.
 pub fn law_of_idle_lines()
-    ensures { IdleLinesCanGo }
+    ensures one { IdleLinesCanGo }
+    ensures some { IdleLinesCanGoTogether }
+    ensures all { AllIdleLinesCanGo }
 {}

@@ -8,7 +8,6 @@ ghost use Rattle.wax_walk.specs.Collected.{Took};
 ghost use Rattle.wax_walk.specs.Entries.{given_outcome};
 ghost use Rattle.wax_walk.specs.Given.{Given, is_kept};
 ghost use Rattle.wax_walk.specs.Ruled.{ruled_view};
-ghost use Rattle.wax_exclude.specs.Held.{HasLines};
 ghost use Rattle.wax_exclude.specs.Kept.{KeepsUnignored, PlainRequest, unignored_request};
 ghost use Rattle.wax_exclude.specs.RuledWalks.{ComesRuled, RuledWalk, with_rule};
 ghost use Rattle.wax_exclude.specs.Told.{KeepsAnswered, LeavesAnswered};
@@ -44,12 +43,12 @@ pub fn collect_unignored<D: Directory>(
         × (map (given_outcome ⟦<TreeEntry as Entry>⟧.facts ⟦<TreeEntry as Entry>⟧.facts) r.0.items
         ≡ filter is_kept xs)) }
     ensures unignored { IfOk result (λ r. (d : D) (request : PlainRequest) (s : Shown)
-        (listed : List (List ℕ)) → HasLines rule request.lines
+        (listed : List (List ℕ)) → rule ≡ request.lines
         → Begins D.law d request.start request.range (⟦<WalkTree<D> as FileIterator>⟧.view walk)
         → D.law.shows d request.start s → D.law.tells d listed
         → KeepsUnignored (D.law.tells r.1) request s listed
         (map (given_outcome ⟦<TreeEntry as Entry>⟧.facts ⟦<TreeEntry as Entry>⟧.facts) r.0.items)) }
-    ensures answered { IfOk result (λ r. (d : D) (request : PlainRequest) → HasLines rule request.lines
+    ensures answered { IfOk result (λ r. (d : D) (request : PlainRequest) → rule ≡ request.lines
         → Begins D.law d request.start request.range (⟦<WalkTree<D> as FileIterator>⟧.view walk)
         → KeepsAnswered D.law d r.1 (unignored_request request)
         (map (given_outcome ⟦<TreeEntry as Entry>⟧.facts ⟦<TreeEntry as Entry>⟧.facts) r.0.items)) }

@@ -1,13 +1,15 @@
 //! What the lines of an ignore list decide, by one program over all of them.
 ghost use Rattle.std.specs.Prelude.{◌≡◌, ◌↔◌, ◌⊎◌, ◌<◌, ◌+◌, ◌^◌, ◌++◌, ◌∷◌, [], ℕ, List, IfOk};
-ghost use Rattle.std.specs.Prelude.{OnOk, Some, chars, if◌then◌else◌, nat_lt};
+ghost use Rattle.std.specs.Prelude.{IsTrue, OnOk, Some, chars, false, if◌then◌else◌, map, nat_lt};
 ghost use Rattle.std.specs.List.{list_any};
 ghost use Rattle.wax_exclude.specs.Covers.{some_everything};
-ghost use Rattle.wax_exclude.specs.declared.rules.IgnoreLine.{IgnoreLine};
-ghost use Rattle.wax_exclude.specs.inner.Listed.{listed_mark};
+ghost use Rattle.wax_exclude.specs.declared.split.SplitLine.{SplitLine};
+ghost use Rattle.wax_compare.specs.Selected.{CanSelect, IsSelected};
+ghost use Rattle.wax_exclude.specs.inner.Listed.{ignored_by, listed_mark};
 ghost use Rattle.wax_exclude.specs.inner.Numbers.{AlternativesPass, HasMatch, IsSettledFrom, KnowsLines};
 ghost use Rattle.wax_exclude.specs.inner.Numbers.{LinesPass, MatchesBy};
 ghost use Rattle.wax_exclude.specs.inner.Numbers.{covers_everything, is_odd, number_after, numbered_mark};
+ghost use Rattle.wax_exclude.specs.inner.Split.{split_of};
 ghost use Rattle.wax_lazy.specs.Numbers.{IsLastNumber};
 ghost use Rattle.wax_match.specs.Numbered.{MeansNumbered};
 ghost use Rattle.wax_prefilter.specs.Literals.{MayPass};
@@ -17,14 +19,17 @@ ghost use Rattle.wax_walk.specs.Candidates.{in_characters};
 ghost use Rattle.wax_walk.specs.Given.{alone, with_tree};
 ghost use Rattle.wax_walk.specs.Said.{mark_of};
 
-use crate::exclusions::{ends_wild, some_everything};
+use crate::exclusions::{ends_wild, is_everything};
 use crate::rules::IgnoreLine;
+use crate::split::{SplitLine, split_lines};
 use std::alloc::{AllocError, Global};
+use wax_compare::{Criterion, Selector};
+use wax_facts::Alternative;
 use wax_lazy::{Matcher, last_number};
 use wax_match::encode::{CompiledProgram, Numbered, compile_numbered};
 use wax_prefilter::Literals;
 use wax_query::diagnostics::NoMemory;
-use wax_token::token::{ExpressionMetadata, Token};
+use wax_token::token::ExpressionMetadata;
 use wax_walk::{Candidate, EntryResidue};
 
 /// How many bytes may be kept of earlier entries, for each line.
@@ -36,12 +41,12 @@ const MOST_BYTES: usize = 14_680_064;
 /// The alternatives of all lines as one program, which says the numbers of those that match a text:
 /// the greatest one decides. Lines that follow one another and all ignore have the same odd number,
 /// and those that all begin with `!` the same even one. An alternative that covers what it matches,
-/// in a line after which none begins with `!`, has a number above all of these.
+/// in a line after which none begins with `!`, has an odd number above all of these.
 #[derive(Drop)]
 pub struct NumberedLines {
     /// Accepts a text with the numbers of the alternatives that match it.
     matcher: Matcher<CompiledProgram>,
-    /// The number of alternatives that cover what they match.
+    /// The number of alternatives that cover what they match. It is odd.
     top: usize,
     /// True if such an alternative is only an unrooted `**`.
     covers_all: bool,
@@ -52,9 +57,17 @@ pub struct NumberedLines {
 impl NumberedLines {
     /// Compiles the alternatives of the lines.
     pub fn new(alloc: Global, lines: &[IgnoreLine]) -> Result<NumberedLines, NoMemory>
+        ensures { IfOk result (KnowsLines (map split_of lines.now)) }
+    {
+        let split = split_lines(alloc, lines)?;
+        Self::of_split(alloc, split.as_slice())
+    }
+
+    /// Compiles the alternatives of lines that are split.
+    fn of_split(alloc: Global, lines: &[SplitLine<'_>]) -> Result<NumberedLines, NoMemory>
         ensures { IfOk result (KnowsLines lines.now) }
     {
-        let top = lines.len() + 1;
+        let top = number_after(lines.len() + 1, true);
         let settled = settled_from(lines);
         let program = program_of(alloc, lines, settled, top)?;
         let most_bytes = MOST_BYTES.min(top.saturating_mul(BYTES_PER_LINE));
@@ -69,8 +82,8 @@ impl NumberedLines {
     /// Returns what the lines exclude of an entry, with the help of what is kept of earlier ones.
     pub fn residue(&mut self, candidate: Candidate<'_>) -> Result<Option<EntryResidue>, NoMemory>
         requires { IsClosed self.old.matcher }
-        ensures same { (lines : List IgnoreLine) → KnowsLines lines self.old → KnowsLines lines self.new }
-        ensures says { (lines : List IgnoreLine) → KnowsLines lines self.old
+        ensures same { (lines : List SplitLine) → KnowsLines lines self.old → KnowsLines lines self.new }
+        ensures says { (lines : List SplitLine) → KnowsLines lines self.old
             → IfOk result (λ r. mark_of r ≡ listed_mark lines (in_characters candidate.entry)) }
     {
         let last = self.matcher.last_number(candidate.path)?;
@@ -84,18 +97,32 @@ impl NumberedLines {
         candidate: Candidate<'_>,
     ) -> Result<Option<EntryResidue>, NoMemory>
         requires { IsClosed self.now.matcher }
-        ensures { (lines : List IgnoreLine) → KnowsLines lines self.now
+        ensures { (lines : List SplitLine) → KnowsLines lines self.now
             → IfOk result (λ r. mark_of r ≡ listed_mark lines (in_characters candidate.entry)) }
     {
         let last = self.last_once(alloc, candidate.path)?;
         Ok(self.residue_by(last, candidate.depth))
     }
 
+    /// Returns the program, which selects the paths that the lines ignore.
+    pub fn selector(&self) -> Selector<'_>
+        requires { IsClosed self.now.matcher }
+        ensures can_select { CanSelect result.criterion result.program.now.0 }
+        ensures selects { (lines : List SplitLine) → KnowsLines lines self.now → (s : List ℕ)
+            → IsSelected result.criterion (Accepts result.program.now.0 0) s
+            ↔ IsTrue (ignored_by false lines s) }
+    {
+        Selector {
+            program: self.matcher.holder(),
+            criterion: Criterion::OddLast,
+        }
+    }
+
     // Returns the greatest number that matches a path. Runs the program unless the path contains no
     // literal of an alternative.
     fn last_once(&self, alloc: Global, path: &str) -> Result<Option<usize>, AllocError>
         requires { IsClosed self.now.matcher }
-        ensures { (lines : List IgnoreLine) → KnowsLines lines self.now
+        ensures { (lines : List SplitLine) → KnowsLines lines self.now
             → IfOk result (IsLastNumber self.now.matcher (chars path.now)) }
     {
         if !self.literals.may_match(path) {
@@ -134,7 +161,7 @@ fn covered(depth: usize) -> EntryResidue
 // Compiles the alternatives of all lines, of which those from `settled` on are the last that ignore.
 fn program_of(
     alloc: Global,
-    lines: &[IgnoreLine],
+    lines: &[SplitLine<'_>],
     settled: usize,
     top: usize,
 ) -> Result<CompiledProgram, NoMemory>
@@ -148,16 +175,21 @@ fn program_of(
     for (index, line) in lines.iter().enumerate() {
         number = number_after(number, line.ignores);
         let covering = if index >= settled { top } else { number };
-        add_alternatives(&mut patterns, line.alternatives(), number, covering)?;
+        add_alternatives(
+            &mut patterns,
+            line.alternatives.as_slice(),
+            number,
+            covering,
+        )?;
     }
     compile_numbered(alloc, &patterns)
 }
 
 // Adds the alternatives of a line: those that end with `**` with the number `above`, and others with
 // the number `own`.
-pub fn add_alternatives<'a>(
+fn add_alternatives<'a>(
     patterns: &mut Vec<Numbered<'a, 'static>>,
-    alternatives: &'a [Token<'static, ExpressionMetadata>],
+    alternatives: &[Alternative<'a, 'static, ExpressionMetadata>],
     own: usize,
     above: usize,
 ) -> Result<(), AllocError>
@@ -165,6 +197,7 @@ pub fn add_alternatives<'a>(
         ↔ (MeansNumbered patterns.old.items k s ⊎ MatchesBy own above alternatives.now k s)) }
 {
     for pattern in alternatives {
+        let pattern = pattern.token();
         let number = if ends_wild(pattern) { above } else { own };
         patterns.push(Numbered { number, pattern })?;
     }
@@ -172,12 +205,12 @@ pub fn add_alternatives<'a>(
 }
 
 // Returns the literals of all alternatives.
-fn literals_of(alloc: Global, lines: &[IgnoreLine]) -> Result<Literals, NoMemory>
+fn literals_of(alloc: Global, lines: &[SplitLine<'_>]) -> Result<Literals, NoMemory>
     ensures { IfOk result (LinesPass lines.now) }
 {
     let mut literals = Literals::new(alloc);
     for line in lines {
-        add_literals(alloc, line.alternatives(), &mut literals)?;
+        add_literals(alloc, line.alternatives.as_slice(), &mut literals)?;
     }
     Ok(literals)
 }
@@ -185,20 +218,29 @@ fn literals_of(alloc: Global, lines: &[IgnoreLine]) -> Result<Literals, NoMemory
 // Adds the literals of the alternatives of a line.
 fn add_literals(
     alloc: Global,
-    alternatives: &[Token<'static, ExpressionMetadata>],
+    alternatives: &[Alternative<'_, 'static, ExpressionMetadata>],
     literals: &mut Literals,
 ) -> Result<(), NoMemory>
     ensures keeps { OnOk result ((s : List ℕ) → MayPass literals.old s → MayPass literals.new s) }
     ensures adds { OnOk result (AlternativesPass alternatives.now literals.new) }
 {
     for alternative in alternatives {
-        literals.add(alloc, alternative)?;
+        literals.add(alloc, alternative.token())?;
     }
     Ok(())
 }
 
+// Returns whether one of the alternatives is only an unrooted `**`.
+fn some_is_everything(alternatives: &[Alternative<'_, 'static, ExpressionMetadata>]) -> bool
+    ensures { result ≡ some_everything alternatives.now }
+{
+    alternatives
+        .iter()
+        .any(|alternative| is_everything(alternative.token()))
+}
+
 // Returns the index after the last line that begins with `!`.
-fn settled_from(lines: &[IgnoreLine]) -> usize
+fn settled_from(lines: &[SplitLine<'_>]) -> usize
     ensures { IsSettledFrom lines.now result }
 {
     let mut settled = lines.len();
@@ -212,19 +254,19 @@ fn settled_from(lines: &[IgnoreLine]) -> usize
 }
 
 // Returns whether one of the lines from `settled` on has an alternative that is only an unrooted `**`.
-fn covers_everything(lines: &[IgnoreLine], settled: usize) -> bool
+fn covers_everything(lines: &[SplitLine<'_>], settled: usize) -> bool
     requires { IsSettledFrom lines.now settled }
     ensures { result ≡ covers_everything lines.now }
 {
     some_covers(&lines[settled..])
 }
 
-fn some_covers(lines: &[IgnoreLine]) -> bool
+fn some_covers(lines: &[SplitLine<'_>]) -> bool
     ensures { result ≡ list_any (λ line. some_everything line.alternatives) lines.now }
 {
     lines
         .iter()
-        .any(|line| some_everything(line.alternatives()))
+        .any(|line| some_is_everything(line.alternatives.as_slice()))
 }
 
 // Returns the number of a line after one with this number.

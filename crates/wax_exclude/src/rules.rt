@@ -1,96 +1,101 @@
 //! Ignore lists as rules of walks.
-ghost use Rattle.std.specs.Prelude.{◌≡◌, ◌↔◌, ◌<◌, ◌≤◌, ℕ, IsTrue, List, IfOk, chars, true};
+ghost use Rattle.std.specs.Prelude.{◌≡◌, ◌↔◌, ◌<◌, ◌≤◌, ℕ, IsTrue, List, IfOk, MatchResult, chars, true};
 ghost use Rattle.wax_query.specs.Below.{IsBelow};
-ghost use Rattle.wax_query.specs.Outcome.{MatchBuild};
 ghost use Rattle.wax_token.specs.Cost.{program_length};
-ghost use Rattle.wax_token.specs.Reads.{Span};
 ghost use Rattle.wax_walk.specs.Given.{with_tree};
 ghost use Rattle.wax_exclude.specs.Candidates.{NoSlashAfterNames, folder_at};
-ghost use Rattle.wax_exclude.specs.Ignored.{IgnoresBelow, Line, ignore_mark, is_ignored};
-ghost use Rattle.wax_exclude.specs.Held.{HasLines, line_of};
+ghost use Rattle.wax_exclude.specs.Deciding.{IsDecidingLine, SaysLines, ignores_at};
 ghost use Rattle.wax_exclude.specs.Idle.{AreIdle};
+ghost use Rattle.wax_exclude.specs.Ignored.{IgnoresBelow, is_ignored};
+ghost use Rattle.wax_exclude.specs.Tidy.{TidiesUp};
 
+use crate::deciding::DecidingLines;
 use crate::folders::{folder_candidate, is_tree};
-use crate::idle;
 use crate::idle::IdleLine;
 use crate::numbers::NumberedLines;
+use crate::tidy::TidyLines;
+use crate::{deciding, idle, tidy};
 use std::alloc::Global;
 use std::marker::Model;
-use wax_facts::into_alternatives;
+use wax_compare::{Compared, Selector};
 use wax_match::encode;
 use wax_match::encode::CompileError;
-use wax_query::diagnostics::{NoMemory, Refusal};
+use wax_query::diagnostics::NoMemory;
 use wax_query::matching::CandidatePath;
 use wax_token::token::{ExpressionMetadata, Token};
 use wax_walk::{Candidate, EntryResidue, Exclude};
 
-/// The alternatives of a line's glob. Contracts see their trees.
-pub(crate) struct Alternatives {
-    tokens: Vec<Token<'static, ExpressionMetadata>>,
+/// A line of an ignore list: a glob, and whether it ignores what the glob matches or stops ignoring
+/// it. Contracts see the tree of the glob.
+pub struct IgnoreLine {
+    ignores: bool,
+    glob: Token<'static, ExpressionMetadata>,
 }
 
 // Written out, so that a crate that drops these needn't prove again how their tokens are dropped.
-impl Drop for Alternatives {
+impl Drop for IgnoreLine {
     fn drop(self) {
-        let Alternatives { tokens: _ } = self;
+        let IgnoreLine {
+            ignores: _,
+            glob: _,
+        } = self;
     }
 }
 
-impl Model for Alternatives {
-    ghost use Rattle.std.specs.Prelude.{List};
+impl Model for IgnoreLine {
     ghost use Rattle.wax_token.specs.Reads.{Span};
-    ghost use Rattle.wax_token.specs.Syntax.{Tree};
-    ghost use Rattle.wax_exclude.specs.Compiled.{row_code};
+    ghost use Rattle.wax_exclude.specs.Ignored.{Line, line_code};
 
-    ghost Value = { List (Tree Span) };
+    ghost Value = { Line Span };
 
-    ghost coded = { row_code };
+    ghost coded = { line_code };
 
-    ghost view = { λ a. a.tokens.items };
-}
-
-/// A line of an ignore list: a glob, and whether it ignores what the glob matches or stops ignoring
-/// it.
-#[derive(Drop)]
-pub struct IgnoreLine {
-    pub(crate) ignores: bool,
-    pub(crate) alternatives: Alternatives,
+    ghost view = { λ l. record { ignores = l.ignores; glob = l.glob } };
 }
 
 impl IgnoreLine {
-    /// Builds a line from its glob's token. It takes time and memory in proportion to the tokens.
+    /// Builds a line from its glob's token.
     ///
     /// # Errors
     ///
     /// Returns a `CompileError` (9) if the program of the glob would have more than 1,048,576
-    /// instructions, and `Refusal::Memory` (10) if allocation fails.
+    /// instructions.
     pub fn new(
-        alloc: Global,
         ignores: bool,
         glob: Token<'static, ExpressionMetadata>,
-    ) -> Result<IgnoreLine, Refusal<CompileError>>
-        ensures line { IfOk result (λ line.
-            line ≡ line_of record { ignores = ignores; glob = glob.entry }) }
-        ensures fits { MatchBuild result (λ _. program_length glob.entry ≤ 1048576)
+    ) -> Result<IgnoreLine, CompileError>
+        ensures line { IfOk result (λ line. line ≡ record { ignores = ignores; glob = glob.entry }) }
+        ensures fits { MatchResult result (λ _. program_length glob.entry ≤ 1048576)
             (λ _. 1048576 < program_length glob.entry) }
     {
         if !encode::fits(&glob) {
-            return Err(Refusal::Refused(CompileError));
+            return Err(CompileError);
         }
-        let alternatives = Alternatives {
-            tokens: into_alternatives(alloc, glob)?,
-        };
-        Ok(IgnoreLine {
-            ignores,
-            alternatives,
-        })
+        Ok(IgnoreLine { ignores, glob })
     }
 
-    /// Returns the alternatives of the glob.
-    pub(crate) fn alternatives(&self) -> &[Token<'static, ExpressionMetadata>]
-        ensures { result.now ≡ self.now.alternatives }
+    /// Returns whether the line ignores what its glob matches.
+    pub fn ignores(&self) -> bool
+        ensures { result ≡ self.now.ignores }
     {
-        self.alternatives.tokens.as_slice()
+        self.ignores
+    }
+
+    /// Returns the glob's token.
+    pub fn glob(&self) -> &Token<'static, ExpressionMetadata>
+        ensures { result.now ≡ self.now.glob }
+    {
+        &self.glob
+    }
+
+    /// Copies the line. It takes time and memory in proportion to the glob's tokens and their texts.
+    pub fn to_owned(&self, alloc: Global) -> Result<IgnoreLine, NoMemory>
+        ensures { IfOk result (λ copy. copy ≡ self.now) }
+    {
+        Ok(IgnoreLine {
+            ignores: self.ignores,
+            glob: self.glob.to_owned(alloc)?,
+        })
     }
 }
 
@@ -107,28 +112,28 @@ pub struct IgnoreRule {
 }
 
 impl Model for IgnoreRule {
-    ghost use Rattle.std.specs.Prelude.{List};
+    ghost use Rattle.std.specs.Prelude.{List, map};
     ghost use Rattle.std.specs.Coded.{coded_list};
-    ghost use Rattle.wax_exclude.specs.declared.rules.IgnoreLine.{IgnoreLine};
-    ghost use Rattle.wax_exclude.specs.contracts.rules.IgnoreLine as line;
+    ghost use Rattle.wax_token.specs.Reads.{Span};
+    ghost use Rattle.wax_exclude.specs.Ignored.{Line, line_code};
+
+    ghost Value = { List (Line Span) };
+
+    ghost coded = { coded_list line_code };
+
     ghost use Rattle.wax_exclude.specs.inner.Numbers.{KnowsLines};
-
-    ghost Value = { List IgnoreLine };
-
-    ghost coded = { coded_list line.the_row.coded };
+    ghost use Rattle.wax_exclude.specs.inner.Split.{split_of};
 
     ghost view = { λ r. r.lines.items };
 
-    ghost invariant = { λ r. KnowsLines r.lines.items r.numbered };
+    ghost invariant = { λ r. KnowsLines (map split_of r.lines.items) r.numbered };
 }
 
 impl IgnoreRule {
     /// Builds the rule from its lines. It takes time and memory in proportion to their tokens and
     /// their cost.
     pub fn new(alloc: Global, lines: Vec<IgnoreLine>) -> Result<IgnoreRule, NoMemory>
-        ensures lines { IfOk result (λ rule. rule ≡ lines.items) }
-        ensures says { IfOk result (λ rule. (ls : List (Line Span)) → HasLines rule ls
-            → ⟦<IgnoreRule as Exclude>⟧.rule rule ≡ ignore_mark ls) }
+        ensures { IfOk result (λ rule. rule ≡ lines.items) }
     {
         let numbered = NumberedLines::new(alloc, lines.as_slice())?;
         Ok(IgnoreRule { lines, numbered })
@@ -136,8 +141,7 @@ impl IgnoreRule {
 
     /// Returns whether the last line that matches the path ignores it; false if no line matches.
     pub fn is_ignored(&self, alloc: Global, path: &CandidatePath<'_>) -> Result<bool, NoMemory>
-        ensures { IfOk result (λ answer. (ls : List (Line Span)) → HasLines self.now ls
-            → answer ≡ is_ignored ls path.now) }
+        ensures { IfOk result (λ answer. answer ≡ is_ignored self.now path.now) }
     {
         let residue = self.numbered.residue_once(alloc, path_candidate(path))?;
         Ok(residue.is_some())
@@ -152,11 +156,10 @@ impl IgnoreRule {
     pub fn ignores_below(&self, alloc: Global, path: &CandidatePath<'_>) -> Result<bool, NoMemory>
         ensures says { IfOk result (λ answer. IsTrue answer
             ↔ (⟦<IgnoreRule as Exclude>⟧.rule self.now (folder_at path.now) ≡ with_tree)) }
-        ensures covers { IfOk result (λ answer. (ls : List (Line Span)) → HasLines self.now ls
-            → IsTrue answer ↔ IgnoresBelow ls (folder_at path.now)) }
-        ensures below { NoSlashAfterNames path.now → IfOk result (λ answer. (ls : List (Line Span))
-            → HasLines self.now ls → IsTrue answer → (s : List ℕ) → IsBelow path.now s
-            → is_ignored ls s ≡ true) }
+        ensures covers { IfOk result
+            (λ answer. IsTrue answer ↔ IgnoresBelow self.now (folder_at path.now)) }
+        ensures below { NoSlashAfterNames path.now → IfOk result (λ answer. IsTrue answer → (s : List ℕ)
+            → IsBelow path.now s → is_ignored self.now s ≡ true) }
     {
         let residue = self.numbered.residue_once(alloc, folder_candidate(path))?;
         Ok(is_tree(residue))
@@ -172,8 +175,7 @@ impl IgnoreRule {
         alloc: Global,
         path: &CandidatePath<'_>,
     ) -> Result<bool, NoMemory>
-        ensures decides { IfOk result (λ answer. (ls : List (Line Span)) → HasLines self.old ls
-            → answer ≡ is_ignored ls path.now) }
+        ensures decides { IfOk result (λ answer. answer ≡ is_ignored self.old path.now) }
         ensures same { self.new ≡ self.old }
     {
         let residue = self.numbered.residue(path_candidate(path))?;
@@ -183,17 +185,48 @@ impl IgnoreRule {
     /// Returns the lines that decide nothing about plain paths, in order, each with the reason. A line
     /// is compared with few others, mostly; each comparison reaches at most `most_states` states.
     pub fn idle_lines(&self, alloc: Global, most_states: usize) -> Result<Vec<IdleLine>, NoMemory>
-        ensures { IfOk result (λ idle. (ls : List (Line Span)) → HasLines self.now ls
-            → AreIdle ls idle.items) }
+        ensures { IfOk result (λ idle. AreIdle self.now idle.items) }
     {
         idle::idle_lines(alloc, self.lines.as_slice(), most_states)
+    }
+
+    /// Returns the lines without those of which it is known that they decide nothing about plain paths:
+    /// without them, the list ignores the same ones. It looks for such lines until there are none, since
+    /// without some lines, others may decide nothing, too. Each comparison reaches at most `most_states`
+    /// states. The lines are copied.
+    pub fn tidied(&self, alloc: Global, most_states: usize) -> Result<TidyLines, NoMemory>
+        ensures { IfOk result (λ tidy. TidiesUp self.now tidy.removed.items tidy.indexes.items
+            tidy.lines.items tidy.unknown.items) }
+    {
+        tidy::tidied(alloc, self.lines.as_slice(), most_states)
+    }
+
+    /// Returns the index of the last line that matches the path, from 0, or `None` if no line does. This
+    /// line decides whether the path is ignored. Each call compiles the lines once more. For many paths,
+    /// use `deciding_lines`.
+    pub fn deciding_line(
+        &self,
+        alloc: Global,
+        path: &CandidatePath<'_>,
+    ) -> Result<Option<usize>, NoMemory>
+        ensures line { IfOk result (IsDecidingLine self.now path.now) }
+        ensures decides { IfOk result (λ found. is_ignored self.now path.now ≡ ignores_at self.now found) }
+    {
+        deciding::deciding_line(alloc, self.lines.as_slice(), path.as_str())
+    }
+
+    /// Compiles the lines once more, to find the deciding lines of many paths.
+    pub fn deciding_lines(&self, alloc: Global) -> Result<DecidingLines, NoMemory>
+        ensures { IfOk result (SaysLines self.now) }
+    {
+        DecidingLines::new(alloc, self.lines.as_slice())
     }
 }
 
 impl Exclude for IgnoreRule {
-    ghost use Rattle.wax_exclude.specs.inner.Listed.{listed_mark};
+    ghost use Rattle.wax_exclude.specs.Ignored.{ignore_mark};
 
-    ghost rule = { λ rule c. listed_mark rule c };
+    ghost rule = { λ rule c. ignore_mark rule c };
 
     fn residue(
         &mut self,
@@ -201,6 +234,17 @@ impl Exclude for IgnoreRule {
         candidate: Candidate<'_>,
     ) -> Result<Option<EntryResidue>, NoMemory> {
         self.numbered.residue(candidate)
+    }
+}
+
+impl Compared for IgnoreRule {
+    ghost use Rattle.std.specs.Prelude.{IsTrue};
+    ghost use Rattle.wax_exclude.specs.Ignored.{is_ignored};
+
+    ghost selects = { λ rule s. IsTrue (is_ignored rule s) };
+
+    fn selector(&self) -> Selector<'_> {
+        self.numbered.selector()
     }
 }
 

@@ -1,6 +1,7 @@
 -- Numbers of lines: the greatest number of an alternative that matches decides what a list does.
-use Rattle.std.specs.Prelude.{◌≡◌, ◌↔◌, ◌⊎◌, ℕ, suc, ◌%◌, ◌==◌, ◌≤◌, nat_le, Bool, true, false, ◌&&◌, ◌||◌}
+use Rattle.std.specs.Prelude.{◌≡◌, ◌↔◌, ◌⊎◌, ℕ, suc, ◌%◌, ◌==◌, ◌<◌, ◌≤◌, Bool, true, false, ◌&&◌, ◌||◌}
 use Rattle.std.specs.Prelude.{All, if◌then◌else◌, List, [], ◌∷◌, ◌++◌, Option, Some, None, drop, length}
+use Rattle.std.specs.Prelude.{nat_le}
 use Rattle.wax_prefilter.specs.Literals.{LiteralsView, MayPass}
 use Rattle.wax_program.specs.Closed.{IsClosed}
 use Rattle.wax_program.specs.Machine.{Accepts, mark}
@@ -11,7 +12,7 @@ use Rattle.wax_token.specs.Words.{members}
 use Rattle.wax_walk.specs.Given.{Mark, kept, alone, with_tree}
 use Rattle.wax_exclude.specs.Covers.{ends_wild, some_everything}
 use Rattle.wax_exclude.specs.declared.numbers.NumberedLines.{NumberedLines}
-use Rattle.wax_exclude.specs.declared.rules.IgnoreLine.{IgnoreLine}
+use Rattle.wax_exclude.specs.declared.split.SplitLine.{SplitLine}
 use Rattle.wax_exclude.specs.inner.Listed.{none_reincludes}
 
 -- ---- numbers
@@ -34,24 +35,24 @@ MatchesBy own above (t ∷ ts) k s =
     ⊎ MatchesBy own above ts k s
 
 -- the number of what a line's alternatives cover: `top` if no line after it re-includes
-abbrev pub covering_number : ℕ → ℕ → List IgnoreLine → ℕ
+abbrev pub covering_number : ℕ → ℕ → List SplitLine → ℕ
 covering_number top own lines = if none_reincludes lines then top else own
 
 -- an alternative with the number k matches the text, if the line before these has the number n
-abbrev pub HasMatch : ℕ → ℕ → List IgnoreLine → ℕ → List ℕ → Type 0
+abbrev pub HasMatch : ℕ → ℕ → List SplitLine → ℕ → List ℕ → Type 0
 HasMatch top n [] k s = ⊥
 HasMatch top n (line ∷ lines) k s =
     MatchesBy (number_after n line.ignores) (covering_number top (number_after n line.ignores) (line ∷ lines))
     line.alternatives k s ⊎ HasMatch top (number_after n line.ignores) lines k s
 
 -- a line that ignores, and after which none re-includes, has an alternative that is only an unrooted `**`
-abbrev pub covers_everything : List IgnoreLine → Bool
+abbrev pub covers_everything : List SplitLine → Bool
 covers_everything [] = false
 covers_everything (line ∷ lines) =
     (none_reincludes (line ∷ lines) && some_everything line.alternatives) || covers_everything lines
 
 -- none of the lines from this index on re-includes, and the line before it does
-pub record IsSettledFrom (lines : List IgnoreLine) (settled : ℕ) : Type 0 where
+pub record IsSettledFrom (lines : List SplitLine) (settled : ℕ) : Type 0 where
   pub within : settled ≤ length lines
   pub marks : (i : ℕ) → none_reincludes (drop i lines) ≡ nat_le settled i
 
@@ -63,12 +64,14 @@ AlternativesPass alternatives literals =
     All (λ t. (s : List ℕ) → Means t false false s → MayPass literals s) alternatives
 
 -- each text that a line matches passes
-abbrev pub LinesPass : List IgnoreLine → LiteralsView → Type 0
+abbrev pub LinesPass : List SplitLine → LiteralsView → Type 0
 LinesPass lines literals = All (λ line. AlternativesPass line.alternatives literals) lines
 
--- the program accepts each text with the numbers of the alternatives that match it; `top` is above all others
-pub record KnowsLines (lines : List IgnoreLine) (numbered : NumberedLines) : Type 0 where
-  pub top : numbered.top ≡ suc (length lines)
+-- the program accepts each text with the numbers of the alternatives that match it; `top` is odd and above
+-- all others
+pub record KnowsLines (lines : List SplitLine) (numbered : NumberedLines) : Type 0 where
+  pub above : length lines < numbered.top
+  pub odd : is_odd numbered.top ≡ true
   pub all : numbered.covers_all ≡ covers_everything lines
   pub closed : IsClosed numbered.matcher
   pub literals : LinesPass lines numbered.literals

@@ -1,11 +1,11 @@
 use Rattle.std.proofs.Common.{◌≡◌}
-use Rattle.wax_exclude.specs.Idle.{AreIdleAmong}
-use Rattle.wax_exclude.specs.inner.Idle.{AreMatchedBy, HeldIgnores, HeldMeans}
+use Rattle.wax_exclude.specs.Idle.{AreIdleAmong, LineIgnores, LineMeans}
+use Rattle.wax_exclude.specs.inner.Idle.{AreMatchedBy}
 use Rattle.wax_exclude.proofs.idle.idle_lines.Given as goal
 
 abbrev pub invariant-loop-index : goal.invariant-loop-index
 invariant-loop-index l = record {
   lines : l.compared.lines.now ≡ l.lines;
   numbered : AreMatchedBy l.lines l.compared.numbered;
-  idle : AreIdleAmong (HeldIgnores l.lines) (HeldMeans l.lines) l.index l.idle.items;
+  idle : AreIdleAmong (LineIgnores l.lines) (LineMeans l.lines) l.index l.idle.items;
 }

@@ -1,8 +1,6 @@
-use Rattle.std.proofs.Common.{◌≡◌, ◌∙◌, ◌↔◌, ◌⊎◌, ℕ, List, Some, ap, slice_get, subst, sym}
+use Rattle.std.proofs.Common.{◌≡◌, ◌∙◌, ◌+◌, Some, ap, refl, slice_get, subst, sym}
 use Rattle.std.proofs.lemmas.Option.{slice_get-get_or}
-use Rattle.wax_exclude.proofs.IdleLines.{all_numbered, both_ok, line_numbered}
-use Rattle.wax_exclude.specs.inner.Numbers.{MatchesBy}
-use Rattle.wax_match.specs.Numbered.{MeansNumbered}
+use Rattle.wax_exclude.proofs.IdleLines.{AreOfFirst, all_numbered, both_ok, line_numbered}
 use Rattle.wax_exclude.proofs.idle.numbered_by_index.Goals as goal
 
 pub loop-index-preserved : goal.loop-index-preserved
@@ -12,11 +10,8 @@ loop-index-preserved c =
     let line = c.index-lines-index.result in
     let at : slice_get lines i ≡ Some line = slice_get-get_or lines i line c.loop-index-test.true
     ∙ ap Some (sym c.index-lines-index.is) in
-    line_numbered lines c.loop-index.patterns.items c.add_alternatives.new.patterns.items i line at
-    (subst (λ ts. (k : ℕ) (s : List ℕ) → MeansNumbered c.add_alternatives.new.patterns.items k s
-    ↔ (MeansNumbered c.loop-index.patterns.items k s ⊎ MatchesBy i i ts k s)) c.alternatives.ensures
-    c.in_ok-add_alternatives.ensures)
-    c.loop-index.invariant
+    subst (λ ps. AreOfFirst lines ps (i + 1)) (sym c.in_ok-push.ensures.items)
+    (line_numbered lines c.loop-index.patterns.items i line _ at refl c.glob.ensures c.loop-index.invariant)
 
 pub returns : goal.returns
 returns c =

@@ -4,7 +4,7 @@ use Rattle.std.proofs.lemmas.Bool.{false≢true, lt-ltb}
 use Rattle.std.proofs.lemmas.List.{take_all, take_more}
 use Rattle.std.proofs.lemmas.Option.{slice_get-get_or}
 use Rattle.wax_exclude.proofs.IdleLines.{AreTokensOf, tokens_more, tokens_same}
-use Rattle.wax_exclude.proofs.idle.union_of.Goals.{in-Some+in_ok-copy_to, in_default}
+use Rattle.wax_exclude.proofs.idle.union_of.Goals.{in-Some+in_ok-to_owned+in_ok-push, in_default}
 use Rattle.wax_exclude.proofs.idle.union_of.Goals as goal
 
 pub loop-index-preserved : goal.loop-index-preserved
@@ -16,15 +16,16 @@ loop-index-preserved c =
     let grown : take i indexes ++ at ∷ [] ≡ take (i + 1) indexes =
     sym (take_more indexes i 0 c.loop-index-test.true) in
     subst (AreTokensOf lines c.match-get.tokens.items) grown (elim c.match-get.branch [
-      | in-Some+in_ok-copy_to w ↦ (
+      | in-Some+in_ok-to_owned+in_ok-push w ↦ (
           let line = w.in-Some.line.now in
           let (_, same, _, low, _) = w.in-Some.ensures.lookup in
           let is : slice_get lines at ≡ Some line =
           slice_get-get_or lines at line low.0 ∙ ap Some (sym same) in
-          let more : w.copy_to.new.copies.items ≡ c.loop-index.tokens.items ++ line.alternatives =
-          rw w.alternatives.ensures at w.in_ok-copy_to.ensures in
+          let more : w.push.new.self.items ≡ c.loop-index.tokens.items ++ line.glob ∷ [] =
+          w.in_ok-push.ensures.items ∙ ap (λ t. c.loop-index.tokens.items ++ t ∷ [])
+          (w.in_ok-to_owned.ensures ∙ w.glob.ensures) in
           subst (λ v. AreTokensOf lines v.items (take i indexes ++ at ∷ [])) (sym w.tokens-is)
-          (tokens_more lines c.loop-index.tokens.items w.copy_to.new.copies.items
+          (tokens_more lines c.loop-index.tokens.items w.push.new.self.items
           (take i indexes) at line is more c.loop-index.invariant)
           )
       | in_default w ↦ subst (λ v. AreTokensOf lines v.items (take i indexes ++ at ∷ [])) (sym w.tokens-is)

@@ -5,16 +5,15 @@ use Rattle.wax_walk.proofs.Collecting.{map_ok}
 use Rattle.wax_walk.specs.Candidates.{Candidate, of_candidate}
 use Rattle.wax_walk.specs.Given.{Mark}
 use Rattle.wax_exclude.proofs.Keeping.{keeps_unignored, unignored_gave}
-use Rattle.wax_exclude.proofs.ListingLines.{says_lines}
 use Rattle.wax_exclude.proofs.Shown.{well_named}
 use Rattle.wax_exclude.proofs.Telling.{answered_before}
 use Rattle.wax_exclude.proofs.TreeRequests.{plain_comes, plain_goes}
 use Rattle.wax_exclude.proofs.Wanting.{comes_by_rule, comes_excluding, took_seen}
+use Rattle.wax_exclude.specs.Ignored.{ignore_mark}
 use Rattle.wax_exclude.specs.Kept.{KeepsUnignored, unignored_request}
 use Rattle.wax_exclude.specs.RuledWalks.{with_rule}
 use Rattle.wax_exclude.specs.TreeRequests.{tree_request}
 use Rattle.wax_exclude.specs.Wanted.{not_ignored}
-use Rattle.wax_exclude.specs.inner.Listed.{listed_mark}
 use Rattle.wax_exclude.proofs.kept.collect_unignored.Goals as goal
 
 pub returns-clause-took : goal.returns-clause-took
@@ -48,11 +47,10 @@ returns-clause-answered g c =
     let law = g.D.Directory.law in
     let seen = c.excluding.ensures.view in
     map_ok (λ r h d request held begins.
-    let says = says_lines c.args.rule request.lines held in
     answered_before law d _ r.1 _ (seen.directory ∙ begins.directory)
     (h d (unignored_request request)
-    (comes_excluding law (not_ignored request.lines) (λ i. listed_mark c.args.rule i) _ _
-    (λ i. ap (λ rule. rule i) says) seen d (tree_request request.range request.start)
+    (comes_excluding law (not_ignored request.lines) (λ i. ignore_mark c.args.rule i) _ _
+    (λ i. ap (λ lines. ignore_mark lines i) held) seen d (tree_request request.range request.start)
     (plain_comes law d request.range request.start _ begins))
     (plain_goes request.range request.start (not_ignored request.lines ∷ []))))
     c.collect.result c.collect.ensures.answered
@@ -61,7 +59,7 @@ pub returns-clause-leaves : goal.returns-clause-leaves
 returns-clause-leaves g c =
     let law = g.D.Directory.law in
     let seen = c.excluding.ensures.view in
-    let rule : Candidate → Mark = λ i. listed_mark c.args.rule i in
+    let rule : Candidate → Mark = λ i. ignore_mark c.args.rule i in
     map_ok (λ r h d ruled comes.
     answered_before law _ _ r.1 _ seen.directory
     (h d (with_rule ruled (of_candidate rule)) (comes_by_rule law d ruled rule _ _ seen comes)))

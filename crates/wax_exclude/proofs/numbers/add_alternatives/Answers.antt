@@ -1,4 +1,4 @@
-use Rattle.std.proofs.Common.{◌≡◌, ◌∙◌, ◌⊎◌, ap, cond, refl, sym}
+use Rattle.std.proofs.Common.{◌≡◌, ◌∙◌, ◌⊎◌, ap, cond, subst, sym}
 use Rattle.wax_match.specs.Numbered.{MeansNumbered}
 use Rattle.wax_token.specs.Words.{members}
 use Rattle.wax_exclude.proofs.NumberedLines.{alternative_added}
@@ -13,13 +13,16 @@ loop-pattern-preserved c =
     let t = c.pattern-item.result in
     let own = c.args.own in
     let above = c.args.above in
-    let number : c.if-ends_wild.number ≡ cond (ends_wild (members t)) above own = elim c.if-ends_wild.branch [
+    let same = c.token-pattern.ensures in
+    let number : c.if-ends_wild.number ≡ cond (ends_wild (members t)) above own =
+    subst (λ u. c.if-ends_wild.number ≡ cond (ends_wild (members u)) above own) same
+    (elim c.if-ends_wild.branch [
       | then-ends_wild w ↦ w.number-is
           ∙ sym (ap (λ b. cond b above own) (sym c.ends_wild.ensures ∙ w.if-ends_wild.true))
       | else-ends_wild w ↦ w.number-is
           ∙ sym (ap (λ b. cond b above own) (sym c.ends_wild.ensures ∙ w.if-ends_wild.false))
-    ] in
+    ]) in
     alternative_added (λ k s. MeansNumbered c.args.patterns.now.items k s ⊎ MatchesBy own above ts k s) own
     above c.loop-pattern.pattern-index ts t
     c.loop-pattern.patterns.items c.push.new.self.items _ c.loop-pattern-test.true c.pattern-item.is
-    c.in_ok-push.ensures.items number refl c.loop-pattern.invariant
+    c.in_ok-push.ensures.items number same c.loop-pattern.invariant

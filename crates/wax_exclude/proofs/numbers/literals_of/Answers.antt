@@ -8,7 +8,7 @@ pub loop-line-preserved : goal.loop-line-preserved
 loop-line-preserved c =
     let new = c.add_literals.new.literals in
     let adds =
-    subst (λ ts. AlternativesPass ts new) c.alternatives.ensures c.in_ok-add_literals.ensures.adds in
+    subst (λ ts. AlternativesPass ts new) c.as_slice.ensures c.in_ok-add_literals.ensures.adds in
     line_passes c.args.lines.now c.loop-line.line-index c.line-item.result c.loop-line.literals new
     c.loop-line-test.true c.line-item.is
     c.in_ok-add_literals.ensures.keeps adds c.loop-line.invariant

@@ -3,7 +3,8 @@ use Rattle.std.specs.Prelude.{unwrap_or}
 use Rattle.wax_compare.specs.Comparison.{IsWanted}
 use Rattle.wax_compare.specs.declared.wanted.Texts.TheVariants.{Paths}
 use Rattle.wax_compare.specs.declared.wanted.Wanted.TheVariants.{FirstOnly}
-use Rattle.wax_exclude.specs.inner.Idle.{HeldMeans, SomeHeldMeans}
+use Rattle.wax_exclude.specs.Idle.{LineMeans}
+use Rattle.wax_exclude.specs.inner.Idle.{SomeLineMeans}
 use Rattle.wax_exclude.proofs.IdleLines.{covered, last_of_some, one_later}
 use Rattle.wax_exclude.proofs.idle.Lines.covering.Goals as goal
 
@@ -30,8 +31,8 @@ returns-then-last-index-clause-covering c =
     let held = c.loop-round.invariant in
     let lines = c.args.self.now.lines.now in
     let index = c.args.index in
-    let wanted : IsWanted FirstOnly Paths (HeldMeans lines index)
-    (SomeHeldMeans lines c.loop-round.covers.items) (chars c.deref-in-loop-round.result.now) =
+    let wanted : IsWanted FirstOnly Paths (LineMeans lines index)
+    (SomeLineMeans lines c.loop-round.covers.items) (chars c.deref-in-loop-round.result.now) =
     rw c.deref-in-loop-round.ensures
     (rw (held.lines, c.deref.ensures.value, c.in-Text.is) at c.in_ok-compare.ensures).0 in
     let last : Option ℕ = c.in_ok-last_number.field-0 in
@@ -39,4 +40,4 @@ returns-then-last-index-clause-covering c =
     last_of_some lines c.args.self.now.numbered index (chars c.deref-in-loop-round.result.now)
     last c.requires.numbered
     (rw held.numbered at c.in_ok-last_number.ensures.last)
-    (λ k e. subst (λ o. unwrap_or o index ≤ index) e or) (wanted.scalars, wanted.among) wanted.first
+    (λ k e. subst (λ o. unwrap_or o index ≤ index) e or) (wanted.scalars, wanted.among) wanted.decided.0

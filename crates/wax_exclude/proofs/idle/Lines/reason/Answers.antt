@@ -1,8 +1,8 @@
 use Rattle.std.proofs.Common.{subst}
 use Rattle.std.specs.Bool.{MatchBool}
 use Rattle.std.specs.Prelude.{IfSome}
-use Rattle.wax_exclude.specs.Idle.{HasEffect, TakesNothing}
-use Rattle.wax_exclude.specs.inner.Idle.{HeldIgnores, HeldMeans, IsCovering}
+use Rattle.wax_exclude.specs.Idle.{HasEffect, LineIgnores, LineMeans, TakesNothing}
+use Rattle.wax_exclude.specs.inner.Idle.{IsCovering}
 use Rattle.wax_exclude.proofs.idle.Lines.reason.Goals as goal
 
 pub returns-in-Missing : goal.returns-in-Missing
@@ -10,17 +10,17 @@ returns-in-Missing c =
     let index = c.args.index in
     let lines = c.covering.new.self.lines.now in
     let known = c.in_ok-covering.ensures in
-    let effect : HasEffect (HeldIgnores lines) (HeldMeans lines) index =
-    subst (λ b. MatchBool b (HasEffect (HeldIgnores lines) (HeldMeans lines) index)
-    (TakesNothing (HeldIgnores lines) (HeldMeans lines) index)) c.if-not-has_effect.false
-    (subst (λ o. IfSome o (λ b. MatchBool b (HasEffect (HeldIgnores lines) (HeldMeans lines) index)
-    (TakesNothing (HeldIgnores lines) (HeldMeans lines) index)))
+    let effect : HasEffect (LineIgnores lines) (LineMeans lines) index =
+    subst (λ b. MatchBool b (HasEffect (LineIgnores lines) (LineMeans lines) index)
+    (TakesNothing (LineIgnores lines) (LineMeans lines) index)) c.if-not-has_effect.false
+    (subst (λ o. IfSome o (λ b. MatchBool b (HasEffect (LineIgnores lines) (LineMeans lines) index)
+    (TakesNothing (LineIgnores lines) (LineMeans lines) index)))
     c.in-Some.is c.in_ok-has_effect.ensures) in
     record {
       lines = known.lines;
       numbered = known.numbered;
       reason = (
         subst (IsCovering c.args.self.now.lines.now index) c.in-Missing.is known.covering,
-        subst (λ l. HasEffect (HeldIgnores l.now) (HeldMeans l.now) index) known.lines effect,
+        subst (λ l. HasEffect (LineIgnores l.now) (LineMeans l.now) index) known.lines effect,
       );
     }

@@ -1,17 +1,22 @@
-use Rattle.std.proofs.Common.{◌∙◌, ap, subst}
+use Rattle.std.proofs.Common.{◌∙◌, ap, map, subst}
 use Rattle.wax_walk.specs.Candidates.{in_characters}
+use Rattle.wax_exclude.proofs.ListingLines.{split_mark}
 use Rattle.wax_exclude.proofs.Remembered.{excluded_if_ignored}
 use Rattle.wax_exclude.specs.Ignored.{is_ignored}
 use Rattle.wax_exclude.specs.inner.Numbers.{KnowsLines}
+use Rattle.wax_exclude.specs.inner.Split.{split_of}
 use Rattle.wax_exclude.proofs.rules.IgnoreRule.is_ignored.Goals as goal
 
 pub residue_once-requires : goal.residue_once-requires
 residue_once-requires c = c.self.invariant.closed
 
 pub returns : goal.returns
-returns c = λ lines has.
-    let knows = subst (λ ls. KnowsLines ls c.self.inside.numbered) c.self.view_is c.self.invariant in
+returns c =
+    let lines = c.args.self.now in
+    let candidate = in_characters c.path_candidate.result in
+    let knows = subst (λ ls. KnowsLines (map split_of ls) c.self.inside.numbered) c.self.view_is
+    c.self.invariant in
     c.is_some.ensures
-    ∙ excluded_if_ignored c.args.self.now lines (in_characters c.path_candidate.result)
-    c.in_ok-residue.residue has (c.in_ok-residue.ensures c.args.self.now knows)
+    ∙ excluded_if_ignored lines candidate c.in_ok-residue.residue
+    (c.in_ok-residue.ensures (map split_of lines) knows ∙ split_mark lines candidate)
     ∙ ap (λ s. is_ignored lines s) c.path_candidate.ensures
