@@ -1,15 +1,11 @@
 -- What comes of a walk less what a pattern means or what lines ignore.
-use Rattle.std.proofs.Common.{◌≡◌, ◌∙◌, List, ap, false, subst, sym}
+use Rattle.std.proofs.Common.{◌≡◌, ◌∙◌, List, ap, false, refl, subst, sym}
 use Rattle.wax_directory.specs.Law.{Law}
-use Rattle.wax_exclude.proofs.ListingLines.{says_lines}
 use Rattle.wax_exclude.proofs.Wanting.{comes_excluding}
-use Rattle.wax_exclude.specs.Held.{HasLines}
-use Rattle.wax_exclude.specs.Ignored.{Line}
+use Rattle.wax_exclude.specs.Ignored.{Line, ignore_mark}
 use Rattle.wax_exclude.specs.Marks.{not_mark}
 use Rattle.wax_exclude.specs.GlobRequests.{ComesExcluding}
 use Rattle.wax_exclude.specs.Wanted.{not_ignored, not_meant}
-use Rattle.wax_exclude.specs.declared.rules.IgnoreLine.{IgnoreLine}
-use Rattle.wax_exclude.specs.inner.Listed.{listed_mark}
 use Rattle.wax_token.specs.Reads.{Span}
 use Rattle.wax_token.specs.Syntax.{Tree}
 use Rattle.wax_walk.specs.Candidates.{Candidate}
@@ -36,9 +32,8 @@ module _ {D C : Type 0} (law : Law D C) (inner outer : WalkView D) where
       comes_excluding law (not_meant t) rule inner outer
       (λ c. ap (λ r. r c) (left.2 ∙ ap not_mark (sym same))) seen
 
-  pub comes_ignoring : (held : List IgnoreLine)
-      → IsSeenAs (ruled_view inner (λ c. listed_mark held c) false) outer
-      → (lines : List (Line Span)) → HasLines held lines → ComesExcluding law (not_ignored lines) inner outer
-  comes_ignoring held seen lines has =
-      comes_excluding law (not_ignored lines) (λ c. listed_mark held c) inner outer
-      (λ c. ap (λ rule. rule c) (says_lines held lines has)) seen
+  pub comes_ignoring : (lines : List (Line Span))
+      → IsSeenAs (ruled_view inner (ignore_mark lines) false) outer
+      → ComesExcluding law (not_ignored lines) inner outer
+  comes_ignoring lines seen =
+      comes_excluding law (not_ignored lines) (ignore_mark lines) inner outer (λ c. refl) seen

@@ -1,8 +1,7 @@
 -- Ignore lists.
-use Rattle.std.specs.Prelude.{◌≡◌, ℕ, false, ◌++◌, List, ◌∷◌, chars, map, ⊤}
+use Rattle.std.specs.Prelude.{◌≡◌, ℕ, false, ◌++◌, List, ◌∷◌, chars, ⊤}
 use Rattle.std.specs.List.{AllZip}
 use Rattle.wax_exclude.specs.Lines.{Written}
-use Rattle.wax_exclude.specs.declared.rules.IgnoreLine.{IgnoreLine}
 use Rattle.wax_lines.specs.Lines.{WritesMeant}
 use Rattle.wax_token.specs.Reads.{Span}
 use Rattle.wax_walk.specs.Ruled.{ruled_view}
@@ -14,8 +13,8 @@ use Rattle.wax_set.specs.declared.error.build_error.BuildError.TheVariants as bu
 use Rattle.wax.specs.declared.ignoring.IgnoreError.{IgnoreError}
 use Rattle.wax.specs.declared.ignoring.IgnoreError.TheVariants.{BadLine, Memory}
 use Rattle.wax.specs.declared.ignoring.IgnoreList.{IgnoreList}
-pub use Rattle.wax_exclude.specs.Deciding.{IsLastMatch, LastMatchDecides}
-pub use Rattle.wax_exclude.specs.Held.{HasLines, line_of}
+pub use Rattle.wax_exclude.specs.Deciding.{DecidingLineDecides, IsDecidingLine, IsLastMatch, LastMatchDecides}
+pub use Rattle.wax_exclude.specs.Deciding.{SaysLines, ignores_at, ignores_if}
 pub use Rattle.wax_exclude.specs.Ignored.{IgnoresBelow, Line, ignore_mark, is_ignored}
 pub use Rattle.wax_exclude.specs.Kept.{KeepsUnignored, PlainRequest, unignored_request}
 pub use Rattle.wax_exclude.specs.Lines.{written_lines, written_of}
@@ -31,28 +30,17 @@ abbrev pub IsUnread : Written → BuildError → Type 0
 IsUnread written =
     NoExclusion (Spells (chars written.expression)) (Refuses (chars written.expression))
 
--- the list holds exactly these lines
-abbrev pub HoldsLines : IgnoreList → List (Line Span) → Type 0
-HoldsLines list lines = HasLines list.rule lines
-
 -- these lines don't ignore the text
 abbrev pub IsUnignored : List (Line Span) → List ℕ → Type 0
 IsUnignored lines s = is_ignored lines s ≡ false
 
 -- the text and a line feed if the list doesn't ignore it, else nothing
 abbrev pub WritesUnignored : IgnoreList → List ℕ → List ℕ → Type 0
-WritesUnignored list s out =
-    (lines : List (Line Span)) → HoldsLines list lines → WritesMeant (IsUnignored lines) s out
+WritesUnignored list s out = WritesMeant (IsUnignored list) s out
 
--- what is held are the lines that are written so, in order
-abbrev pub AreReadAs : List Written → List IgnoreLine → Type 0
-AreReadAs written held =
-    (lines : List (Line Span)) × AllZip IsReadAs written lines × (held ≡ map line_of lines)
-
--- the list of this text: it holds exactly the lines that aren't skipped, in order
+-- the list of this text: its lines are exactly those that aren't skipped, in order
 abbrev pub IsListOf : List ℕ → IgnoreList → Type 0
-IsListOf text list =
-    (lines : List (Line Span)) × AllZip IsReadAs (written_lines text) lines × HoldsLines list lines
+IsListOf text list = AllZip IsReadAs (written_lines text) list
 
 -- The first line that isn't read has this number, and this is why.
 pub record IsFirstUnread (text : List ℕ) (number : ℕ) (error : BuildError) : Type 0 where

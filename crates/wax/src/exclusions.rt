@@ -1,16 +1,15 @@
 //! Walks without what patterns match or lists ignore.
-ghost use Rattle.std.specs.Prelude.{◌≡◌, IfOk, List, MatchResult};
+ghost use Rattle.std.specs.Prelude.{◌≡◌, IfOk, MatchResult};
 ghost use Rattle.wax_token.specs.Reads.{Span};
 ghost use Rattle.wax_token.specs.Syntax.{Tree};
 ghost use Rattle.wax_walk.specs.Known.{StaysKnown};
 ghost use Rattle.wax_walk.specs.Ruled.{ruled_view};
 ghost use Rattle.wax_walk.specs.View.{IsSeenAs};
-ghost use Rattle.wax_exclude.specs.Ignored.{Line};
 ghost use Rattle.wax_exclude.specs.GlobRequests.{ComesExcluding};
 ghost use Rattle.wax_exclude.specs.Wanted.{not_ignored, not_meant};
 ghost use Rattle.wax.specs.Exclusions.{IsAnyExclusionOf, IsExclusionOf, IsWalkExcluding, NoAnyExclusion};
 ghost use Rattle.wax.specs.Exclusions.{NoExclusion};
-ghost use Rattle.wax.specs.Ignoring.{HoldsLines, IsWalkIgnoring};
+ghost use Rattle.wax.specs.Ignoring.{IsWalkIgnoring};
 
 use crate::ignoring::IgnoreList;
 use std::alloc::Global;
@@ -145,10 +144,8 @@ where
 /// println!(rt; "{}", items.len())?; // 3
 /// ```
 pub fn excluding_ignored<I: FileIterator>(alloc: Global, walk: I, list: IgnoreList) -> Ignore<I>
-    ensures view { (lines : List (Line Span)) → HoldsLines list lines
-        → IsWalkIgnoring lines (I.view walk) (⟦<Ignore<I> as FileIterator>⟧.view result) }
-    ensures comes { (lines : List (Line Span)) → HoldsLines list lines
-        → ComesExcluding I.Directory.law (not_ignored lines) (I.view walk)
+    ensures view { IsWalkIgnoring list (I.view walk) (⟦<Ignore<I> as FileIterator>⟧.view result) }
+    ensures comes { ComesExcluding I.Directory.law (not_ignored list) (I.view walk)
         (⟦<Ignore<I> as FileIterator>⟧.view result) }
     ensures ends { ⟦<Ignore<I> as SeparatingFilter>⟧.left result ≡ I.left walk }
     ensures feeds { I.can_feed walk → ⟦<Ignore<I> as SeparatingFilter>⟧.can_feed result }
@@ -188,10 +185,8 @@ pub trait FileIteratorExt: FileIterator {
     final fn ignore(self, alloc: Global, list: IgnoreList) -> Ignore<Self>
     where
         Self: Sized,
-        ensures view { (lines : List (Line Span)) → HoldsLines list lines
-            → IsWalkIgnoring lines (Self.view self) (⟦<Ignore<Self> as FileIterator>⟧.view result) }
-        ensures comes { (lines : List (Line Span)) → HoldsLines list lines
-            → ComesExcluding Self.Directory.law (not_ignored lines) (Self.view self)
+        ensures view { IsWalkIgnoring list (Self.view self) (⟦<Ignore<Self> as FileIterator>⟧.view result) }
+        ensures comes { ComesExcluding Self.Directory.law (not_ignored list) (Self.view self)
             (⟦<Ignore<Self> as FileIterator>⟧.view result) }
         ensures ends { ⟦<Ignore<Self> as SeparatingFilter>⟧.left result ≡ Self.left self }
         ensures feeds { Self.can_feed self → ⟦<Ignore<Self> as SeparatingFilter>⟧.can_feed result }

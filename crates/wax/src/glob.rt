@@ -36,7 +36,7 @@ use std::fmt;
 use std::marker::Model;
 pub use walking::{GlobWalk, UncapturedWalk};
 use wax_capture::Pieces;
-use wax_compare::Compared;
+use wax_compare::{Compared, Criterion, Selector};
 use wax_components::{Warning, captures, depth, diagnose, has_semantic_literals};
 use wax_facts::{has_root, is_exhaustive, text};
 use wax_lazy::HasProgram;
@@ -368,7 +368,12 @@ impl Program for Glob<'_> {
 }
 
 impl Compared for Glob<'_> {
-    fn compiled(&self) -> &CompiledProgram {
-        self.compiled.program()
+    ghost selects = { IsMeant };
+
+    fn selector(&self) -> Selector<'_> {
+        Selector {
+            program: self.compiled.program(),
+            criterion: Criterion::Accepted,
+        }
     }
 }

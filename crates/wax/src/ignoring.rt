@@ -3,7 +3,7 @@ ghost use Rattle.std.specs.Prelude.{◌≡◌, ◌≤◌, ◌↔◌, ◌+◌, �
 ghost use Rattle.std.specs.Prelude.{MatchResult, false, filter, length, map, true};
 ghost use Rattle.wax_directory.specs.Shown.{Shown};
 ghost use Rattle.wax_exclude.specs.Candidates.{NoSlashAfterNames, folder_at};
-ghost use Rattle.wax_exclude.specs.Held.{line_of};
+ghost use Rattle.wax_exclude.specs.Deciding.{IsDecidingLine, SaysLines, ignores_at};
 ghost use Rattle.wax_exclude.specs.Idle.{AreIdle};
 ghost use Rattle.wax_exclude.specs.GlobRequests.{walk_for};
 ghost use Rattle.wax_exclude.specs.Kept.{KeepsUnignored, unignored_request};
@@ -12,22 +12,25 @@ ghost use Rattle.wax_exclude.specs.RuledWalks.{with_rule};
 ghost use Rattle.wax_exclude.specs.Told.{KeepsAnswered, LeavesAnswered};
 ghost use Rattle.wax_exclude.specs.TreeRequests.{tree_request};
 ghost use Rattle.wax_query.specs.Below.{IsBelow};
-ghost use Rattle.wax_token.specs.Reads.{Span};
 ghost use Rattle.wax_tree.specs.Begins.{behavior_range, start_view};
 ghost use Rattle.wax_walk.specs.Candidates.{of_candidate};
 ghost use Rattle.wax_walk.specs.Collected.{Took};
 ghost use Rattle.wax_walk.specs.Entries.{given_outcome};
 ghost use Rattle.wax_walk.specs.Given.{Given, is_kept, with_tree};
 ghost use Rattle.wax_walk.specs.Ruled.{ruled_view};
-ghost use Rattle.wax_exclude.specs.Ignored.{IgnoresBelow, Line, is_ignored};
-ghost use Rattle.wax.specs.Ignoring.{HoldsLines, IsListOf, IsNoList, IsReadAs, IsUnread};
+ghost use Rattle.wax_exclude.specs.Ignored.{IgnoresBelow, is_ignored};
+ghost use Rattle.wax_exclude.specs.Tidy.{TidiesUp};
+ghost use Rattle.wax.specs.Ignoring.{IsListOf, IsNoList, IsReadAs, IsUnread};
 ghost use Rattle.wax.specs.Ignoring.{refusal_number, refused_at};
 
 use std::alloc::{AllocFailed, Global};
+use std::marker::Model;
 use thiserror::Error;
+use wax_compare::{Compared, Selector};
 use wax_directory::directory::Directory;
 use wax_exclude::{
-    IdleLine, IgnoreLine, IgnoreRule, WrittenLine, collect_unignored, written_lines,
+    DecidingLines, IdleLine, IgnoreLine, IgnoreRule, TidyLines, WrittenLine, collect_unignored,
+    written_lines,
 };
 use wax_query::diagnostics::NoMemory;
 use wax_query::matching::CandidatePath;
@@ -81,10 +84,36 @@ impl<T: Drop> From<AllocFailed<T>> for IgnoreError {
 }
 
 /// An ignore list: lines of globs, each of which ignores what it matches or stops ignoring it. The
-/// last line that matches a path decides.
+/// last line that matches a path decides. Contracts see the lines.
 #[derive(Drop)]
 pub struct IgnoreList {
     rule: IgnoreRule,
+}
+
+impl Model for IgnoreList {
+    ghost use Rattle.std.specs.Prelude.{List};
+    ghost use Rattle.std.specs.Coded.{coded_list};
+    ghost use Rattle.wax_token.specs.Reads.{Span};
+    ghost use Rattle.wax_exclude.specs.Ignored.{Line, line_code};
+
+    ghost Value = { List (Line Span) };
+
+    ghost coded = { coded_list line_code };
+
+    ghost view = { λ list. list.rule };
+}
+
+/// An ignore list without the lines that decide nothing about plain paths.
+#[derive(Drop)]
+pub struct TidyList {
+    pub list: IgnoreList,
+    /// The index of each line of `list` in the list that was tidied, from 0.
+    pub indexes: Vec<usize>,
+    /// The lines that were removed, by their indexes in the list that was tidied, in the order in which
+    /// they can go. The reason of each is why it decides nothing once those before it are gone.
+    pub removed: Vec<IdleLine>,
+    /// The indexes of those lines of `list` of which it isn't known whether they decide.
+    pub unknown: Vec<usize>,
 }
 
 impl IgnoreList {
@@ -126,8 +155,7 @@ impl IgnoreList {
     /// without one: it rejects most paths that no line matches. Otherwise the call takes time in
     /// proportion to the number of lines. For many paths, use `is_ignored_cached`.
     pub fn is_ignored(&self, alloc: Global, path: &CandidatePath<'_>) -> Result<bool, NoMemory>
-        ensures { IfOk result (λ answer. (lines : List (Line Span)) → HoldsLines self.now lines
-            → answer ≡ is_ignored lines path.now) }
+        ensures { IfOk result (λ answer. answer ≡ is_ignored self.now path.now) }
     {
         self.rule.is_ignored(alloc, path)
     }
@@ -151,8 +179,7 @@ impl IgnoreList {
         alloc: Global,
         path: &CandidatePath<'_>,
     ) -> Result<bool, NoMemory>
-        ensures decides { IfOk result (λ answer. (lines : List (Line Span)) → HoldsLines self.old lines
-            → answer ≡ is_ignored lines path.now) }
+        ensures decides { IfOk result (λ answer. answer ≡ is_ignored self.old path.now) }
         ensures same { self.new ≡ self.old }
     {
         self.rule.is_ignored_cached(alloc, path)
@@ -176,11 +203,10 @@ impl IgnoreList {
     pub fn ignores_below(&self, alloc: Global, path: &CandidatePath<'_>) -> Result<bool, NoMemory>
         ensures says { IfOk result (λ answer. IsTrue answer
             ↔ (⟦<IgnoreList as Exclude>⟧.rule self.now (folder_at path.now) ≡ with_tree)) }
-        ensures covers { IfOk result (λ answer. (lines : List (Line Span)) → HoldsLines self.now lines
-            → IsTrue answer ↔ IgnoresBelow lines (folder_at path.now)) }
-        ensures below { NoSlashAfterNames path.now → IfOk result (λ answer. (lines : List (Line Span))
-            → HoldsLines self.now lines → IsTrue answer → (s : List ℕ) → IsBelow path.now s
-            → is_ignored lines s ≡ true) }
+        ensures covers { IfOk result
+            (λ answer. IsTrue answer ↔ IgnoresBelow self.now (folder_at path.now)) }
+        ensures below { NoSlashAfterNames path.now → IfOk result (λ answer. IsTrue answer → (s : List ℕ)
+            → IsBelow path.now s → is_ignored self.now s ≡ true) }
     {
         self.rule.ignores_below(alloc, path)
     }
@@ -202,10 +228,84 @@ impl IgnoreList {
     /// }
     /// ```
     pub fn idle_lines(&self, alloc: Global, most_states: usize) -> Result<Vec<IdleLine>, NoMemory>
-        ensures { IfOk result (λ idle. (lines : List (Line Span)) → HoldsLines self.now lines
-            → AreIdle lines idle.items) }
+        ensures { IfOk result (λ idle. AreIdle self.now idle.items) }
     {
         self.rule.idle_lines(alloc, most_states)
+    }
+
+    /// Returns the list without the lines of which it is known that they decide nothing about plain paths:
+    /// it ignores the same ones. Without some lines, others may decide nothing, too, so it looks for such
+    /// lines until there are none. Each line that is left decides some plain path, except those that are
+    /// `unknown`, for which a comparison that reaches at most `most_states` states wasn't enough.
+    ///
+    /// ```
+    /// use wax::MOST_STATES;
+    ///
+    /// let list = IgnoreList::parse(alloc, "**/*.o\ndocs/a\n!docs/a\n")?;
+    /// let tidy = list.tidied(alloc, MOST_STATES)?;
+    /// println!(rt; "{:?}", tidy.indexes)?; // [0]
+    /// for line in &tidy.removed {
+    ///     println!(rt; "{}: {:?}", line.index, line.reason)?; // 1: Covered([2]); 2: TakesNothingBack
+    /// }
+    /// ```
+    pub fn tidied(&self, alloc: Global, most_states: usize) -> Result<TidyList, NoMemory>
+        ensures { IfOk result (λ tidy. TidiesUp self.now tidy.removed.items tidy.indexes.items
+            tidy.list tidy.unknown.items) }
+    {
+        let TidyLines {
+            lines,
+            indexes,
+            removed,
+            unknown,
+        } = self.rule.tidied(alloc, most_states)?;
+        let rule = IgnoreRule::new(alloc, lines)?;
+        Ok(TidyList {
+            list: IgnoreList { rule },
+            indexes,
+            removed,
+            unknown,
+        })
+    }
+
+    /// Returns the index of the last line that matches the path, or `None` if no line does. This line
+    /// decides: the path is ignored exactly if it is there and doesn't begin with `!`. Lines are counted
+    /// from 0, without those that are skipped; `written_lines` has their numbers in the text.
+    ///
+    /// Each call compiles the lines once more. For many paths, use `deciding_lines`.
+    ///
+    /// ```
+    /// let list = IgnoreList::parse(alloc, "**/*.o\n!keep.o\n")?;
+    /// for path in vec![in alloc; "a/b.o", "keep.o", "a.c"]? {
+    ///     let line = list.deciding_line(alloc, &CandidatePath::from(path))?;
+    ///     println!(rt; "{line:?}")?; // Some(0); Some(1); None
+    /// }
+    /// ```
+    pub fn deciding_line(
+        &self,
+        alloc: Global,
+        path: &CandidatePath<'_>,
+    ) -> Result<Option<usize>, NoMemory>
+        ensures line { IfOk result (IsDecidingLine self.now path.now) }
+        ensures decides { IfOk result (λ found. is_ignored self.now path.now ≡ ignores_at self.now found) }
+    {
+        self.rule.deciding_line(alloc, path)
+    }
+
+    /// Compiles the lines once more, to find the deciding lines of many paths. The result keeps what it
+    /// learns from each path for the next ones.
+    ///
+    /// ```
+    /// let list = IgnoreList::parse(alloc, "**/*.o\n!keep.o\n")?;
+    /// let mut deciding = list.deciding_lines(alloc)?;
+    /// for path in vec![in alloc; "a/b.o", "keep.o", "a.c"]? {
+    ///     let line = deciding.deciding_line(&CandidatePath::from(path))?;
+    ///     println!(rt; "{line:?}")?; // Some(0); Some(1); None
+    /// }
+    /// ```
+    pub fn deciding_lines(&self, alloc: Global) -> Result<DecidingLines, NoMemory>
+        ensures { IfOk result (SaysLines self.now) }
+    {
+        self.rule.deciding_lines(alloc)
     }
 
     /// Collects the plain walk from `start` without what the list ignores: returns what is kept, in
@@ -232,15 +332,13 @@ impl IgnoreList {
             (⟦<IgnoreList as Exclude>⟧.rule self) false) r.1 xs
             × (map (given_outcome ⟦<TreeEntry as Entry>⟧.facts ⟦<TreeEntry as Entry>⟧.facts) r.0.items
             ≡ filter is_kept xs)) }
-        ensures unignored { IfOk result (λ r. (lines : List (Line Span)) (s : Shown)
-            (listed : List (List ℕ))
-            → HoldsLines self lines → D.law.shows directory start.now s → D.law.tells directory listed
+        ensures unignored { IfOk result (λ r. (s : Shown) (listed : List (List ℕ))
+            → D.law.shows directory start.now s → D.law.tells directory listed
             → KeepsUnignored (D.law.tells r.1)
-            (record { lines = lines; range = behavior_range behavior; start = start.now }) s listed
+            (record { lines = self; range = behavior_range behavior; start = start.now }) s listed
             (map (given_outcome ⟦<TreeEntry as Entry>⟧.facts ⟦<TreeEntry as Entry>⟧.facts) r.0.items)) }
-        ensures answered { IfOk result (λ r. (lines : List (Line Span)) → HoldsLines self lines
-            → KeepsAnswered D.law directory r.1 (unignored_request
-            (record { lines = lines; range = behavior_range behavior; start = start.now }))
+        ensures answered { IfOk result (λ r. KeepsAnswered D.law directory r.1 (unignored_request
+            (record { lines = self; range = behavior_range behavior; start = start.now }))
             (map (given_outcome ⟦<TreeEntry as Entry>⟧.facts ⟦<TreeEntry as Entry>⟧.facts) r.0.items)) }
         ensures leaves { IfOk result (λ r. LeavesAnswered D.law directory r.1
             (with_rule (walk_for (tree_request (behavior_range behavior) start.now))
@@ -253,7 +351,7 @@ impl IgnoreList {
 }
 
 impl Exclude for IgnoreList {
-    ghost rule = { λ list. ⟦<IgnoreRule as Exclude>⟧.rule list.rule };
+    ghost rule = { λ list. ⟦<IgnoreRule as Exclude>⟧.rule list };
 
     fn residue(
         &mut self,
@@ -264,13 +362,22 @@ impl Exclude for IgnoreList {
     }
 }
 
+impl Compared for IgnoreList {
+    ghost selects = { ⟦<IgnoreRule as Compared>⟧.selects };
+
+    fn selector(&self) -> Selector<'_> {
+        self.rule.selector()
+    }
+}
+
 fn read(alloc: Global, written: &WrittenLine<'_>) -> Result<IgnoreLine, BuildError>
-    ensures { MatchResult result
-        (λ held. (line : Line Span) × IsReadAs (written_of written.now) line × (held ≡ line_of line))
-        (IsUnread (written_of written.now)) }
+    ensures { MatchResult result (IsReadAs (written_of written.now)) (IsUnread (written_of written.now)) }
 {
     let checked = written.expression.into_checked(alloc)?;
-    Ok(IgnoreLine::new(alloc, written.ignores, checked.release())?)
+    match IgnoreLine::new(written.ignores, checked.release()) {
+        Ok(line) => Ok(line),
+        Err(error) => Err(BuildError::Compile(error)),
+    }
 }
 
 // Adds the number of the line to an error, unless memory ran out: that is no error of the line.

@@ -40,7 +40,8 @@ mod walk_filter;
 pub use glob::{Glob, GlobMatcher, OwnedGlobMatcher};
 pub use unignored::filter_unignored;
 pub use wax_compare::{
-    Compared, Comparison, MOST_STATES, Texts, difference, law_of_plain_paths, overlap,
+    Compared, Comparison, Criterion, MOST_STATES, Selector, Texts, compare, difference,
+    law_of_plain_paths, overlap,
 };
 pub use wax_lines::{Counted, LinesError, capture_lines, filter_lines};
 pub use wax_parse::{escape, is_contextual_meta_character, is_meta_character};

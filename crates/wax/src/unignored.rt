@@ -1,10 +1,8 @@
 //! Lines of a stream that an ignore list doesn't ignore.
-ghost use Rattle.std.specs.Prelude.{◌≡◌, ◌<◌, ◌⊎◌, IfErr, IfOk, IsErrOf, List};
+ghost use Rattle.std.specs.Prelude.{◌≡◌, ◌<◌, ◌⊎◌, IfErr, IfOk, IsErrOf};
 ghost use Rattle.wax_lines.specs.Counts.{greatest_count};
 ghost use Rattle.wax_lines.specs.Lines.{Filtered, Stopped, WritesMeant};
-ghost use Rattle.wax_token.specs.Reads.{Span};
-ghost use Rattle.wax_exclude.specs.Ignored.{Line};
-ghost use Rattle.wax.specs.Ignoring.{HoldsLines, IsUnignored};
+ghost use Rattle.wax.specs.Ignoring.{IsUnignored};
 
 use crate::ignoring::IgnoreList;
 use std::alloc::Global;
@@ -42,12 +40,10 @@ pub fn filter_unignored<R: Read, W: Write>(
     output: &mut Counted<W>,
     list: &mut IgnoreList,
 ) -> Result<u64, LinesError>
-    ensures done { (lines : List (Line Span)) → HoldsLines list.old lines
-        → IfOk result (Filtered (WritesMeant (IsUnignored lines))
+    ensures done { IfOk result (Filtered (WritesMeant (IsUnignored list.old))
         (R.remaining input.old.inner) (R.remaining input.new.inner)
         (W.contents output.old.inner) (W.contents output.new.inner)) }
-    ensures stopped { (lines : List (Line Span)) → HoldsLines list.old lines
-        → IfErr result (Stopped (WritesMeant (IsUnignored lines))
+    ensures stopped { IfErr result (Stopped (WritesMeant (IsUnignored list.old))
         (R.remaining input.old.inner) (R.remaining input.new.inner)
         (W.contents output.old.inner) (W.contents output.new.inner)) }
     ensures read_failed { IsErrOf result LinesError.Read →

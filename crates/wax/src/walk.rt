@@ -4,7 +4,7 @@ pub use crate::exclusions::{
     FileIteratorExt, FilterAnyExt, Ignore, Not, excluding_ignored, excluding_pattern, exclusion_of,
 };
 pub use crate::glob::{GlobWalk, UncapturedWalk};
-pub use crate::ignoring::{IgnoreError, IgnoreList};
+pub use crate::ignoring::{IgnoreError, IgnoreList, TidyList};
 pub use crate::walk_filter::WalkFilter;
 pub use wax_directory::directory::{Directory, DirectoryFault, FileType, ListItem};
 pub use wax_directory::failing::Failing;
@@ -14,9 +14,9 @@ pub use wax_directory::starving::Starving;
 pub use wax_directory::tally::Tally;
 pub use wax_directory::tree::{DuplicateName, Node, Tree, TreeItem};
 pub use wax_exclude::{
-    Exclusion, IdleLine, IdleReason, LeadingComponent, WrittenLine, collect, collect_feed,
-    law_of_closures, law_of_feeds, law_of_idle_lines, law_of_ignoring, law_of_last_match,
-    law_of_plain_walks, law_of_walks, law_of_wanted, written_lines,
+    DecidingLines, Exclusion, IdleLine, IdleReason, LeadingComponent, WrittenLine, collect,
+    collect_feed, law_of_closures, law_of_feeds, law_of_idle_lines, law_of_ignoring,
+    law_of_last_match, law_of_plain_walks, law_of_walks, law_of_wanted, written_lines,
 };
 pub use wax_set::SetWalk;
 pub use wax_tree::{

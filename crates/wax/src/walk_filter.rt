@@ -4,12 +4,10 @@ ghost use Rattle.wax_exclude.specs.Candidates.{NoSlashAfterNames, folder_at};
 ghost use Rattle.wax_exclude.specs.GlobRequests.{IsRuleOf};
 ghost use Rattle.wax_query.specs.Below.{IsBelow};
 ghost use Rattle.wax_token.specs.Reads.{Span};
-ghost use Rattle.wax_exclude.specs.Ignored.{Line};
 ghost use Rattle.wax_walk.specs.Given.{with_tree};
 ghost use Rattle.wax_exclude.specs.Walked.{ExcludesBelow};
 ghost use Rattle.wax_exclude.specs.Wanted.{Filter, excludes, not_ignored};
 ghost use Rattle.wax.specs.Exclusions.{IsNotRule, NoExclusion};
-ghost use Rattle.wax.specs.Ignoring.{HoldsLines};
 
 use crate::exclusions::exclusion_of;
 use crate::ignoring::IgnoreList;
@@ -44,8 +42,7 @@ impl WalkFilter {
 
     /// Wraps a list as a filter that excludes what the list ignores.
     pub fn ignore(list: IgnoreList) -> WalkFilter
-        ensures { (lines : List (Line Span)) → HoldsLines list lines
-            → IsRuleOf (not_ignored lines) (⟦<WalkFilter as Exclude>⟧.rule result) }
+        ensures { IsRuleOf (not_ignored list) (⟦<WalkFilter as Exclude>⟧.rule result) }
     {
         WalkFilter::Ignore(list)
     }

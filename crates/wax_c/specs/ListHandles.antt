@@ -1,6 +1,6 @@
 -- How calls of handles of ignore lists end.
 use Rattle.std.specs.Prelude.{◌≡◌, ◌↔◌, ℕ, ℤ, Bool, IsTrue, true, List, Some, None, Result, Ok, Err, IsUtf8}
-use Rattle.wax.specs.Ignoring.{HoldsLines, IgnoresBelow, IsFirstUnread, IsListOf, IsUnignored, Line}
+use Rattle.wax.specs.Ignoring.{IgnoresBelow, IsFirstUnread, IsListOf, IsUnignored}
 use Rattle.wax.specs.Ignoring.{is_ignored}
 use Rattle.wax.specs.Matching.{Filters, IsBelow, WritesMeant, lines}
 use Rattle.wax.specs.Walks.{NoSlashAfterNames, folder_at}
@@ -10,7 +10,7 @@ use Rattle.wax_c.specs.declared.error.CallError.{CallError}
 use Rattle.wax_c.specs.declared.error.CallError.TheVariants.{Build, NotText, NoRoom}
 use Rattle.wax_c.specs.declared.list_handle.ListHandle.{ListHandle}
 use denote.RawPtr.{null_ptr}
-use Rattle.wax.specs.Language.{BuildError, Memory, Span}
+use Rattle.wax.specs.Language.{BuildError, Memory}
 
 -- a list of these bytes, which are text
 abbrev pub IsListOfBytes : List ℕ → IgnoreList → Type 0
@@ -42,19 +42,16 @@ IsListHandle text handle line number =
 
 -- the answer is whether the list ignores the path
 abbrev pub SaysIgnored : IgnoreList → List ℕ → Bool → Type 0
-SaysIgnored list path answer =
-    (lines : List (Line Span)) → HoldsLines list lines → answer ≡ is_ignored lines path
+SaysIgnored list path answer = answer ≡ is_ignored list path
 
 -- What the answer says of all that is below the folder.
 pub record SaysIgnoredBelow (list : IgnoreList) (folder : List ℕ) (answer : Bool) : Type 0 where
   -- whether a line that ignores covers the folder, and no line after it begins with `!`
-  pub exactly : (lines : List (Line Span)) → HoldsLines list lines
-      → IsTrue answer ↔ IgnoresBelow lines (folder_at folder)
+  pub exactly : IsTrue answer ↔ IgnoresBelow list (folder_at folder)
   -- if so, the list ignores each path below
-  pub below : NoSlashAfterNames folder → IsTrue answer → (lines : List (Line Span)) → HoldsLines list lines
-      → (path : List ℕ) → IsBelow folder path → is_ignored lines path ≡ true
+  pub below : NoSlashAfterNames folder → IsTrue answer → (path : List ℕ) → IsBelow folder path
+      → is_ignored list path ≡ true
 
 -- the lines of the input that are text and that the list doesn't ignore, each with a line feed
 abbrev pub AreUnignored : IgnoreList → List ℕ → List ℕ → Type 0
-AreUnignored list input out = (held : List (Line Span)) → HoldsLines list held
-    → (bad : ℕ) × Filters (WritesMeant (IsUnignored held)) (lines input) out bad
+AreUnignored list input out = (bad : ℕ) × Filters (WritesMeant (IsUnignored list)) (lines input) out bad

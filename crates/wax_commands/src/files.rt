@@ -1,9 +1,6 @@
 //! Files with ignore lists.
 ghost use Rattle.std.specs.Fn.{FnReturnsAt};
-ghost use Rattle.std.specs.Prelude.{◌≢◌, IfErr, IfOk, List};
-ghost use Rattle.wax.specs.Ignoring.{HoldsLines};
-ghost use Rattle.wax_token.specs.Reads.{Span};
-ghost use Rattle.wax_exclude.specs.Ignored.{Line};
+ghost use Rattle.std.specs.Prelude.{◌≢◌, IfErr, IfOk};
 ghost use Rattle.wax_commands.specs.Files.{IsListIn, IsUnlisted};
 
 use crate::building::FilterFault;
@@ -29,8 +26,7 @@ pub fn list_in<'w, B>(alloc: Global, file: &'w str, read: &B) -> Result<IgnoreLi
 where
     B: Fn(&str) -> Result<Vec<u8>, FileFault>,
     requires { B.IsAlwaysCallable read.now }
-    ensures ok { IfOk result (λ list. (lines : List (Line Span))
-        × IsListIn (FnReturnsAt B.Fn read.now) file.now lines × HoldsLines list lines) }
+    ensures ok { IfOk result (IsListIn (FnReturnsAt B.Fn read.now) file.now) }
     ensures err { IfErr result (λ fault. fault ≢ FilterFault.Memory
         → IsUnlisted (FnReturnsAt B.Fn read.now) file.now) }
 {

@@ -36,7 +36,7 @@ use std::borrow::CowStr;
 use std::fmt;
 use std::marker::Model;
 pub use walking::SetWalk;
-use wax_compare::Compared;
+use wax_compare::{Compared, Criterion, Selector};
 use wax_components::depth;
 use wax_facts::{has_root, is_exhaustive, text};
 use wax_lazy::{HasProgram, Matcher, list_numbers};
@@ -313,8 +313,13 @@ impl Program for Any<'_> {
 }
 
 impl Compared for Any<'_> {
-    fn compiled(&self) -> &CompiledProgram {
-        self.compiled.program()
+    ghost selects = { MeansText };
+
+    fn selector(&self) -> Selector<'_> {
+        Selector {
+            program: self.compiled.program(),
+            criterion: Criterion::Accepted,
+        }
     }
 }
 

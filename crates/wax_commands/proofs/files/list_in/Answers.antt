@@ -10,16 +10,11 @@ returns-in_default-clause-err g c = λ differs. no_text c.in-Ok.bytes (search ru
 
 pub returns-in-Ok-parse-clause-ok : goal.returns-in-Ok-parse-clause-ok
 returns-in-Ok-parse-clause-ok g c =
-    let list = c.in-Ok-parse.ensures in
     let same : c.in-Ok-from_utf8.text.now ≡ c.in-Ok.bytes.items = search rules in (
-      list.0,
-      (
-        c.in-Ok.bytes,
-        search rules,
-        search rules,
-        subst (λ text. AllZip IsReadAs (written_lines text) list.0) same list.1,
-      ),
-      list.2,
+      c.in-Ok.bytes,
+      search rules,
+      search rules,
+      subst (λ text. AllZip IsReadAs (written_lines text) c.in-Ok-parse.list) same c.in-Ok-parse.ensures,
     )
 
 pub returns-in-Err-BadLine-clause-err : goal.returns-in-Err-BadLine-clause-err

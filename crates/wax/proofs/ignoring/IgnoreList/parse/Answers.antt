@@ -27,4 +27,4 @@ returns c =
     ap (map written_of) c.deref-line-items.ensures.value ∙ c.in_ok-written.ensures in
     all_read c.args.text.now c.deref-line-items.result.now c.loop-line.line-index c.loop-line.lines.items
     c.in_ok-rule.rule whole c.loop-line-test.false
-    c.in_ok-rule.ensures.lines c.loop-line.invariant
+    c.in_ok-rule.ensures c.loop-line.invariant

@@ -1,6 +1,6 @@
 use Rattle.std.proofs.Common.{ap, sym}
 use Rattle.wax_exclude.specs.Excluded.{excluded_mark}
-use Rattle.wax_exclude.specs.inner.Listed.{listed_mark}
+use Rattle.wax_exclude.specs.Ignored.{ignore_mark}
 use Rattle.wax_walk.specs.Candidates.{Candidate}
 use Rattle.wax_walk.specs.Given.{Mark}
 use Rattle.wax.proofs.Filters.{filter_below, filter_covers}
@@ -10,7 +10,7 @@ use Rattle.wax.proofs.walk_filter.WalkFilter.excludes_below.Goals as goal
 
 -- the rule of a filter
 abbrev rule : WalkFilter → Candidate → Mark
-rule filter = rule_by (λ e c. excluded_mark e c) (λ list c. listed_mark list.rule c) filter
+rule filter = rule_by (λ e c. excluded_mark e c) (λ lines c. ignore_mark lines c) filter
 
 pub returns-in-Not-clause-covers : goal.returns-in-Not-clause-covers
 returns-in-Not-clause-covers c =
