@@ -9,11 +9,21 @@ _globs_explain() {
     cur=${words[cword]}
     COMPREPLY=()
     if ((cword == 1)) && [[ $cur == -* ]]; then
-        mapfile -t COMPREPLY < <(compgen -W '--dot --overlap --difference --idle' -- "$cur")
-    elif ((cword == 2)) && [[ ${words[1]} != --@(dot|overlap|difference) ]]; then
+        mapfile -t COMPREPLY < <(compgen -W '--dot --overlap --difference --idle --ignored --compare' -- "$cur")
+    elif _globs_explain_takes_file; then
         compopt -o filenames 2> /dev/null
         mapfile -t COMPREPLY < <(compgen -f -- "$cur")
     fi
+}
+
+# Succeeds if the word to complete is a path or the file of an ignore list.
+_globs_explain_takes_file() {
+    case ${words[1]} in
+        --dot | --overlap | --difference) false ;;
+        --ignored) true ;;
+        --compare) ((cword == 2 || cword == 3)) ;;
+        *) ((cword == 2)) ;;
+    esac
 }
 
 complete -F _globs_explain globs_explain

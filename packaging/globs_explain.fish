@@ -8,7 +8,16 @@ end
 # Succeeds if a path or the file of an ignore list comes next.
 function __globs_explain_takes_file
     set -l words (commandline -opc)
-    test (count $words) -eq 2; and not contains -- "$words[2]" --dot --overlap --difference
+    switch "$words[2]"
+        case --dot --overlap --difference
+            false
+        case --ignored
+            true
+        case --compare
+            contains (count $words) 2 3
+        case '*'
+            test (count $words) -eq 2
+    end
 end
 
 complete -c globs_explain -f
@@ -16,4 +25,6 @@ complete -c globs_explain -n __globs_explain_takes_option -l dot -d 'Write the t
 complete -c globs_explain -n __globs_explain_takes_option -l overlap -d 'Find a path that two expressions match'
 complete -c globs_explain -n __globs_explain_takes_option -l difference -d 'Find a path that only the first one matches'
 complete -c globs_explain -n __globs_explain_takes_option -l idle -d 'List the lines of an ignore file that decide nothing'
+complete -c globs_explain -n __globs_explain_takes_option -l ignored -d 'Show the line of an ignore file that decides about each path'
+complete -c globs_explain -n __globs_explain_takes_option -l compare -d 'Find a path that only one of two ignore files ignores'
 complete -c globs_explain -n __globs_explain_takes_file -F

@@ -27,18 +27,31 @@ pub fn add_answer(
         Question::Overlap => overlap(alloc, first, second, Texts::Paths, MOST_STATES)?,
         Question::Difference => difference(alloc, first, second, Texts::Paths, MOST_STATES)?,
     };
-    match found {
-        Comparison::Nothing => page.add("none\n"),
-        Comparison::Unknown => page.add("unknown\n"),
-        Comparison::Text(path) => {
-            page.add("witness ");
-            page.part(&path, 0, path.len());
-            page.add("\n");
-            add_match(alloc, first, &path, page)?;
-            add_match(alloc, second, &path, page)?;
-        }
+    if let Some(path) = add_found(&found, page) {
+        add_match(alloc, first, path, page)?;
+        add_match(alloc, second, path, page)?;
     }
     Ok(())
+}
+
+/// Adds the first line: `none`, `unknown`, or `witness` and the path that was found. Returns the path.
+pub fn add_found<'c>(found: &'c Comparison, page: &mut Page) -> Option<&'c str> {
+    match found {
+        Comparison::Nothing => {
+            page.add("none\n");
+            None
+        }
+        Comparison::Unknown => {
+            page.add("unknown\n");
+            None
+        }
+        Comparison::Text(path) => {
+            page.add("witness ");
+            page.part(path, 0, path.len());
+            page.add("\n");
+            Some(path.as_str())
+        }
+    }
 }
 
 /// Adds the expression, and what it captures of the path.

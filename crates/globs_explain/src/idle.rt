@@ -1,33 +1,20 @@
 //! The lines of an ignore list that decide nothing.
 
+use crate::files::ListFile;
+use crate::numbered_lines::{add_line, add_number};
 use crate::page::Page;
 use std::alloc::Global;
-use wax::MOST_STATES;
-use wax::walk::{IdleReason, IgnoreError, IgnoreList, WrittenLine, written_lines};
+use wax::walk::{IdleReason, WrittenLine, written_lines};
+use wax::{MOST_STATES, NoMemory};
 
 /// Adds each line that decides nothing about plain paths: its number, its text and why.
-///
-/// # Errors
-///
-/// Returns `BadLine` if the text isn't an ignore list, and `Memory` if allocation fails.
-pub fn add_idle(alloc: Global, text: &str, page: &mut Page) -> Result<(), IgnoreError> {
-    let list = IgnoreList::parse(alloc, text)?;
-    let written = written_lines(alloc, text)?;
-    for line in list.idle_lines(alloc, MOST_STATES)? {
+pub fn add_idle(alloc: Global, file: &ListFile, page: &mut Page) -> Result<(), NoMemory> {
+    let written = written_lines(alloc, &file.text)?;
+    for line in file.list.idle_lines(alloc, MOST_STATES)? {
         add_line(&written, line.index, page);
         add_reason(&written, &line.reason, page);
     }
     Ok(())
-}
-
-/// Adds the number of a line and its text.
-fn add_line(written: &[WrittenLine<'_>], index: usize, page: &mut Page) {
-    add_number(written, index, page);
-    page.add(": ");
-    if let Some(line) = written.get(index) {
-        page.add(if line.ignores { "" } else { "!" });
-        page.part(line.expression, 0, line.expression.len());
-    }
 }
 
 /// Adds why a line decides nothing.
@@ -44,12 +31,5 @@ fn add_reason(written: &[WrittenLine<'_>], reason: &IdleReason, page: &mut Page)
             }
             page.add("\n");
         }
-    }
-}
-
-/// Adds the number in the text of the line with an index in the list.
-fn add_number(written: &[WrittenLine<'_>], index: usize, page: &mut Page) {
-    if let Some(line) = written.get(index) {
-        page.show(&line.number);
     }
 }

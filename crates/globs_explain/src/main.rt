@@ -1,26 +1,30 @@
 //! The program `globs_explain`: shows how an expression is read, what is known of it, and what it
-//! captures of a path; or its error. Compares two expressions, and finds the lines of an ignore list
-//! that decide nothing.
+//! captures of a path; or its error. Compares two expressions or two ignore lists, and finds the line of
+//! an ignore list that decides about a path, and the lines that decide nothing.
 #![tactic(auto)]
 
 mod captured;
 mod comparison;
+mod deciding;
 mod dot;
 mod facts;
+mod files;
 mod idle;
+mod input;
+mod list_comparison;
+mod numbered_lines;
 mod page;
 mod tokens;
 mod visits;
 
 use comparison::Question;
+use files::ListFile;
 use page::Page;
 use std::alloc::Global;
-use std::io::{self, ErrorKind};
 use std::process::ExitCode;
-use std::{env, fs};
+use std::{env, io};
 use wax::diagnostics::LocatedError;
 use wax::token::parse;
-use wax::walk::IgnoreError;
 use wax::{BuildError, Glob, NoMemory};
 
 const USAGE: &str = "\
@@ -29,6 +33,8 @@ usage: globs_explain EXPR [PATH]
        globs_explain --overlap EXPR EXPR
        globs_explain --difference EXPR EXPR
        globs_explain --idle FILE
+       globs_explain --ignored FILE [PATH]..
+       globs_explain --compare FILE FILE
 ";
 
 fn main(rt: HostRuntime) -> ExitCode {
@@ -51,29 +57,33 @@ fn run(rt: &HostRuntime) -> io::Result<u8> {
     let alloc = rt.alloc();
     let status = match words.as_slice() {
         [flag, expression] if flag.as_str() == "--dot" => draw(alloc, expression, &mut page),
-        [flag, file] if flag.as_str() == "--idle" => search(rt, file, &mut page)?,
         [flag, first, second] if flag.as_str() == "--overlap" => {
-            compare(alloc, Question::Overlap, first, second, &mut page)
+            compare_globs(alloc, Question::Overlap, first, second, &mut page)
         }
         [flag, first, second] if flag.as_str() == "--difference" => {
-            compare(alloc, Question::Difference, first, second, &mut page)
+            compare_globs(alloc, Question::Difference, first, second, &mut page)
+        }
+        [flag, file] if flag.as_str() == "--idle" => find_idle(rt, file, &mut page)?,
+        [flag, file, paths @ ..] if flag.as_str() == "--ignored" => {
+            return deciding::print_lines(rt, file, paths);
+        }
+        [flag, first, second] if flag.as_str() == "--compare" => {
+            compare_lists(rt, first, second, &mut page)?
         }
         [flag, ..] if is_option(flag) => return tell_usage(rt),
         [expression] => explain(alloc, expression, None, &mut page),
         [expression, path] => explain(alloc, expression, Some(path), &mut page),
         _ => return tell_usage(rt),
     };
-    let Some(text) = page.text() else {
-        eprintln!(rt; "globs_explain: no memory")?;
-        return Ok(1);
-    };
-    print!(rt; "{text}")?;
-    Ok(status)
+    page.print(rt, status)
 }
 
 /// Returns whether the word is always an option. `--dot` isn't: alone it is an expression.
 fn is_option(word: &str) -> bool {
-    matches!(word, "--overlap" | "--difference" | "--idle")
+    matches!(
+        word,
+        "--overlap" | "--difference" | "--idle" | "--ignored" | "--compare"
+    )
 }
 
 /// Prints the usage. Returns the status.
@@ -141,7 +151,13 @@ fn draw(alloc: Global, expression: &str, page: &mut Page) -> u8 {
 }
 
 /// Adds what is found of two expressions. Returns the status.
-fn compare(alloc: Global, question: Question, first: &str, second: &str, page: &mut Page) -> u8 {
+fn compare_globs(
+    alloc: Global,
+    question: Question,
+    first: &str,
+    second: &str,
+    page: &mut Page,
+) -> u8 {
     let first = match Glob::new(alloc, first) {
         Ok(glob) => glob,
         Err(error) => return refuse(alloc, first, &error, page),
@@ -156,29 +172,26 @@ fn compare(alloc: Global, question: Question, first: &str, second: &str, page: &
 }
 
 /// Adds the lines of the ignore list in a file that decide nothing. Returns the status.
-fn search(rt: &HostRuntime, file: &str, page: &mut Page) -> io::Result<u8> {
-    let bytes = match fs::read(rt, file) {
-        Ok(bytes) => bytes,
-        Err(error) if error.kind() == ErrorKind::OutOfMemory => return Err(error),
-        Err(_) => return fail(rt, file, "read failed"),
+fn find_idle(rt: &HostRuntime, file: &str, page: &mut Page) -> io::Result<u8> {
+    let Some(file) = ListFile::read(rt, file)? else {
+        return Ok(1);
     };
-    let Ok(text) = str::from_utf8(&bytes) else {
-        return fail(rt, file, "not text");
-    };
-    match idle::add_idle(rt.alloc(), text, page) {
-        Ok(()) => return Ok(0),
-        Err(IgnoreError::BadLine { line, error }) => {
-            eprintln!(rt; "globs_explain: {file}:{line}: {error}")?;
-        }
-        Err(IgnoreError::Memory) => page.lose(),
-    }
-    Ok(1)
+    let added = idle::add_idle(rt.alloc(), &file, page);
+    page.lose_unless(added);
+    Ok(0)
 }
 
-/// Prints what is wrong with a file. Returns the status.
-fn fail(rt: &HostRuntime, file: &str, fault: &str) -> io::Result<u8> {
-    eprintln!(rt; "globs_explain: {file}: {fault}")?;
-    Ok(1)
+/// Adds what is found of the ignore lists in two files. Returns the status.
+fn compare_lists(rt: &HostRuntime, first: &str, second: &str, page: &mut Page) -> io::Result<u8> {
+    let Some(first) = ListFile::read(rt, first)? else {
+        return Ok(1);
+    };
+    let Some(second) = ListFile::read(rt, second)? else {
+        return Ok(1);
+    };
+    let added = list_comparison::add_answer(rt.alloc(), &first, &second, page);
+    page.lose_unless(added);
+    Ok(0)
 }
 
 /// Adds the error of the expression, with a picture. Returns the status.

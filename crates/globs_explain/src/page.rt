@@ -2,6 +2,7 @@
 
 use std::alloc::Global;
 use std::fmt::Display;
+use std::io;
 use wax::NoMemory;
 
 /// A text that remembers whether memory ran out for it, so that callers need not propagate that.
@@ -27,6 +28,20 @@ impl Page {
         } else {
             Some(self.text.as_str())
         }
+    }
+
+    /// Prints the text, or that memory ran out. Returns the status, which is 1 after that.
+    ///
+    /// # Errors
+    ///
+    /// Returns an error if a write fails.
+    pub fn print(&self, rt: &HostRuntime, status: u8) -> io::Result<u8> {
+        let Some(text) = self.text() else {
+            eprintln!(rt; "globs_explain: no memory")?;
+            return Ok(1);
+        };
+        print!(rt; "{text}")?;
+        Ok(status)
     }
 
     /// Records that memory ran out.
