@@ -3,6 +3,7 @@ use Rattle.std.proofs.Common.{◌≡◌, ◌↔◌, ◌⊎◌, ◌+◌, ◌<◌,
 use Rattle.std.proofs.Common.{[], ◌++◌, Some, IsTrue, IfSome, Contains, add-one, ap, length, length-append}
 use Rattle.std.proofs.Common.{slice_get, slice_index, refl, sym, ◌∙◌, subst, inl, inr, arith}
 use Rattle.std.proofs.Math.Bool.{beq, not}
+use Rattle.std.specs.Char.{IsScalar}
 use Rattle.std.proofs.lemmas.Bool.{cases_lt, eq-eqb, eqb-true}
 use Rattle.std.proofs.lemmas.List.{get_or_append_left, get_or_default, get_or_push}
 use Rattle.std.proofs.lemmas.List.Elements.{Contains-get_or}
@@ -18,7 +19,7 @@ use Rattle.wax_compare.specs.Cuts.{AreAlike, AreLetters, AreUnlike, HasStandIn, 
 use Rattle.wax_compare.specs.inner.Cutting.{AreKept}
 use Rattle.wax_compare.specs.inner.Merging.{AgreeAt, AgreeBefore, AreKeptLetters, AreMerged, IsDigestBefore}
 use Rattle.wax_compare.specs.inner.Merging.{IsDigestOf, PassesAt, stirred}
-use Rattle.wax_compare.proofs.Blocks.{no_mark}
+use Rattle.wax_compare.proofs.Blocks.{no_mark, scalars_push}
 use Rattle.wax_compare.proofs.Steps.{same_alike}
 
 both_on : {P Q R : Type 0} → P ↔ Q → Q ↔ R → P ↔ R
@@ -181,12 +182,13 @@ index_end xs x i e = get_or_push xs x 0 i (sym e)
 
 module _ (code other : List Instruction) (kept digests : List ℕ) (letter digest : ℕ)
     (held : AreKeptLetters code other kept digests) (by : IsDigestOf code other letter digest)
-    (none : HasStandIn code other kept letter → ⊥) where
-  unlike_more : AreUnlike code other (kept ++ letter ∷ [])
-  unlike_more i j lt within stands =
+    (scalar : IsScalar letter) (none : HasStandIn code other kept letter → ⊥) where
+  none_stands : (i j : ℕ) → i < j → j < length (kept ++ letter ∷ [])
+      → StandsFor code other (slice_index (kept ++ letter ∷ []) i) (slice_index (kept ++ letter ∷ []) j) → ⊥
+  none_stands i j lt within stands =
       let first : i < length kept = omega (arith, lt, within, length-append kept (letter ∷ [])) in
       elim (cases_lt j (length kept)) [
-        | inl less ↦ held.unlike i j lt less (subst (λ c. StandsFor code other (slice_index kept i) c)
+        | inl less ↦ held.unlike.unlike i j lt less (subst (λ c. StandsFor code other (slice_index kept i) c)
             (index_left kept letter j less)
             (subst (λ d. StandsFor code other d (slice_index (kept ++ letter ∷ []) j))
             (index_left kept letter i first) stands))
@@ -218,14 +220,20 @@ module _ (code other : List Instruction) (kept digests : List ℕ) (letter diges
 
   pub kept_more : AreKeptLetters code other (kept ++ letter ∷ []) (digests ++ digest ∷ [])
   kept_more = record {
-    unlike = unlike_more;
+    unlike = record {
+      scalars = scalars_push kept letter held.unlike.scalars scalar;
+      unlike = none_stands;
+    };
     long = omega (arith, held.long, length-append kept (letter ∷ []), length-append digests (digest ∷ []));
     of = digests_more;
   }
 
 pub kept_none : (code other : List Instruction) → AreKeptLetters code other [] []
 kept_none code other = record {
-  unlike = λ i j lt within stands. (let no : ⊥ = omega (arith, within) in no);
+  unlike = record {
+    scalars = refl;
+    unlike = λ i j lt within stands. (let no : ⊥ = omega (arith, within) in no);
+  };
   long = refl;
   of = λ k lt. absurd (let no : ⊥ = omega (arith, lt) in no);
 }

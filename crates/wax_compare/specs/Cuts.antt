@@ -1,6 +1,8 @@
 -- Characters by which each instruction of a program does the same.
-use Rattle.std.specs.Prelude.{◌≡◌, ◌↔◌, ◌<◌, ◌≤◌, ℕ, List, Some, Contains, length, slice_get, slice_index}
+use Rattle.std.specs.Prelude.{◌≡◌, ◌↔◌, ◌<◌, ◌≤◌, ℕ, true, List, Some, Contains, length, slice_get}
+use Rattle.std.specs.Prelude.{slice_index}
 use Rattle.std.specs.Char.{IsScalar}
+use Rattle.std.specs.Str.{all_scalars}
 use Rattle.wax_program.specs.declared.instruction.Instruction.{Instruction}
 use Rattle.wax_program.specs.Steady.{Alike}
 
@@ -30,7 +32,8 @@ HasStandIn code other letters c = (d : ℕ) × Contains letters d × StandsFor c
 abbrev pub AreLetters : List Instruction → List Instruction → List ℕ → Type 0
 AreLetters code other letters = (c : ℕ) → IsScalar c → HasStandIn code other letters c
 
--- no letter stands for a later one
-abbrev pub AreUnlike : List Instruction → List Instruction → List ℕ → Type 0
-AreUnlike code other letters = (i j : ℕ) → i < j → j < length letters
-    → StandsFor code other (slice_index letters i) (slice_index letters j) → ⊥
+-- the letters are characters, and none stands for a later one
+pub record AreUnlike (code other : List Instruction) (letters : List ℕ) : Type 0 where
+  pub scalars : all_scalars letters ≡ true
+  pub unlike : (i j : ℕ) → i < j → j < length letters
+      → StandsFor code other (slice_index letters i) (slice_index letters j) → ⊥

@@ -41,7 +41,7 @@ abbrev pub IsDigestOf : List Instruction → List Instruction → ℕ → ℕ �
 IsDigestOf code other c digest = (middle : ℕ) × IsDigestBefore code c 1 (length code) middle
     × IsDigestBefore other c middle (length other) digest
 
--- no letter stands for a later one, and these are their digests, in their order
+-- the letters are unlike, and these are their digests, in their order
 pub record AreKeptLetters (code other : List Instruction) (letters digests : List ℕ) : Type 0 where
   pub unlike : AreUnlike code other letters
   pub long : length digests ≡ length letters

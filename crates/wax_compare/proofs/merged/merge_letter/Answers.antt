@@ -17,7 +17,8 @@ returns-clause-letters c =
     (subst (λ z. HasStandIn code other z letter) (sym c.deref.ensures.value) h)) ∙ c.if-has_stand_in.false) in
     subst (λ z. AreKeptLetters code other z c.push-2.new.self.items) (sym c.in_ok-push.ensures.items)
     (subst (AreKeptLetters code other (kept ++ letter ∷ [])) (sym c.in_ok-push-2.ensures.items)
-    (kept_more code other kept digests letter digest c.requires c.digest_of_both-digest.ensures none))
+    (kept_more code other kept digests letter digest c.requires c.digest_of_both-digest.ensures
+    c.ranges.letter.0 none))
 
 pub returns-clause-stands : goal.returns-clause-stands
 returns-clause-stands c =
