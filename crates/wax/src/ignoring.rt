@@ -1,6 +1,6 @@
 //! Ignore lists: texts whose lines select what to exclude from a walk.
 ghost use Rattle.std.specs.Prelude.{◌≡◌, ◌≤◌, ◌↔◌, ◌+◌, ◌*◌, ◌++◌, ◌∷◌, [], ℕ, IsTrue, List, IfOk};
-ghost use Rattle.std.specs.Prelude.{MatchResult, false, filter, length, map, true};
+ghost use Rattle.std.specs.Prelude.{All, MatchResult, false, filter, length, map, true};
 ghost use Rattle.wax_directory.specs.Shown.{Shown};
 ghost use Rattle.wax_exclude.specs.Candidates.{NoSlashAfterNames, folder_at};
 ghost use Rattle.wax_exclude.specs.Deciding.{IsDecidingLine, SaysLines, ignores_at};
@@ -20,6 +20,7 @@ ghost use Rattle.wax_walk.specs.Given.{Given, is_kept, with_tree};
 ghost use Rattle.wax_walk.specs.Ruled.{ruled_view};
 ghost use Rattle.wax_exclude.specs.Ignored.{IgnoresBelow, is_ignored};
 ghost use Rattle.wax_exclude.specs.Tidy.{TidiesUp};
+ghost use Rattle.wax_exclude.specs.Undecided.{AreUndecided, IsUndecided};
 ghost use Rattle.wax.specs.Ignoring.{IsListOf, IsNoList, IsReadAs, IsUnread};
 ghost use Rattle.wax.specs.Ignoring.{refusal_number, refused_at};
 
@@ -228,7 +229,8 @@ impl IgnoreList {
     /// }
     /// ```
     pub fn idle_lines(&self, alloc: Global, most_states: usize) -> Result<Vec<IdleLine>, NoMemory>
-        ensures { IfOk result (λ idle. AreIdle self.now idle.items) }
+        ensures idle { IfOk result (λ idle. AreIdle self.now idle.items) }
+        ensures undecided { IfOk result (λ idle. AreUndecided self.now most_states idle.items) }
     {
         self.rule.idle_lines(alloc, most_states)
     }
@@ -249,8 +251,9 @@ impl IgnoreList {
     /// }
     /// ```
     pub fn tidied(&self, alloc: Global, most_states: usize) -> Result<TidyList, NoMemory>
-        ensures { IfOk result (λ tidy. TidiesUp self.now tidy.removed.items tidy.indexes.items
+        ensures tidy { IfOk result (λ tidy. TidiesUp self.now tidy.removed.items tidy.indexes.items
             tidy.list tidy.unknown.items) }
+        ensures undecided { IfOk result (λ tidy. All (IsUndecided tidy.list most_states) tidy.unknown.items) }
     {
         let TidyLines {
             lines,

@@ -1,7 +1,7 @@
 -- Lines that decide nothing, and how they are found.
-use Rattle.std.proofs.Common.{◌≡◌, ◌↔◌, ◌⊎◌, ◌∙◌, ◌<◌, ◌≤◌, ◌+◌, ◌++◌, ◌∷◌, [], ℕ, zero, suc, Bool, true}
-use Rattle.std.proofs.Common.{false, cond, List, Option, Some, None, Contains, IsPermutation, ap, arith, inl}
-use Rattle.std.proofs.Common.{inr, length, length-append, map, refl, slice_get, subst, sym}
+use Rattle.std.proofs.Common.{◌≡◌, ◌↔◌, ◌⊎◌, ◌∙◌, ◌<◌, ◌≤◌, ◌+◌, ◌++◌, ◌∷◌, [], ℕ, zero, suc, true}
+use Rattle.std.proofs.Common.{false, List, Option, Some, None, Contains, IsPermutation, ap, arith, inl}
+use Rattle.std.proofs.Common.{inr, length, length-append, refl, slice_get, subst, sym}
 use Rattle.std.proofs.lemmas.Bool.{cases_eq, cases_lt, false≢true}
 use Rattle.std.proofs.lemmas.List.Elements.{Contains-append_left, Contains-append_right, Contains-push}
 use Rattle.std.proofs.lemmas.List.Elements.{Contains-push_cases}
@@ -12,13 +12,12 @@ use Rattle.std.specs.Prelude.{IfOk, Result, Ok, Err}
 use Rattle.wax_compare.specs.Comparison.{IsWanted}
 use Rattle.wax_compare.specs.declared.wanted.Texts.TheVariants.{Paths}
 use Rattle.wax_compare.specs.declared.wanted.Wanted.TheVariants.{Both, FirstOnly}
-use Rattle.wax_exclude.specs.Idle.{AreIdle, AreIdleAmong, DecidesSome, HasEffect, IsCoveredBy, IsLastOfSome}
-use Rattle.wax_exclude.specs.Idle.{IsPath, IsReason, IsTakenBack, LineIgnores, LineMeans, TakesNothing}
-use Rattle.wax_exclude.specs.inner.Idle.{AreMatchedBy, SomeLineMeans}
+use Rattle.wax_exclude.specs.Idle.{AreIdleAmong, DecidesSome, HasEffect, IsCoveredBy, IsLastOfSome}
+use Rattle.wax_exclude.specs.Idle.{IsPath, IsReason, LineIgnores, LineMeans, TakesNothing}
+use Rattle.wax_exclude.specs.Undecided.{AreGlobsAt, IsGlobAt, SomeLineMeans}
+use Rattle.wax_exclude.specs.inner.Idle.{AreMatchedBy}
 use Rattle.wax_exclude.specs.Ignored.{Line}
 use Rattle.wax_exclude.specs.declared.idle.IdleLine.{IdleLine}
-use Rattle.wax_exclude.specs.declared.idle.IdleReason.{IdleReason}
-use Rattle.wax_exclude.specs.declared.idle.IdleReason.TheVariants.{Covered, TakesNothingBack, Unknown}
 use Rattle.wax_lazy.specs.Numbers.{IsLastNumber}
 use Rattle.wax_match.proofs.Numbered.{numbered_push}
 use Rattle.wax_match.specs.Numbered.{MeansNumbered}
@@ -33,80 +32,62 @@ use Rattle.wax_token.specs.Syntax.{Tree}
 use Rattle.wax_token.specs.Words.{trees}
 
 -- ---- what some lines mean
-some_push : (ts : List (Tree Span)) (t : Tree Span) (s : List ℕ)
-    → MeansSome (trees (ts ++ t ∷ [])) false false s
-    ↔ (MeansSome (trees ts) false false s ⊎ Means t false false s)
-some_push [] t s = (
-  (λ h. elim h [ inl m ↦ inr m | inr n ↦ absurd n ]),
-  (λ h. elim h [ inl n ↦ absurd n | inr m ↦ inl m ]),
-)
-some_push (u ∷ ts) t s =
-    let r = some_push ts t s in (
-      (λ h. elim h [ inl m ↦ inl (inl m) | inr m ↦ elim (r.0 m) [ inl n ↦ inl (inr n) | inr n ↦ inr n ] ]),
-      (λ h. elim h [
-        | inl m ↦ elim m [ inl n ↦ inl n | inr n ↦ inr (r.1 (inl n)) ]
-        | inr m ↦ inr (r.1 (inr m))
-      ]),
-    )
-
 module _ (lines : List (Line Span)) where
   not_among : (s : List ℕ) → SomeLineMeans lines [] s → ⊥
   not_among s h = absurd (let lt : h.1.0 < 0 = h.1.1 in omega (arith, lt))
 
-  pub some_more : (indexes : List ℕ) (i : ℕ) (s : List ℕ) → SomeLineMeans lines (indexes ++ i ∷ []) s
-      ↔ (SomeLineMeans lines indexes s ⊎ LineMeans lines i s)
-  some_more indexes i s = (
-    (λ h. elim (Contains-push_cases indexes i h.0 h.1) [
-      | inl old ↦ inl (h.0, old, h.2)
-      | inr same ↦ inr (subst (λ k. LineMeans lines k s) (sym same) h.2)
+  some_first : (i : ℕ) (indexes : List ℕ) (s : List ℕ) → SomeLineMeans lines (i ∷ indexes) s
+      ↔ (LineMeans lines i s ⊎ SomeLineMeans lines indexes s)
+  some_first i indexes s = (
+    (λ h. elim (cases_eq i h.0) [
+      | inl same ↦ inl (subst (λ k. LineMeans lines k s) (sym same) h.2)
+      | inr other ↦ inr (h.0, Contains-tail i indexes h.0 other h.1, h.2)
     ]),
     (λ h. elim h [
-      | inl old ↦ (old.0, Contains-append_left indexes (i ∷ []) old.0 old.1, old.2)
-      | inr m ↦ (i, Contains-push indexes i, m)
+      | inl m ↦ (i, Contains-append_left (i ∷ []) indexes i (Contains-push [] i), m)
+      | inr later ↦ (later.0, Contains-append_right (i ∷ []) indexes later.0 later.1, later.2)
     ]),
   )
 
   pub only_one : (i : ℕ) (s : List ℕ) → SomeLineMeans lines (i ∷ []) s ↔ LineMeans lines i s
   only_one i s = (
-    (λ h. elim ((some_more [] i s).0 h) [ inl n ↦ absurd (not_among s n) | inr m ↦ m ]),
-    (λ m. (some_more [] i s).1 (inr m)),
+    (λ h. elim ((some_first i [] s).0 h) [ inl m ↦ m | inr n ↦ absurd (not_among s n) ]),
+    (λ m. (some_first i [] s).1 (inl m)),
   )
 
-  -- the tokens mean what the lines with these indexes do
-  abbrev pub AreTokensOf : List (Tree Span) → List ℕ → Type 0
-  AreTokensOf tokens indexes = (s : List ℕ) → MeansSome (trees tokens) false false s
-      ↔ SomeLineMeans lines indexes s
-
-  pub no_tokens : (tokens : List (Tree Span)) → tokens ≡ [] → AreTokensOf tokens []
-  no_tokens tokens e s = subst (λ ts. MeansSome (trees ts) false false s ↔ SomeLineMeans lines [] s) (sym e)
-      ((λ h. absurd h), (λ h. absurd (not_among s h)))
-
-  pub tokens_more : (old new : List (Tree Span)) (indexes : List ℕ) (i : ℕ) (line : Line Span)
-      → slice_get lines i ≡ Some line → new ≡ old ++ line.glob ∷ []
-      → AreTokensOf old indexes → AreTokensOf new (indexes ++ i ∷ [])
-  tokens_more old new indexes i line is grown are s =
-      let both = some_push old line.glob s in
-      let more = some_more indexes i s in (
-        (λ h. more.1 (elim (both.0 (subst (λ ts. MeansSome (trees ts) false false s) grown h)) [
-          | inl m ↦ inl ((are s).0 m)
-          | inr m ↦ inr (record { line = line; is = is; means = m })
+  -- globs mean what their lines do
+  pub globs_mean : (indexes : List ℕ) (globs : List (Tree Span)) → AreGlobsAt lines indexes globs
+      → (s : List ℕ) → MeansSome (trees globs) false false s ↔ SomeLineMeans lines indexes s
+  globs_mean [] [] at s = ((λ h. absurd h), (λ h. absurd (not_among s h)))
+  globs_mean [] (t ∷ globs) at s = absurd at
+  globs_mean (i ∷ indexes) [] at s = absurd at
+  globs_mean (i ∷ indexes) (t ∷ globs) at s =
+      let rest = globs_mean indexes globs at.1 s in
+      let first = some_first i indexes s in (
+        (λ h. first.1 (elim h [
+          | inl m ↦ inl (record {
+            line = at.0.line;
+            is = at.0.is;
+            means = subst (λ u. Means u false false s) at.0.glob_is m;
+          })
+          | inr m ↦ inr (rest.0 m)
         ])),
-        (λ h. subst (λ ts. MeansSome (trees ts) false false s) (sym grown) (both.1 (elim (more.0 h) [
-          | inl m ↦ inl ((are s).1 m)
-          | inr m ↦ inr (subst (λ l. Means l.glob false false s) (same_Some m.line line (sym m.is ∙ is))
-              m.means)
-        ]))),
+        (λ h. elim (first.0 h) [
+          | inl m ↦ inl (subst (λ u. Means u false false s) (sym at.0.glob_is)
+              (subst (λ l. Means l.glob false false s) (same_Some m.line at.0.line (sym m.is ∙ at.0.is))
+              m.means))
+          | inr m ↦ inr (rest.1 m)
+        ]),
       )
 
-  -- a line that isn't there means nothing
-  pub tokens_same : (tokens : List (Tree Span)) (indexes : List ℕ) (i : ℕ) → (i < length lines → ⊥)
-      → AreTokensOf tokens indexes → AreTokensOf tokens (indexes ++ i ∷ [])
-  tokens_same tokens indexes i none are s =
-      let more = some_more indexes i s in (
-        (λ h. more.1 (inl ((are s).0 h))),
-        (λ h. elim (more.0
-            h) [ inl m ↦ (are s).1 m | inr m ↦ absurd (none (slice_get_within lines i m.line m.is)) ]),
-      )
+  pub one_glob_more : (indexes : List ℕ) (globs : List (Tree Span)) (index : ℕ) (glob : Tree Span)
+      → AreGlobsAt lines indexes globs → IsGlobAt lines index glob
+      → AreGlobsAt lines (indexes ++ index ∷ []) (globs ++ glob ∷ [])
+  one_glob_more [] [] index glob are is = (is, tt)
+  one_glob_more [] (t ∷ globs) index glob are is = absurd are
+  one_glob_more (i ∷ indexes) [] index glob are is = absurd are
+  one_glob_more (i ∷ indexes) (t ∷ globs) index glob are is =
+      (are.0, one_glob_more indexes globs index glob are.1 is)
 
   -- ---- whether lines mean a text
   line_decided : (i : ℕ) (s : List ℕ) → Decided (LineMeans lines i s)
@@ -123,13 +104,10 @@ module _ (lines : List (Line Span)) where
   among_decided : (indexes : List ℕ) (s : List ℕ) → Decided (SomeLineMeans lines indexes s)
   among_decided [] s = inr (not_among s)
   among_decided (i ∷ indexes) s = elim (line_decided i s) [
-    | inl m ↦ inl (i, Contains-append_left (i ∷ []) indexes i (Contains-push [] i), m)
+    | inl m ↦ inl ((some_first i indexes s).1 (inl m))
     | inr n ↦ elim (among_decided indexes s) [
-      | inl h ↦ inl (h.0, Contains-append_right (i ∷ []) indexes h.0 h.1, h.2)
-      | inr none ↦ inr (λ h. elim (cases_eq i h.0) [
-        | inl same ↦ n (subst (λ k. LineMeans lines k s) (sym same) h.2)
-        | inr other ↦ none (h.0, Contains-tail i indexes h.0 other h.1, h.2)
-      ])
+      | inl h ↦ inl ((some_first i indexes s).1 (inr h))
+      | inr none ↦ inr (λ h. elim ((some_first i indexes s).0 h) [ inl m ↦ n m | inr later ↦ none later ])
     ]
   ]
 

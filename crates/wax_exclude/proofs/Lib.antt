@@ -56,6 +56,7 @@ pub mod Telling
 pub mod Tests
 pub mod Texts
 pub mod TidyUp
+pub mod Undecided
 pub mod Unslashed
 pub mod Walked
 pub mod Wanting

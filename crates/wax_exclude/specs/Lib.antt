@@ -23,6 +23,7 @@ pub mod GlobRequests
 pub mod Feeds
 pub mod Tidy
 pub mod Told
+pub mod Undecided
 pub mod Unignored
 pub mod Walked
 pub mod Wanted

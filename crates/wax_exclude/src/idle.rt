@@ -1,12 +1,14 @@
 //! Lines of an ignore list that decide nothing.
-ghost use Rattle.std.specs.Prelude.{◌≡◌, ◌↔◌, ◌<◌, ℕ, List, IfOk, IfSome, MatchOption, length};
+ghost use Rattle.std.specs.Prelude.{◌≡◌, ◌↔◌, ◌<◌, ℕ, All, List, IfOk, MatchOption, Some, length};
 ghost use Rattle.std.specs.Bool.{MatchBool};
 ghost use Rattle.wax_compare.specs.Comparison.{IsAnswer, IsWanted};
+ghost use Rattle.wax_compare.specs.Limit.{AllDiffer};
 ghost use Rattle.wax_compare.specs.declared.wanted.Texts.TheVariants.{Paths};
 ghost use Rattle.wax_exclude.specs.Idle.{AllIdleLinesCanGo, AreIdle, DecidesSome, HasEffect};
 ghost use Rattle.wax_exclude.specs.Idle.{IdleLinesCanGo, IdleLinesCanGoTogether, IsReason, LineIgnores};
 ghost use Rattle.wax_exclude.specs.Idle.{LineMeans, TakesNothing};
-ghost use Rattle.wax_exclude.specs.inner.Idle.{AreMatchedBy, IsCovering, SomeLineMeans};
+ghost use Rattle.wax_exclude.specs.Undecided.{AreTooLarge, AreUndecided, IsUndecided, SomeLineMeans};
+ghost use Rattle.wax_exclude.specs.inner.Idle.{AreMatchedBy, IsCovering};
 ghost use Rattle.wax_program.specs.Machine.{Accepts};
 
 use crate::rules::IgnoreLine;
@@ -64,7 +66,8 @@ pub(crate) fn idle_lines(
     lines: &[IgnoreLine],
     most_states: usize,
 ) -> Result<Vec<IdleLine>, NoMemory>
-    ensures { IfOk result (λ idle. AreIdle lines.now idle.items) }
+    ensures idle { IfOk result (λ idle. AreIdle lines.now idle.items) }
+    ensures undecided { IfOk result (λ idle. AreUndecided lines.now most_states idle.items) }
 {
     let numbered = Matcher::new(alloc, numbered_by_index(alloc, lines)?)?;
     let mut compared = Lines {
@@ -89,9 +92,12 @@ impl Lines<'_> {
         requires numbered { AreMatchedBy self.old.lines.now self.old.numbered }
         ensures lines { self.new.lines ≡ self.old.lines }
         ensures numbered { self.new.numbered ≡ self.old.numbered }
+        ensures most { self.new.most_states ≡ self.old.most_states }
         ensures reason { let lines = self.old.lines.now in IfOk result (λ reason. MatchOption reason
             (DecidesSome (LineIgnores lines) (LineMeans lines) index)
             (IsReason (LineIgnores lines) (LineMeans lines) index)) }
+        ensures undecided { IfOk result (λ reason. reason ≡ Some IdleReason.Unknown
+            → IsUndecided self.old.lines.now self.old.most_states index) }
     {
         let covering = self.covering(index)?;
         if let Covering::By(covers) = covering {
@@ -116,11 +122,12 @@ impl Lines<'_> {
         requires numbered { AreMatchedBy self.old.lines.now self.old.numbered }
         ensures lines { self.new.lines ≡ self.old.lines }
         ensures numbered { self.new.numbered ≡ self.old.numbered }
-        ensures covering { IfOk result (IsCovering self.old.lines.now index) }
+        ensures most { self.new.most_states ≡ self.old.most_states }
+        ensures covering { IfOk result (IsCovering self.old.lines.now self.old.most_states index) }
     {
         let mut covers = Vec::new(self.alloc);
         // Each round adds another one of the later lines, so there are enough.
-        for _round in index..self.lines.len() {
+        for _round in 0..self.lines.len() {
             let path = match self.compare(index, &covers, Wanted::FirstOnly)? {
                 Comparison::Nothing => {
                     covers.sort_unstable();
@@ -135,15 +142,16 @@ impl Lines<'_> {
             }
             covers.push(last)?;
         }
-        Ok(Covering::Unknown)
+        unreachable!()
     }
 
     /// Returns whether a line ignores, or an earlier line that ignores matches a plain path that it
     /// matches. Returns `None` if that isn't known.
     fn has_effect(&self, index: usize) -> Result<Option<bool>, NoMemory>
         requires { index < length self.now.lines.now }
-        ensures { let lines = self.now.lines.now in IfOk result (λ known. IfSome known (λ answer.
-            MatchBool answer (HasEffect (LineIgnores lines) (LineMeans lines) index)
+        ensures { let lines = self.now.lines.now in IfOk result (λ known. MatchOption known
+            (IsUndecided lines self.now.most_states index)
+            (λ answer. MatchBool answer (HasEffect (LineIgnores lines) (LineMeans lines) index)
             (TakesNothing (LineIgnores lines) (LineMeans lines) index))) }
     {
         if self.lines[index].ignores() {
@@ -169,19 +177,23 @@ impl Lines<'_> {
         others: &[usize],
         wanted: Wanted,
     ) -> Result<Comparison, NoMemory>
-        ensures { let lines = self.now.lines.now in IfOk result (IsAnswer
+        requires index { index < length self.now.lines.now }
+        requires within { All (λ k. k < length self.now.lines.now) others.now }
+        requires differ { AllDiffer others.now }
+        ensures answer { let lines = self.now.lines.now in IfOk result (IsAnswer
             (IsWanted wanted Paths (LineMeans lines index) (SomeLineMeans lines others.now))) }
+        ensures undecided { IfOk result (λ found. found ≡ Comparison.Unknown
+            → IsUndecided self.now.lines.now self.now.most_states index) }
     {
-        let first = union_of(self.alloc, self.lines, &[index])?;
-        let second = union_of(self.alloc, self.lines, others)?;
-        match (first, second) {
-            (Some(first), Some(second)) => {
-                let most = self.most_states;
-                let found = find_text(self.alloc, &first, &second, wanted, Texts::Paths, most)?;
-                Ok(found)
-            }
-            _ => Ok(Comparison::Unknown),
-        }
+        let Some(first) = union_of(self.alloc, self.lines, &[index])? else {
+            return Ok(Comparison::Unknown);
+        };
+        let Some(second) = union_of(self.alloc, self.lines, others)? else {
+            return Ok(Comparison::Unknown);
+        };
+        let most = self.most_states;
+        let found = find_text(self.alloc, &first, &second, wanted, Texts::Paths, most)?;
+        Ok(found)
     }
 }
 
@@ -206,14 +218,13 @@ fn union_of(
     lines: &[IgnoreLine],
     indexes: &[usize],
 ) -> Result<Option<CompiledProgram>, NoMemory>
-    ensures { IfOk result (λ known. IfSome known (λ p. (s : List ℕ)
-        → Accepts p.0 0 s ↔ SomeLineMeans lines.now indexes.now s)) }
+    requires { All (λ k. k < length lines.now) indexes.now }
+    ensures { IfOk result (λ known. MatchOption known (AreTooLarge lines.now indexes.now)
+        (λ p. (s : List ℕ) → Accepts p.0 0 s ↔ SomeLineMeans lines.now indexes.now s)) }
 {
     let mut tokens = Vec::new(alloc);
     for index in indexes {
-        if let Some(line) = lines.get(*index) {
-            tokens.push(line.glob().to_owned(alloc)?)?;
-        }
+        tokens.push(lines[*index].glob().to_owned(alloc)?)?;
     }
     let branch = BranchKind::Alternation(Alternation { tokens });
     let union = new_branch(branch, ExpressionMetadata::new((0, 0)));

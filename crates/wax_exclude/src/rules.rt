@@ -1,5 +1,6 @@
 //! Ignore lists as rules of walks.
-ghost use Rattle.std.specs.Prelude.{◌≡◌, ◌↔◌, ◌<◌, ◌≤◌, ℕ, IsTrue, List, IfOk, MatchResult, chars, true};
+ghost use Rattle.std.specs.Prelude.{◌≡◌, ◌↔◌, ◌<◌, ◌≤◌, ℕ, All, IsTrue, List, IfOk, MatchResult, chars};
+ghost use Rattle.std.specs.Prelude.{true};
 ghost use Rattle.wax_query.specs.Below.{IsBelow};
 ghost use Rattle.wax_token.specs.Cost.{program_length};
 ghost use Rattle.wax_walk.specs.Given.{with_tree};
@@ -8,6 +9,7 @@ ghost use Rattle.wax_exclude.specs.Deciding.{IsDecidingLine, SaysLines, ignores_
 ghost use Rattle.wax_exclude.specs.Idle.{AreIdle};
 ghost use Rattle.wax_exclude.specs.Ignored.{IgnoresBelow, is_ignored};
 ghost use Rattle.wax_exclude.specs.Tidy.{TidiesUp};
+ghost use Rattle.wax_exclude.specs.Undecided.{AreUndecided, IsUndecided};
 
 use crate::deciding::DecidingLines;
 use crate::folders::{folder_candidate, is_tree};
@@ -185,7 +187,8 @@ impl IgnoreRule {
     /// Returns the lines that decide nothing about plain paths, in order, each with the reason. A line
     /// is compared with few others, mostly; each comparison reaches at most `most_states` states.
     pub fn idle_lines(&self, alloc: Global, most_states: usize) -> Result<Vec<IdleLine>, NoMemory>
-        ensures { IfOk result (λ idle. AreIdle self.now idle.items) }
+        ensures idle { IfOk result (λ idle. AreIdle self.now idle.items) }
+        ensures undecided { IfOk result (λ idle. AreUndecided self.now most_states idle.items) }
     {
         idle::idle_lines(alloc, self.lines.as_slice(), most_states)
     }
@@ -195,8 +198,10 @@ impl IgnoreRule {
     /// without some lines, others may decide nothing, too. Each comparison reaches at most `most_states`
     /// states. The lines are copied.
     pub fn tidied(&self, alloc: Global, most_states: usize) -> Result<TidyLines, NoMemory>
-        ensures { IfOk result (λ tidy. TidiesUp self.now tidy.removed.items tidy.indexes.items
+        ensures tidy { IfOk result (λ tidy. TidiesUp self.now tidy.removed.items tidy.indexes.items
             tidy.lines.items tidy.unknown.items) }
+        ensures undecided { IfOk result
+            (λ tidy. All (IsUndecided tidy.lines.items most_states) tidy.unknown.items) }
     {
         tidy::tidied(alloc, self.lines.as_slice(), most_states)
     }

@@ -3,6 +3,7 @@ ghost use Rattle.std.specs.Prelude.{◌≡◌, ◌==◌, ◌<◌, All, IfOk, fil
 ghost use Rattle.std.specs.List.{AllZip, list_any, range_with_len};
 ghost use Rattle.wax_exclude.specs.Idle.{is_known, without};
 ghost use Rattle.wax_exclude.specs.Tidy.{TidiesUp, indexes_of};
+ghost use Rattle.wax_exclude.specs.Undecided.{IsUndecided};
 ghost use Rattle.wax_exclude.specs.inner.Tidy.{IsRenumbered, IsSameReason, unknown_indexes};
 
 use crate::idle::{IdleLine, IdleReason, idle_lines};
@@ -31,8 +32,10 @@ pub(crate) fn tidied(
     lines: &[IgnoreLine],
     most_states: usize,
 ) -> Result<TidyLines, NoMemory>
-    ensures { IfOk result (λ tidy. TidiesUp lines.now tidy.removed.items tidy.indexes.items
+    ensures tidy { IfOk result (λ tidy. TidiesUp lines.now tidy.removed.items tidy.indexes.items
         tidy.lines.items tidy.unknown.items) }
+    ensures undecided { IfOk result
+        (λ tidy. All (IsUndecided tidy.lines.items most_states) tidy.unknown.items) }
 {
     let mut indexes = all_indexes(alloc, lines.len())?;
     let mut removed = Vec::new(alloc);

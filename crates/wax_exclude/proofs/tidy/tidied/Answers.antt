@@ -5,8 +5,10 @@ use Rattle.std.proofs.lemmas.List.{nil_from_length}
 use Rattle.std.specs.List.{AllZip}
 use Rattle.wax_exclude.proofs.TidyUp.{IsLeft, all_left, all_within, fewer, fewer_left, tidied_up}
 use Rattle.wax_exclude.proofs.tidy.tidied.Goals.{In_ok-found, In_ok-idle, In_ok-indexes-2}
+use Rattle.wax_exclude.proofs.Undecided.{each_undecided}
 use Rattle.wax_exclude.specs.Idle.{AreIdle, without}
 use Rattle.wax_exclude.specs.Tidy.{TidiesUp, indexes_of}
+use Rattle.wax_exclude.specs.Undecided.{AreUndecided, IsUndecided}
 use Rattle.wax_exclude.specs.inner.Tidy.{IsRenumbered, unknown_indexes}
 use Rattle.wax_exclude.proofs.tidy.tidied.Goals as goal
 
@@ -25,11 +27,27 @@ are_left c = c.in_ok-left.ensures ∙ ap (filter_map (slice_get c.args.lines.now
 are_idle : (c : In_ok-idle) → AreIdle c.in_ok-left.left.items c.in_ok-idle.idle.items
 are_idle c =
     subst (λ lines. AreIdle lines c.in_ok-idle.idle.items) c.deref-in-loop-removed.ensures.value
-    c.in_ok-idle.ensures
+    c.in_ok-idle.ensures.idle
 
-pub returns-then-is_empty : goal.returns-then-is_empty
-returns-then-is_empty c =
-    let at = (goal.at.returns-then-is_empty c).In_ok-idle in
+-- those of which it isn't known
+are_undecided : (c : In_ok-idle)
+    → AreUndecided c.in_ok-left.left.items c.args.most_states c.in_ok-idle.idle.items
+are_undecided c =
+    subst (λ lines. AreUndecided lines c.args.most_states c.in_ok-idle.idle.items)
+    c.deref-in-loop-removed.ensures.value c.in_ok-idle.ensures.undecided
+
+pub returns-then-is_empty-clause-undecided : goal.returns-then-is_empty-clause-undecided
+returns-then-is_empty-clause-undecided c =
+    let at = (goal.at.returns-then-is_empty-clause-undecided c).In_ok-idle in
+    let left = c.in_ok-left.left.items in
+    let most = c.args.most_states in
+    subst (All (IsUndecided left most))
+    (sym (c.in_ok-unknown.ensures ∙ ap unknown_indexes c.deref-in-loop-removed-2.ensures.value))
+    (each_undecided left most c.in_ok-idle.idle.items (are_undecided at))
+
+pub returns-then-is_empty-clause-tidy : goal.returns-then-is_empty-clause-tidy
+returns-then-is_empty-clause-tidy c =
+    let at = (goal.at.returns-then-is_empty-clause-tidy c).In_ok-idle in
     let lines = c.args.lines.now in
     let left = c.in_ok-left.left.items in
     let removed = c.loop-removed.removed.items in

@@ -5,7 +5,7 @@ use Rattle.wax_compare.specs.declared.wanted.Texts.TheVariants.{Paths}
 use Rattle.wax_compare.specs.declared.wanted.Wanted.TheVariants.{Both}
 use Rattle.wax_exclude.proofs.IdleLines.{takes_none_of_other, takes_nothing, takes_some}
 use Rattle.wax_exclude.specs.Idle.{LineMeans}
-use Rattle.wax_exclude.specs.inner.Idle.{SomeLineMeans}
+use Rattle.wax_exclude.specs.Undecided.{SomeLineMeans}
 use Rattle.wax_exclude.proofs.idle.Lines.has_effect.Goals as goal
 
 pub loop-earlier-preserved-then-not-ignores : goal.loop-earlier-preserved-then-not-ignores
@@ -25,7 +25,7 @@ returns-in-Text c =
     let low : k < length lines = omega (arith, c.loop-earlier-test.true, c.requires) in
     let wanted =
     (subst (IsAnswer (IsWanted Both Paths (LineMeans lines c.args.index) (SomeLineMeans lines (k ∷ []))))
-    c.in-Text.is c.in_ok-compare.ensures).0 in
+    c.in-Text.is c.in_ok-compare.ensures.answer).0 in
     takes_some lines c.args.index k (get_or lines k line) _ (slice_get-get_or lines k line low)
     (sym c.ignores-in-loop-earlier.ensures ∙ c.if-not-ignores.false) c.loop-earlier-test.true wanted
 
