@@ -50,5 +50,5 @@ pub use wax_query::matching::{
     BuildMatcher, CandidatePath, MatchedText, PathMatcher, Program, ProgramMatcher,
 };
 pub use wax_set::{
-    Any, AnyMatcher, BuildError, ErrorLocation, GlobError, OwnedAnyMatcher, Pattern, any,
+    Any, AnyMatcher, BuildError, Conflict, ErrorLocation, GlobError, OwnedAnyMatcher, Pattern, any,
 };

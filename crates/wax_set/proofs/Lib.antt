@@ -1,4 +1,6 @@
 pub mod Columns
+pub mod Conflicts
+pub mod Edges
 pub mod Lined
 pub mod Marking
 pub mod Matchers

@@ -1,3 +1,4 @@
+pub mod Conflicts
 pub mod Drawn
 pub mod Expressions
 pub mod Locations
@@ -7,3 +8,4 @@ pub mod PictureLines
 pub mod Refusals
 pub mod Sets
 pub mod Walks
+pub mod inner

@@ -7,4 +7,4 @@ mod set;
 
 pub use error::{BuildError, ErrorLocation, GlobError, law_of_pictures, parse_and_check, picture};
 pub use pattern::{Pattern, any};
-pub use set::{Any, AnyMatcher, OwnedAnyMatcher, SetWalk};
+pub use set::{Any, AnyMatcher, Conflict, OwnedAnyMatcher, SetWalk};

@@ -22,12 +22,15 @@ ghost use Rattle.wax_token.specs.Syntax.{alternation};
 ghost use Rattle.wax_token.specs.Words.{trees};
 ghost use Rattle.wax_set.specs.Patterns.{LacksMemory};
 
+mod conflicts;
+mod edges;
 mod matcher;
 mod owned;
 mod walking;
 
 use crate::error::BuildError;
 use crate::pattern::Pattern;
+pub use conflicts::Conflict;
 pub use matcher::AnyMatcher;
 use matcher::MOST_NUMBERED;
 pub use owned::OwnedAnyMatcher;

@@ -1,10 +1,11 @@
-//! Two globs or sets that are compared, and the lines of ignore lists that decide nothing.
+//! Two globs or sets that are compared, patterns of a set that match one path, and the lines of ignore
+//! lists that decide nothing.
 
 use crate::kinds::Question;
 use crate::{lists, sets};
 use std::alloc::Global;
 use wax::walk::{IdleReason, IgnoreList};
-use wax::{Compared, Comparison, Glob, NoMemory, Texts, difference, overlap};
+use wax::{Any, Compared, Comparison, Glob, NoMemory, Texts, compare, difference, overlap};
 use wax_test_kit::answer::Answer;
 use wax_test_kit::rows::DataRow;
 
@@ -41,18 +42,19 @@ fn compare_with<A: Compared>(
     let second = row.input(3);
     if second.contains(' ') {
         match sets::set_of(alloc, second) {
-            Ok(set) => compare(alloc, question, first, &set, row, made),
+            Ok(set) => add_found(alloc, question, first, &set, row, made),
             Err(error) => sets::add_error(&error, made),
         }
     } else {
         match Glob::new(alloc, second) {
-            Ok(glob) => compare(alloc, question, first, &glob, row, made),
+            Ok(glob) => add_found(alloc, question, first, &glob, row, made),
             Err(error) => sets::add_error(&error, made),
         }
     }
 }
 
-fn compare<A: Compared, B: Compared>(
+/// Adds the answer to a question about two globs or sets.
+fn add_found<A: Compared, B: Compared>(
     alloc: Global,
     question: Question,
     first: &A,
@@ -68,6 +70,7 @@ fn compare<A: Compared, B: Compared>(
     let found = match question {
         Question::Overlap => overlap(alloc, first, second, texts, most_states)?,
         Question::Difference => difference(alloc, first, second, texts, most_states)?,
+        Question::Compare => compare(alloc, first, second, texts, most_states)?,
     };
     match found {
         Comparison::Nothing => made.add("nothing"),
@@ -83,6 +86,31 @@ fn compare<A: Compared, B: Compared>(
 /// Returns the limit of states in an input.
 fn most_states(row: &DataRow, index: usize) -> usize {
     usize::try_from(row.number(index, 0)).unwrap_or(usize::MAX)
+}
+
+/// Adds the pairs of patterns of a set that match one path, each with such a path, or `none`.
+pub fn add_conflicts(
+    alloc: Global,
+    set: &Any<'_>,
+    row: &DataRow,
+    made: &mut Answer,
+) -> Result<(), NoMemory> {
+    let conflicts = set.conflicts(alloc, most_states(row, 1))?;
+    if conflicts.is_empty() {
+        made.add("none");
+    }
+    for (place, conflict) in conflicts.iter().enumerate() {
+        made.add(if place > 0 { "; " } else { "" });
+        made.show(&conflict.first);
+        made.add(" ");
+        made.show(&conflict.second);
+        made.add(" ");
+        match &conflict.path {
+            Some(path) => made.quote(path),
+            None => made.add("unknown"),
+        }
+    }
+    Ok(())
 }
 
 /// Adds the lines of a list that decide nothing, each with its index and the reason, or `none`. For a

@@ -38,6 +38,7 @@ pub enum SetFact {
     Matches,
     Verdicts,
     Metered,
+    Conflicts,
     Facts,
     Length,
     Empty,
@@ -49,6 +50,7 @@ pub enum SetFact {
 pub enum Question {
     Overlap,
     Difference,
+    Compare,
 }
 
 /// A fact of a glob, or of the error why it can't be built.
@@ -160,6 +162,7 @@ static KINDS: &[(&str, usize, Kind)] = &[
     ("set_goes_on", 2, Kind::Set(SetFact::GoesOn)),
     ("set_matches", 2, Kind::Set(SetFact::Matches)),
     ("set_verdicts", 2, Kind::Set(SetFact::Verdicts)),
+    ("set_conflicts", 2, Kind::Set(SetFact::Conflicts)),
     ("set_facts", 1, Kind::Set(SetFact::Facts)),
     ("set_length", 1, Kind::Set(SetFact::Length)),
     ("nested_length", 1, Kind::Set(SetFact::Length)),
@@ -169,6 +172,7 @@ static KINDS: &[(&str, usize, Kind)] = &[
     ("tree_glob", 1, Kind::Tree),
     ("overlap", 4, Kind::Compared(Question::Overlap)),
     ("difference", 4, Kind::Compared(Question::Difference)),
+    ("compare", 4, Kind::Compared(Question::Compare)),
     ("ignored", 2, Kind::Ignored),
     ("ignored_twice", 2, Kind::IgnoredTwice),
     ("bad_line", 1, Kind::Ignored),

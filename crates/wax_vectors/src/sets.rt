@@ -1,5 +1,6 @@
 //! Facts of sets of patterns. Patterns have spaces between them, and sets have semicolons.
 
+use crate::comparisons;
 use crate::globs::{add_answers, add_facts, add_is_match, add_match, add_verdicts, add_visited};
 use crate::kinds::SetFact;
 use std::alloc::{AllocError, Global};
@@ -48,6 +49,7 @@ fn built(alloc: Global, fact: SetFact, patterns: &str) -> Result<Set, BuildError
         | SetFact::Matches
         | SetFact::Verdicts
         | SetFact::Metered
+        | SetFact::Conflicts
         | SetFact::Facts => set_of(alloc, patterns),
     }
 }
@@ -82,6 +84,7 @@ fn of_set(
             add_visited(is_match, meter.ticks(), row.input(2), made);
             Ok(())
         }
+        SetFact::Conflicts => comparisons::add_conflicts(alloc, set, row, made),
         SetFact::Empty => add_is_match(alloc, set, row.input(0), made),
         SetFact::Facts => {
             made.debug(set);
