@@ -25,7 +25,7 @@ pub fn add_match(
     page: &mut Page,
 ) -> Result<(), NoMemory> {
     page.add("\n");
-    page.part(path, 0, path.len());
+    page.whole(path);
     let path = CandidatePath::from(path);
     match glob.matched(alloc, &path) {
         Ok(Some(matched)) => {

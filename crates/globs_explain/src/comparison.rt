@@ -47,7 +47,7 @@ pub fn add_found<'c>(found: &'c Comparison, page: &mut Page) -> Option<&'c str> 
         }
         Comparison::Text(path) => {
             page.add("witness ");
-            page.part(path, 0, path.len());
+            page.whole(path);
             page.add("\n");
             Some(path.as_str())
         }
@@ -58,6 +58,6 @@ pub fn add_found<'c>(found: &'c Comparison, page: &mut Page) -> Option<&'c str> 
 fn add_match(alloc: Global, glob: &Glob<'_>, path: &str, page: &mut Page) -> Result<(), NoMemory> {
     let expression = glob.expression();
     page.add("\n");
-    page.part(expression, 0, expression.len());
+    page.whole(expression);
     captured::add_match(alloc, glob, path, page)
 }

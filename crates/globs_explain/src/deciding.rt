@@ -67,7 +67,7 @@ fn add_line(
     let index = deciding.deciding_line(&CandidatePath::from(path))?;
     add_deciding_line(written, index, page);
     page.add("\t");
-    page.part(path, 0, path.len());
+    page.whole(path);
     page.add("\n");
     Ok(())
 }

@@ -64,6 +64,6 @@ fn add_text(text: &str, empty: &str, page: &mut Page) {
     if text.is_empty() {
         page.add(empty);
     } else {
-        page.part(text, 0, text.len());
+        page.whole(text);
     }
 }

@@ -1,4 +1,4 @@
-//! Files with ignore lists.
+//! Files with text, and with ignore lists.
 
 use std::fs;
 use std::io::{self, ErrorKind};
@@ -34,7 +34,11 @@ impl ListFile {
 }
 
 /// Reads the text of a file. Prints what is wrong with the file if it has none.
-fn text_in(rt: &HostRuntime, file: &str) -> io::Result<Option<String>> {
+///
+/// # Errors
+///
+/// Returns an error if memory runs out or a write fails.
+pub fn text_in(rt: &HostRuntime, file: &str) -> io::Result<Option<String>> {
     let bytes = match fs::read(rt, file) {
         Ok(bytes) => bytes,
         Err(error) if error.kind() == ErrorKind::OutOfMemory => return Err(error),

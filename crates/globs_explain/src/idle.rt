@@ -11,10 +11,20 @@ use wax::{MOST_STATES, NoMemory};
 pub fn add_idle(alloc: Global, file: &ListFile, page: &mut Page) -> Result<(), NoMemory> {
     let written = written_lines(alloc, &file.text)?;
     for line in file.list.idle_lines(alloc, MOST_STATES)? {
-        add_line(&written, line.index, page);
-        add_reason(&written, &line.reason, page);
+        add_idle_line(&written, line.index, &line.reason, page);
     }
     Ok(())
+}
+
+/// Adds a line: its number, its text and why it decides nothing.
+pub fn add_idle_line(
+    written: &[WrittenLine<'_>],
+    index: usize,
+    reason: &IdleReason,
+    page: &mut Page,
+) {
+    add_line(written, index, page);
+    add_reason(written, reason, page);
 }
 
 /// Adds why a line decides nothing.

@@ -1,10 +1,13 @@
 //! The program `globs_explain`: shows how an expression is read, what is known of it, and what it
-//! captures of a path; or its error. Compares two expressions or two ignore lists, and finds the line of
-//! an ignore list that decides about a path, and the lines that decide nothing.
+//! captures of a path; or its error. Compares two expressions or two ignore lists, and finds the rules of
+//! a file that match one path. Of an ignore list it finds the line that decides about a path, and the
+//! lines that decide nothing, and writes the list without these.
 #![tactic(auto)]
 
 mod captured;
+mod command;
 mod comparison;
+mod conflicts;
 mod deciding;
 mod dot;
 mod facts;
@@ -14,12 +17,16 @@ mod input;
 mod list_comparison;
 mod numbered_lines;
 mod page;
+mod rules;
+mod tidy;
 mod tokens;
 mod visits;
 
+use command::{Command, USAGE, command_of};
 use comparison::Question;
 use files::ListFile;
 use page::Page;
+use rules::RuleFile;
 use std::alloc::Global;
 use std::process::ExitCode;
 use std::{env, io};
@@ -27,15 +34,8 @@ use wax::diagnostics::LocatedError;
 use wax::token::parse;
 use wax::{BuildError, Glob, NoMemory};
 
-const USAGE: &str = "\
-usage: globs_explain EXPR [PATH]
-       globs_explain --dot EXPR
-       globs_explain --overlap EXPR EXPR
-       globs_explain --difference EXPR EXPR
-       globs_explain --idle FILE
-       globs_explain --ignored FILE [PATH]..
-       globs_explain --compare FILE FILE
-";
+/// The newest version of CHANGELOG.md.
+const VERSION: &str = "14.1.0";
 
 fn main(rt: HostRuntime) -> ExitCode {
     match run(&rt) {
@@ -47,49 +47,70 @@ fn main(rt: HostRuntime) -> ExitCode {
     }
 }
 
-/// Does what the arguments ask for, and returns the exit status.
+/// Does what the arguments ask for, and returns the exit status. Only the first one may be an option,
+/// which begins with `--`.
 fn run(rt: &HostRuntime) -> io::Result<u8> {
     let mut words = Vec::new(rt.alloc());
     for word in env::args(rt)?.skip(1) {
         words.push(word)?;
     }
-    let mut page = Page::new(rt.alloc());
+    match words.as_slice() {
+        [option, operands @ ..] if option.starts_with("--") => run_option(rt, option, operands),
+        operands => run_command(rt, Command::Explain, operands),
+    }
+}
+
+/// Does what an option asks for, and returns the exit status.
+fn run_option(rt: &HostRuntime, option: &str, operands: &[String]) -> io::Result<u8> {
+    match command_of(option) {
+        Some(command) => run_command(rt, command, operands),
+        None => print_usage(rt),
+    }
+}
+
+/// Does what a command asks for, and returns the exit status.
+fn run_command(rt: &HostRuntime, command: Command, operands: &[String]) -> io::Result<u8> {
     let alloc = rt.alloc();
-    let status = match words.as_slice() {
-        [flag, expression] if flag.as_str() == "--dot" => draw(alloc, expression, &mut page),
-        [flag, first, second] if flag.as_str() == "--overlap" => {
-            compare_globs(alloc, Question::Overlap, first, second, &mut page)
+    let mut page = Page::new(alloc);
+    let status = match (command, operands) {
+        (Command::Explain, [expression]) => explain(alloc, expression, None, &mut page),
+        (Command::Explain, [expression, path]) => explain(alloc, expression, Some(path), &mut page),
+        (Command::Draw, [expression]) => draw(alloc, expression, &mut page),
+        (Command::CompareGlobs(question), [first, second]) => {
+            compare_globs(alloc, question, first, second, &mut page)
         }
-        [flag, first, second] if flag.as_str() == "--difference" => {
-            compare_globs(alloc, Question::Difference, first, second, &mut page)
-        }
-        [flag, file] if flag.as_str() == "--idle" => find_idle(rt, file, &mut page)?,
-        [flag, file, paths @ ..] if flag.as_str() == "--ignored" => {
-            return deciding::print_lines(rt, file, paths);
-        }
-        [flag, first, second] if flag.as_str() == "--compare" => {
-            compare_lists(rt, first, second, &mut page)?
-        }
-        [flag, ..] if is_option(flag) => return tell_usage(rt),
-        [expression] => explain(alloc, expression, None, &mut page),
-        [expression, path] => explain(alloc, expression, Some(path), &mut page),
-        _ => return tell_usage(rt),
+        (Command::FindConflicts, [file]) => find_conflicts(rt, file, &mut page)?,
+        (Command::FindIdle, [file]) => find_idle(rt, file, &mut page)?,
+        (Command::Tidy, [file]) => return tidy::print_tidied(rt, file),
+        (Command::FindDeciding, [file, paths @ ..]) => return deciding::print_lines(
+            rt, file, paths,
+        ),
+        (Command::CompareLists, [first, second]) => compare_lists(rt, first, second, &mut page)?,
+        (Command::ShowUsage, []) => add_usage(&mut page),
+        (Command::ShowVersion, []) => add_version(&mut page),
+        _ => return print_usage(rt),
     };
     page.print(rt, status)
 }
 
-/// Returns whether the word is always an option. `--dot` isn't: alone it is an expression.
-fn is_option(word: &str) -> bool {
-    matches!(
-        word,
-        "--overlap" | "--difference" | "--idle" | "--ignored" | "--compare"
-    )
-}
-
-/// Prints the usage. Returns the status.
-fn tell_usage(rt: &HostRuntime) -> io::Result<u8> {
+/// Prints the usage to standard error. Returns the status.
+fn print_usage(rt: &HostRuntime) -> io::Result<u8> {
     eprint!(rt; "{USAGE}")?;
     Ok(2)
+}
+
+/// Adds the usage. Returns the status.
+fn add_usage(page: &mut Page) -> u8 {
+    page.add(USAGE);
+    0
+}
+
+/// Adds the name of the program and its version. Returns the status.
+fn add_version(page: &mut Page) -> u8 {
+    page.add("globs_explain ");
+    page.add(VERSION);
+    page.add("\n");
+    0
 }
 
 /// Adds the tokens of the expression, what is known of it, and a match of the path if there is one.
@@ -117,7 +138,7 @@ fn look(
     matched: &mut Page,
 ) -> Result<(), NoMemory> {
     let expression = glob.expression();
-    page.part(expression, 0, expression.len());
+    page.whole(expression);
     page.add("\n");
     read(alloc, expression, page);
     facts::add_facts(alloc, glob, page)?;
@@ -169,6 +190,16 @@ fn compare_globs(
     let added = comparison::add_answer(alloc, question, &first, &second, page);
     page.lose_unless(added);
     0
+}
+
+/// Adds each two rules in a file that both match some path. Returns the status.
+fn find_conflicts(rt: &HostRuntime, file: &str, page: &mut Page) -> io::Result<u8> {
+    let Some(file) = RuleFile::read(rt, file)? else {
+        return Ok(1);
+    };
+    let added = conflicts::add_conflicts(rt.alloc(), &file, page);
+    page.lose_unless(added);
+    Ok(0)
 }
 
 /// Adds the lines of the ignore list in a file that decide nothing. Returns the status.

@@ -9,7 +9,7 @@ pub fn add_line(written: &[WrittenLine<'_>], index: usize, page: &mut Page) {
     page.add(": ");
     if let Some(line) = written.get(index) {
         page.add(if line.ignores { "" } else { "!" });
-        page.part(line.expression, 0, line.expression.len());
+        page.whole(line.expression);
     }
 }
 

@@ -37,10 +37,9 @@ impl Page {
     /// Returns an error if a write fails.
     pub fn print(&self, rt: &HostRuntime, status: u8) -> io::Result<u8> {
         let Some(text) = self.text() else {
-            eprintln!(rt; "globs_explain: no memory")?;
-            return Ok(1);
+            return print_no_memory(rt);
         };
-        print!(rt; "{text}")?;
+        rt.write_all(text.as_bytes())?;
         Ok(status)
     }
 
@@ -84,7 +83,7 @@ impl Page {
         }
     }
 
-    /// Adds the character; `?` if it is a control character.
+    /// Adds the character, or `?` if it is a control character.
     fn draw(&mut self, character: char) {
         if character < ' ' || ('\u{7f}' <= character && character <= '\u{9f}') {
             self.push('?');
@@ -93,7 +92,17 @@ impl Page {
         }
     }
 
-    /// Adds the characters of the text that begin in these bytes.
+    /// Adds the text, with `?` in place of each control character.
+    pub fn whole(&mut self, text: &str) {
+        if text.as_bytes().iter().any(|byte| may_be_control(*byte)) {
+            self.part(text, 0, text.len());
+        } else {
+            self.add(text);
+        }
+    }
+
+    /// Adds the characters of the text that begin in these bytes, with `?` in place of each control
+    /// character.
     pub fn part(&mut self, text: &str, start: usize, end: usize) {
         let mut at: usize = 0;
         for character in text.chars() {
@@ -135,4 +144,30 @@ impl Page {
             self.push('^');
         }
     }
+}
+
+/// Returns whether a control character may begin with the byte: those past ASCII begin with 0xc2.
+fn may_be_control(byte: u8) -> bool {
+    byte < b' ' || byte == 0x7f || byte == 0xc2
+}
+
+/// Prints the text of a page to standard output, and that of another one to standard error; or only that
+/// memory ran out for one of them. Returns the status, which is 1 after that.
+///
+/// # Errors
+///
+/// Returns an error if a write fails.
+pub fn print_both(rt: &HostRuntime, output: &Page, notes: &Page) -> io::Result<u8> {
+    let (Some(output), Some(notes)) = (output.text(), notes.text()) else {
+        return print_no_memory(rt);
+    };
+    rt.write_all(output.as_bytes())?;
+    rt.stderr().write_all(notes.as_bytes())?;
+    Ok(0)
+}
+
+/// Prints that memory ran out. Returns the status.
+fn print_no_memory(rt: &HostRuntime) -> io::Result<u8> {
+    eprintln!(rt; "globs_explain: no memory")?;
+    Ok(1)
 }
