@@ -48,6 +48,7 @@ bench: globs explain library
 	bench/lists
 	bench/compare
 	bench/python
+	bench/rust
 	bench/folders
 	bench/shards
 

@@ -1,9 +1,12 @@
 //! Calls of the Rust crate while each allocation of the C library fails in turn. tests/rust runs it, with tests/refusing.c.
 
+use std::error::Error;
 use std::os::raw::c_long;
 use std::panic::catch_unwind;
 
-use wax::{any, escape, BuildError, CandidatePath, Glob, Program};
+use wax::prelude::*;
+use wax::walk::IgnoreList;
+use wax::{any, escape, CandidatePath, Glob};
 
 // what tests/refusing.h declares
 extern "C" {
@@ -12,7 +15,7 @@ extern "C" {
     fn wax_blocks() -> c_long;
 }
 
-fn make_calls() -> Result<(), BuildError> {
+fn make_calls() -> Result<(), Box<dyn Error>> {
     let glob = Glob::new("{a,b}/*.rs")?;
     let path = CandidatePath::from("a/x.rs");
     assert!(glob.is_match("b/y.rs"));
@@ -21,11 +24,18 @@ fn make_calls() -> Result<(), BuildError> {
     let (_, rest) = Glob::new("a/*.rs")?.partition();
     assert!(any([rest.unwrap(), glob])?.is_match("x.rs"));
     assert_eq!(escape("a*"), r"a\*");
+    let list = IgnoreList::parse("**/m*\n!**/mod.rs\n")?;
+    assert!(list.is_ignored("a/main.rs") && !list.excludes_below("a"));
+    // (tests run in the folder of the crate)
+    let sources = any(["walk/*.rs", "lib.*"])?.walk("src").not("walk/e*")?;
+    assert!(sources.ignore(&list).flatten().count() > 1);
+    let mut modules = Glob::new("walk/m*.rs")?.walk("src");
+    assert_eq!(modules.next().unwrap()?.matched().get(1), Some("od"));
     let error = Glob::new("a//b").unwrap_err();
     if error.locations().any(|it| it.to_string() == "here") {
         Ok(())
     } else {
-        Err(error)
+        Err(error.into())
     }
 }
 

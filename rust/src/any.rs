@@ -46,6 +46,22 @@ where
     })
 }
 
+impl<'t> Any<'t> {
+    pub(crate) fn globs(&self) -> &[Glob<'t>] {
+        &self.globs
+    }
+
+    pub(crate) fn set(&self) -> &Arc<Handle<sys::Set>> {
+        &self.set
+    }
+
+    /// Returns the patterns that aren't in the set.
+    pub(crate) fn rests(&self) -> impl Iterator<Item = &Glob<'t>> {
+        let globs = self.globs.iter();
+        globs.filter(|glob| glob.whole_expression().is_none())
+    }
+}
+
 impl Debug for Any<'_> {
     fn fmt(&self, f: &mut Formatter<'_>) -> fmt::Result {
         f.debug_tuple("Any").field(&self.globs).finish()
@@ -63,11 +79,7 @@ impl<'t> Pattern<'t> for Any<'t> {
 impl<'t> Program<'t> for Any<'t> {
     fn is_match<'p>(&self, path: impl Into<CandidatePath<'p>>) -> bool {
         let path = path.into();
-        let mut rests = self
-            .globs
-            .iter()
-            .filter(|glob| glob.whole_expression().is_none());
-        self.set.is_match(path.as_ref()) || rests.any(|glob| glob.is_match(path.as_ref()))
+        self.set.is_match(path.as_ref()) || self.rests().any(|glob| glob.is_match(path.as_ref()))
     }
 
     /// Returns the match. The whole set is its only capture.

@@ -1,4 +1,4 @@
-//! Why a pattern isn't built.
+//! Why a pattern isn't built, or a walk fails.
 
 use std::convert::Infallible;
 use std::error::Error;
@@ -6,6 +6,7 @@ use std::fmt::{self, Display, Formatter};
 
 use crate::query::{LocatedError, Span};
 use crate::sys::{self, Failure};
+use crate::walk::WalkError;
 
 /// The error of an expression that isn't built.
 ///
@@ -87,6 +88,38 @@ impl Error for BuildError {}
 impl From<Infallible> for BuildError {
     fn from(never: Infallible) -> Self {
         match never {}
+    }
+}
+
+/// An error of this crate, for a function that builds patterns and walks.
+#[derive(Debug)]
+pub enum GlobError {
+    /// A pattern isn't built.
+    Build(BuildError),
+    /// Something couldn't be read.
+    Walk(WalkError),
+}
+
+impl Display for GlobError {
+    fn fmt(&self, f: &mut Formatter<'_>) -> fmt::Result {
+        match self {
+            GlobError::Build(error) => Display::fmt(error, f),
+            GlobError::Walk(error) => Display::fmt(error, f),
+        }
+    }
+}
+
+impl Error for GlobError {}
+
+impl From<BuildError> for GlobError {
+    fn from(error: BuildError) -> Self {
+        GlobError::Build(error)
+    }
+}
+
+impl From<WalkError> for GlobError {
+    fn from(error: WalkError) -> Self {
+        GlobError::Walk(error)
     }
 }
 

@@ -102,6 +102,22 @@ impl<'t> Glob<'t> {
         }
     }
 
+    /// Returns whether this is the glob of the empty expression, which matches only the empty path.
+    ///
+    /// ```
+    /// use wax::Glob;
+    ///
+    /// assert!(Glob::empty().is_empty());
+    /// assert!(!Glob::new("*").unwrap().is_empty());
+    /// ```
+    pub fn is_empty(&self) -> bool {
+        self.expression.is_empty()
+    }
+
+    pub(crate) fn handle(&self) -> &Arc<Handle<sys::Glob>> {
+        &self.handle
+    }
+
     /// Returns the expression, unless the glob is the rest of another.
     pub(crate) fn whole_expression(&self) -> Option<&str> {
         (!self.is_rest).then_some(&*self.expression)

@@ -1,5 +1,5 @@
-//! Matches paths against globs such as `src/**/*.{c,rs}`, with the names and types of the crate wax 0.7.0. It calls a C
-//! library, which is proved to match exactly the paths that the language of globs defines.
+//! Matches paths against globs such as `src/**/*.{c,rs}`, and walks folders, with the names and types of the crate wax 0.7.0. It
+//! calls a C library, which is proved to match exactly the paths that the language of globs defines.
 //!
 //! ```
 //! use wax::{CandidatePath, Glob, Program};
@@ -11,23 +11,25 @@
 //! assert_eq!(glob.matched(&path).unwrap().get(2), Some("tcp"));
 //! ```
 //!
-//! This crate walks no directories. Its README lists other differences.
+//! The module [`walk`] finds the files that a glob matches. The README of this crate lists its differences from wax 0.7.0.
 
 #![warn(missing_docs, unsafe_op_in_unsafe_fn)]
 
 mod any;
 mod error;
 mod glob;
+mod ignore;
 mod path;
 pub mod query;
 mod sys;
+pub mod walk;
 
 use std::borrow::Cow;
 
 use crate::query::{DepthVariance, TextVariance, When};
 
 pub use crate::any::{any, Any};
-pub use crate::error::BuildError;
+pub use crate::error::{BuildError, GlobError};
 pub use crate::glob::Glob;
 pub use crate::path::{CandidatePath, MatchedText};
 
@@ -38,6 +40,7 @@ struct Readme;
 /// The traits whose methods most programs call.
 pub mod prelude {
     pub use crate::query::LocatedError as _;
+    pub use crate::walk::{Entry as _, FileIterator as _, PathExt as _};
     pub use crate::Program as _;
 }
 

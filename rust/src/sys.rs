@@ -1,5 +1,6 @@
 //! The C library: its declarations, and safe calls of these. All code that is `unsafe` is here.
 
+use std::fmt::{self, Debug, Formatter};
 use std::ptr::{self, NonNull};
 use std::sync::{Mutex, PoisonError};
 
@@ -14,6 +15,11 @@ mod c {
 
     #[repr(C)]
     pub struct Set {
+        _private: [u8; 0],
+    }
+
+    #[repr(C)]
+    pub struct Ignore {
         _private: [u8; 0],
     }
 
@@ -56,6 +62,7 @@ mod c {
             span: *mut Span,
         ) -> i32;
         pub fn wax_glob_is_match(glob: *mut Glob, path: *const u8, length: usize) -> i32;
+        pub fn wax_glob_goes_on(glob: *mut Glob, folder: *const u8, length: usize) -> i32;
         pub fn wax_glob_captures(
             glob: *const Glob,
             path: *const u8,
@@ -98,11 +105,26 @@ mod c {
             span: *mut Span,
         ) -> i32;
         pub fn wax_set_is_match(set: *mut Set, path: *const u8, length: usize) -> i32;
+        pub fn wax_set_goes_on(set: *mut Set, folder: *const u8, length: usize) -> i32;
         pub fn wax_set_free(set: *mut Set);
+
+        pub fn wax_ignore_new(
+            text: *const u8,
+            length: usize,
+            out: *mut *mut Ignore,
+            line: *mut usize,
+        ) -> i32;
+        pub fn wax_ignore_is_ignored(list: *mut Ignore, path: *const u8, length: usize) -> i32;
+        pub fn wax_ignore_excludes_below(
+            list: *const Ignore,
+            folder: *const u8,
+            length: usize,
+        ) -> i32;
+        pub fn wax_ignore_free(list: *mut Ignore);
     }
 }
 
-pub use c::{Facts, Glob, Set};
+pub use c::{Facts, Glob, Ignore, Set};
 
 const NO_ROOM: i32 = -21;
 
@@ -110,6 +132,12 @@ const NO_ROOM: i32 = -21;
 pub struct Failure {
     pub number: i32,
     pub span: Span,
+}
+
+/// Why a text isn't an ignore list: the number of the error, and that of the line, from 1, which is 0 if no line has it.
+pub struct LineFailure {
+    pub number: i32,
+    pub line: usize,
 }
 
 /// A type of handles.
@@ -133,6 +161,13 @@ impl Free for Set {
     unsafe fn free(handle: *mut Self) {
         // SAFETY: the caller passes a handle that may be freed.
         unsafe { c::wax_set_free(handle) }
+    }
+}
+
+impl Free for Ignore {
+    unsafe fn free(handle: *mut Self) {
+        // SAFETY: the caller passes a handle that may be freed.
+        unsafe { c::wax_ignore_free(handle) }
     }
 }
 
@@ -164,6 +199,12 @@ impl<T: Free> Handle<T> {
     }
 }
 
+impl<T: Free> Debug for Handle<T> {
+    fn fmt(&self, f: &mut Formatter<'_>) -> fmt::Result {
+        f.debug_struct("Handle").finish_non_exhaustive()
+    }
+}
+
 impl Handle<Glob> {
     /// Builds a glob.
     pub fn new(expression: &str) -> Result<Self, Failure> {
@@ -187,6 +228,14 @@ impl Handle<Glob> {
     pub fn is_match(&self, path: &str) -> bool {
         // SAFETY: the path has this length, and no other call uses the handle.
         decided(self.with(|glob| unsafe { c::wax_glob_is_match(glob, path.as_ptr(), path.len()) }))
+    }
+
+    /// Returns whether something below a folder can match.
+    pub fn goes_on(&self, folder: &str) -> bool {
+        // SAFETY: the path has this length, and no other call uses the handle.
+        decided(
+            self.with(|glob| unsafe { c::wax_glob_goes_on(glob, folder.as_ptr(), folder.len()) }),
+        )
     }
 
     /// Returns the texts of the captures, one after another, and the length of each; or `None` if the path doesn't match.
@@ -283,6 +332,41 @@ impl Handle<Set> {
     pub fn is_match(&self, path: &str) -> bool {
         // SAFETY: the path has this length, and no other call uses the handle.
         decided(self.with(|set| unsafe { c::wax_set_is_match(set, path.as_ptr(), path.len()) }))
+    }
+
+    /// Returns whether something below a folder can match.
+    pub fn goes_on(&self, folder: &str) -> bool {
+        // SAFETY: the path has this length, and no other call uses the handle.
+        decided(self.with(|set| unsafe { c::wax_set_goes_on(set, folder.as_ptr(), folder.len()) }))
+    }
+}
+
+impl Handle<Ignore> {
+    /// Builds an ignore list.
+    pub fn new(text: &str) -> Result<Self, LineFailure> {
+        let (mut handle, mut line) = (ptr::null_mut(), 0);
+        // SAFETY: the text has this length, and the call may write to both variables.
+        let status =
+            unsafe { c::wax_ignore_new(text.as_ptr(), text.len(), &mut handle, &mut line) };
+        Handle::from_library(handle).ok_or(LineFailure {
+            number: -status,
+            line,
+        })
+    }
+
+    pub fn is_ignored(&self, path: &str) -> bool {
+        // SAFETY: the path has this length, and no other call uses the handle.
+        decided(
+            self.with(|list| unsafe { c::wax_ignore_is_ignored(list, path.as_ptr(), path.len()) }),
+        )
+    }
+
+    /// Returns whether everything below a folder is ignored.
+    pub fn excludes_below(&self, folder: &str) -> bool {
+        // SAFETY: the path has this length, and no other call uses the handle.
+        decided(self.with(|list| unsafe {
+            c::wax_ignore_excludes_below(list, folder.as_ptr(), folder.len())
+        }))
     }
 }
 

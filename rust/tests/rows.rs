@@ -4,7 +4,12 @@
 use std::fs;
 
 use wax::query::{DepthVariance, TextVariance, When};
+use wax::walk::{DepthMinMax, FileIterator, IgnoreList};
 use wax::{any, Any, BuildError, CandidatePath, Glob, Program};
+
+mod folder;
+
+use folder::{found, Folder};
 
 /// Returns the lines of a table, each as its fields.
 fn rows(path: &str) -> Vec<Vec<String>> {
@@ -263,4 +268,86 @@ fn queries() {
         assert_eq!(shown, row[6], "{}", row[0]);
     }
     assert!(sets > 10, "only {sets} alternations");
+}
+
+/// Returns the paths of a plan: a name that ends with `/` begins a folder, and `;` ends it.
+fn planned(plan: &str) -> Vec<String> {
+    let mut paths = Vec::new();
+    let mut folder = String::new();
+    for word in plan.split(' ') {
+        if word == ";" {
+            let end = folder.trim_end_matches('/').rfind('/');
+            folder.truncate(end.map_or(0, |end| end + 1));
+        } else {
+            paths.push(format!("{folder}{word}"));
+            if word.ends_with('/') {
+                folder += word;
+            }
+        }
+    }
+    paths
+}
+
+/// Excludes from a walk what the options of a row exclude, and returns what it finds.
+fn found_without(walk: impl FileIterator, options: &[(&str, &str)]) -> Vec<String> {
+    let values = |name| {
+        let options = options.iter().filter(move |(word, _)| *word == name);
+        options.map(|(_, value)| *value)
+    };
+    let lines: Vec<_> = values("ignore").collect();
+    let list = IgnoreList::parse(&lines.concat()).unwrap();
+    found(walk.not(any(values("not"))).unwrap().ignore(&list))
+}
+
+/// Returns what the walk of a row finds.
+fn walked(folder: &Folder, start: &str, expression: &str, options: &str) -> Vec<String> {
+    let options: Vec<_> = options
+        .split("; ")
+        .filter_map(|it| it.split_once(' '))
+        .collect();
+    let number = |name, default| {
+        let option = options.iter().find(|(word, _)| *word == name);
+        option.map_or(default, |(_, value)| value.parse().unwrap())
+    };
+    let depth = DepthMinMax::from_depths_or_max(number("min", 0), number("max", usize::MAX));
+    let root = folder.0.join(start);
+    if options.contains(&("as", "set")) {
+        let any = any(expression.split(' ')).unwrap();
+        found_without(any.walk_with_behavior(root, depth), &options)
+    } else {
+        let glob = Glob::new(expression).unwrap();
+        found_without(glob.walk_with_behavior(root, depth), &options)
+    }
+}
+
+/// Returns whether a walk can take place in a real folder without links.
+fn is_real(row: &[String]) -> bool {
+    let (place, plan, expression, options) = (&row[0], &row[1], &row[3], &row[4]);
+    (place != "memory" || options.contains("as set"))
+        && !plan.contains(['@', '#'])
+        && !expression.split(' ').any(|it| it.starts_with('/'))
+}
+
+#[test]
+fn walks() {
+    let rows = rows("tests/data/least_folders.tsv");
+    let (trees, rows): (Vec<_>, Vec<_>) = rows.iter().partition(|row| row[0] == "tree");
+    let rows: Vec<_> = rows.into_iter().filter(|row| is_real(row)).collect();
+    for row in &rows {
+        let tree = trees.iter().find(|tree| tree[1] == row[1]);
+        let folder = Folder::new(&planned(tree.map_or(&row[1], |tree| &tree[2])));
+        let top = folder.0.to_str().unwrap();
+        let in_folder = |text: &str| text.replace("''", "").replace("TOP", top);
+        let kept = row[5].split(' ').filter(|it| *it != "-");
+        let mut wanted: Vec<_> = kept.map(in_folder).collect();
+        wanted.sort_unstable();
+        let got = walked(
+            &folder,
+            &in_folder(&row[2]),
+            &in_folder(&row[3]),
+            &in_folder(&row[4]),
+        );
+        assert_eq!(got, wanted, "{row:?}");
+    }
+    assert!(rows.len() > 90, "only {} walks", rows.len());
 }
