@@ -2,18 +2,22 @@
 manual page of `globs`, of `re`, or of `pathlib`. The examples in the module are run, too. tests/python runs all of this with the
 extension and without it. tests/walking has more tests of walks."""
 
+import concurrent.futures
 import contextlib
 import copy
 import ctypes
 import doctest
+import functools
 import gc
 import importlib
 import inspect
+import multiprocessing
 import os
 import pathlib
 import pickle
 import re
 import resource
+import subprocess
 import sys
 import tempfile
 import threading
@@ -382,6 +386,8 @@ class Walking(unittest.TestCase):
                 self.assertEqual(opened, [it for it in ["", "doc", "src", "tests", "tests/harness"] if it not in unopened])
         self.assertEqual(self.walked("**", exclude="**"), ([], []))
         patterns = [wax.Glob("#*/**"), wax.GlobSet(["**/harness/**", "src/**"])]
+        rest = wax.Glob("(?i)1/*.MD").partition()[1]
+        self.assertEqual(self.walked("{src,*.md}", exclude=rest)[0], ["src"])
         found = ["doc/guide.md", "tests/walk.rs"]
         self.assertEqual(self.walked("*/*.{md,rs}", exclude=patterns)[0], found)
 
@@ -474,10 +480,253 @@ def deciding(it):
 def using(it):
     """Returns calls for everything that uses the handle of an object."""
     calls = [*deciding(it), lambda path: list(it.filter([path]))]
+    queries = {
+        wax.Glob: ["expression", "depth", "text", "has_root", "is_exhaustive"],
+        wax.GlobSet: ["expressions"],
+        wax.IgnoreList: ["text"],
+    }
+    calls += [lambda _, name=name: getattr(it, name) for kind in queries if isinstance(it, kind) for name in queries[kind]]
     if isinstance(it, wax.Glob):
-        queries = ["depth", "text", "has_root", "is_exhaustive"]
-        calls += [it.matched, lambda _: it.partition(), *(lambda _, name=name: getattr(it, name) for name in queries)]
+        calls += [it.matched, lambda _: it.partition(), lambda _: str(it)]
     return calls + ([it.matches] if isinstance(it, wax.GlobSet) else [])
+
+
+def pickled(protocol):
+    """Returns a function that pickles an object by this protocol, and reads it again."""
+    return lambda it: pickle.loads(pickle.dumps(it, protocol))
+
+
+COPIES = [copy.copy, copy.deepcopy, *map(pickled, range(pickle.HIGHEST_PROTOCOL + 1))]
+
+
+class Named(wax.Glob):
+    """A glob with a name and a list, which calls `__init__` of `Glob` with another argument than its own."""
+
+    def __init__(self, name, extension):
+        super().__init__(f"**/*.{extension}")
+        self.name, self.itself, self.paths = name, self, []
+
+
+def kept(pattern, paths):
+    """Returns which paths a pattern keeps, in another process, and the pattern again."""
+    return list(pattern.filter(paths)), pattern
+
+
+class Values(unittest.TestCase):
+    """What is built from texts is compared, hashed, copied and pickled by them, as `re.compile` is by its pattern."""
+
+    # what builds an object, as `repr` shows it: no two are equal
+    shown = [
+        "Glob('')",
+        "Glob('a')",
+        "Glob('{a}')",
+        "Glob('A')",
+        "Glob('(?i)1/*.rs')",
+        "Glob('(?i)1/*.rs').partition()[1]",
+        "Glob('(?i)1/*.rs').partition()[1].partition()[1]",
+        "Glob('1/*.rs').partition()[1]",
+        "Glob('*.rs')",
+        "Glob('é\\n\\'\"/**')",
+        "Glob('a\\\\*')",
+        "GlobSet([])",
+        "GlobSet([''])",
+        "GlobSet(['a'])",
+        "GlobSet(['a', 'a'])",
+        "GlobSet(['a', 'é*'])",
+        "GlobSet(['é*', 'a'])",
+        "IgnoreList('')",
+        "IgnoreList('a')",
+        "IgnoreList('a\\n')",
+        "IgnoreList('# é\\r\\n!a/**\\n')",
+    ]
+
+    def build(self, shown):
+        return eval(shown, {}, vars(wax))
+
+    def test_repr(self):
+        for shown in self.shown:
+            with self.subTest(shown):
+                self.assertEqual(repr(self.build(shown)), shown)
+
+    def test_str(self):
+        for expression in ["", "src/**/*.rs", "é\n'"]:
+            self.assertEqual(str(wax.Glob(expression)), expression)
+            self.assertEqual(f"{wax.Glob(expression)}", expression)
+        self.assertEqual(str(wax.Glob("(?i)1/*.rs").partition()[1]), "*.rs")
+
+    def test_equality(self):
+        for number, shown in enumerate(self.shown):
+            it = self.build(shown)
+            for index, other in enumerate(map(self.build, self.shown)):
+                with self.subTest((shown, other)):
+                    self.assertIs(it == other, number == index)
+                    self.assertIs(it != other, number != index)
+                    if number == index:
+                        self.assertEqual(hash(it), hash(other))
+
+    def test_other_types(self):
+        for kind, given, _ in kinds():
+            it = kind(given)
+
+            class Other(kind):
+                pass
+
+            for other in (given, None, 1, repr(it), object(), kind, Other(given)):
+                with self.subTest(other):
+                    self.assertIs(it.__eq__(other), NotImplemented)
+                    self.assertIs(it.__ne__(other), NotImplemented)
+                    self.assertFalse(it == other)
+                    self.assertTrue(it != other)
+            self.assertTrue(it == mock.ANY)
+            with self.assertRaises(TypeError):
+                it < kind(given)
+
+    def test_keys(self):
+        made = [self.build(shown) for shown in self.shown * 3]
+        self.assertEqual(len(set(made)), len(self.shown))
+        self.assertEqual(len(set(map(hash, made))), len(self.shown))
+        numbers = {it: number for number, it in enumerate(made)}
+        self.assertEqual([numbers[self.build(shown)] for shown in self.shown], [*range(2 * len(self.shown), len(made))])
+        self.assertNotIn(wax.Glob("b"), numbers)
+
+        @functools.lru_cache(maxsize=None)
+        def kept_of(pattern, *paths):
+            return list(pattern.filter(paths))
+
+        for _ in range(3):
+            for kind, given, _ in kinds():
+                self.assertEqual(len(kept_of(kind(given), "src/a", "b")), 1)
+        self.assertEqual((kept_of.cache_info().hits, kept_of.cache_info().misses), (6, 3))
+
+    def test_read_only(self):
+        for kind, names in [(wax.Glob, ["expression"]), (wax.GlobSet, ["expressions"]), (wax.IgnoreList, ["text"])]:
+            it = kind("a")
+            for name in names:
+                self.assertEqual(getattr(it, name), ("a",) if kind is wax.GlobSet else "a")
+                with self.assertRaises(AttributeError):
+                    setattr(it, name, "b")
+
+    def test_subclass_of_str(self):
+        class Changing(str):
+            def __repr__(self):
+                return "changed"
+
+            def __eq__(self, other):
+                return True
+
+            def __hash__(self):
+                return 0
+
+        for made, plain in [
+            (wax.Glob(Changing("a")), wax.Glob("a")),
+            (wax.GlobSet([Changing("a")]), wax.GlobSet(["a"])),
+            (wax.IgnoreList(Changing("a")), wax.IgnoreList("a")),
+        ]:
+            self.assertEqual((made, repr(made), hash(made)), (plain, repr(plain), hash(plain)))
+            self.assertEqual(pickle.dumps(made), pickle.dumps(plain))
+
+    def test_copies(self):
+        for shown in self.shown:
+            it = self.build(shown)
+            for copied in COPIES:
+                with self.subTest(shown):
+                    other = copied(it)
+                    self.assertIsNot(other, it)
+                    self.assertIs(type(other), type(it))
+                    self.assertEqual((other, hash(other), repr(other)), (it, hash(it), shown))
+
+    def test_copies_of_rests(self):
+        """The flags before the rest, which its expression lacks, hold in a copy of it, too."""
+        for expression, partitions, matches, others in [
+            ("(?i)1/*.rs", 1, ["a.rs", "A.RS"], ["1/a.rs"]),
+            ("(?i)1/*.rs", 3, ["a.rs", "A.RS"], ["1/a.rs"]),
+            ("1/*.rs", 1, ["a.rs"], ["A.RS", "1/a.rs"]),
+            ("(?i)1/**/a", 1, ["a", "b/A"], ["ab", "a/"]),
+            ("src/{a/*.rs}", 1, ["b.rs"], ["a/b.rs", "b.RS"]),
+        ]:
+            rest = wax.Glob(expression)
+            for _ in range(partitions):
+                rest = rest.partition()[1]
+            for copied in COPIES:
+                with self.subTest(expression):
+                    other = copied(rest)
+                    self.assertEqual(list(other.filter(matches + others)), matches)
+                    self.assertEqual(other.expression, rest.expression)
+                    self.assertEqual(other.matched(matches[0]).captures, rest.matched(matches[0]).captures)
+                    self.assertEqual(other.partition(), rest.partition())
+
+    def test_copies_of_subclasses(self):
+        it = Named("Rust", "rs")
+        it.paths.append("a")
+        for copied in COPIES:
+            other = copied(it)
+            self.assertIs(type(other), Named)
+            self.assertEqual((other, other.name, other.paths), (it, "Rust", ["a"]))
+            self.assertIs(other.itself, it if copied is copy.copy else other)
+            self.assertEqual(list(other.filter(["a/b.rs", "c"])), ["a/b.rs"])
+        self.assertEqual(repr(it), "Named('**/*.rs')")
+
+    def test_with_and_without_the_extension(self):
+        """What is pickled with the extension is read without it, and what is pickled there is read here."""
+        code = "import pickle, sys, wax; it = pickle.load(sys.stdin.buffer); print(wax._extension, *it, sep='\\n'); "
+        code += "sys.stdout.flush(); pickle.dump(it, sys.stdout.buffer)"
+        made = [self.build(shown) for shown in self.shown if "Glob('" not in shown or "rs" in shown]
+        others = {name: value for name, value in os.environ.items() if name != "PYTHONPATH"}
+        others["PYTHONIOENCODING"] = "utf-8"
+        ran = subprocess.run(
+            [sys.executable, "-c", code], input=pickle.dumps(made), stdout=subprocess.PIPE, env=others, check=True
+        )
+        shown = "\n".join(["None", *map(str, made)]) + "\n"
+        self.assertEqual(ran.stdout[: len(shown.encode())].decode(), shown)
+        self.assertEqual(pickle.loads(ran.stdout[len(shown.encode()) :]), made)
+
+    def test_errors(self):
+        def raised(build, *arguments):
+            with self.assertRaises(wax.Error) as caught:
+                build(*arguments)
+            return caught.exception
+
+        for error in [
+            raised(wax.Glob, "é//b"),
+            raised(wax.Glob, "<a*:1000000>"),
+            raised(wax.GlobSet, ["a", "{"]),
+            raised(wax.IgnoreList, "a\n{b"),
+            raised(wax.escape, "\ud800"),
+        ]:
+            for copied in COPIES:
+                with self.subTest(error):
+                    other = copied(error)
+                    self.assertIs(type(other), type(error))
+                    self.assertEqual((str(other), other.args, vars(other)), (str(error), error.args, vars(error)))
+
+    def test_processes(self):
+        paths = ["a.rs", "1/a.rs", "A.RS", "src/a", "b"]
+        patterns = [wax.Glob("(?i)1/*.rs").partition()[1], Named("Rust", "rs"), *(kind(given) for kind, given, _ in kinds())]
+        wanted = [["a.rs", "A.RS"], ["a.rs", "1/a.rs"], ["src/a"], ["src/a"], ["a.rs", "1/a.rs", "A.RS", "b"]]
+        for start in ("fork", "spawn"):
+            context = multiprocessing.get_context(start)
+            with self.subTest(start), context.Pool(1) as pool:
+                found = pool.starmap_async(kept, [(it, paths) for it in patterns]).get(timeout=60)
+                self.assertEqual(found, list(zip(wanted, patterns)))
+            with self.subTest(start), concurrent.futures.ProcessPoolExecutor(1, mp_context=context) as executor:
+                found = executor.map(kept, patterns, [paths] * len(patterns), timeout=60)
+                self.assertEqual(list(found), list(zip(wanted, patterns)))
+                with self.assertRaises(wax.BuildError) as raised:
+                    executor.submit(wax.Glob, "é//b").result()
+                self.assertEqual((raised.exception.number, raised.exception.span), (2, (1, 3)))
+
+    def test_inherited_by_a_fork(self):
+        """A process that is forked uses the objects of its parent, and what it learns changes nothing there."""
+        patterns = [kind(given) for kind, given, _ in kinds()]
+        paths = [f"src/{number}" for number in range(100)] + ["b"]
+        before = [list(it.filter(paths)) for it in patterns]
+        context = multiprocessing.get_context("fork")
+        reader, writer = context.Pipe(duplex=False)
+        child = context.Process(target=lambda: writer.send([list(it.filter(paths)) for it in patterns]))
+        child.start()
+        self.assertEqual(reader.recv(), before)
+        child.join()
+        self.assertEqual((child.exitcode, [list(it.filter(paths)) for it in patterns]), (0, before))
 
 
 def resident():
@@ -503,6 +752,10 @@ class Objects(unittest.TestCase):
 
             for it in (kind.__new__(kind), object.__new__(kind), Failing(wrong), Failing("\ud800")):
                 self.assertTrue(repr(it))
+                self.assertEqual((it == it, it == kind(given), it in {it: 1}), (True, False, True))
+                for copied in COPIES:
+                    with self.subTest(kind), self.assertRaises(ValueError):
+                        copied(it)
                 for call in using(it):
                     with self.subTest(call), self.assertRaises(ValueError) as raised:
                         call("src/a")
@@ -521,13 +774,19 @@ class Objects(unittest.TestCase):
             self.assertEqual([deciding(it)[0](path) for path in ("src/a", "b")], [True, False])
             self.assertEqual(vars(it), before)
 
-    def test_no_copies(self):
+    def test_copies_have_handles_of_their_own(self):
         for kind, given, _ in kinds():
-            it = kind(given)
-            for copied in (copy.copy, copy.deepcopy, pickle.dumps):
-                with self.subTest(kind), self.assertRaises(TypeError):
-                    copied(it)
-            self.assertTrue(deciding(it)[0]("src/a"))
+            for copied in COPIES:
+                it = kind(given)
+                others = [copied(it) for _ in range(5)]
+                self.assertEqual(len({str(other._handle) for other in [it, *others]}), 6)
+                del it
+                gc.collect()
+                self.assertEqual([deciding(other)[0]("src/a") for other in others], [True] * 5)
+                kept = copied(others.pop())
+                del others
+                gc.collect()
+                self.assertEqual([deciding(kept)[0](path) for path in ("src/a", "b")], [True, False])
 
     def test_bound_methods(self):
         for kind, given, _ in kinds():
@@ -601,6 +860,7 @@ class Objects(unittest.TestCase):
         for it, count in zip(counted, before):
             self.assertLess(abs(sys.getrefcount(it) - count), 50, it)
 
+    @unittest.skipIf("libasan" in os.environ.get("LD_PRELOAD", ""), "AddressSanitizer keeps what was freed for a while")
     def test_leaks(self):
         """A million calls, 20,000 that raise an error, and 5,000 objects that can't be built again take no more memory."""
         made = [kind(given) for kind, given, _ in kinds()]
@@ -659,7 +919,7 @@ class Extension(unittest.TestCase):
 
     def test_in_use(self):
         for kind, base in [(wax.Glob, "Matcher"), (wax.GlobSet, "Matcher"), (wax.IgnoreList, "IgnoreMatcher")]:
-            self.assertEqual(kind.__mro__[1:], (getattr(wax._extension, base), object))
+            self.assertEqual(kind.__mro__[1:], (wax._Value, getattr(wax._extension, base), object))
 
     def test_documents(self):
         for kind, names in self.pairs:
@@ -724,6 +984,7 @@ class Memory(unittest.TestCase):
         ignored = self.wax.IgnoreList("**/*.log\n!x/**\n")
         patterns = self.wax.GlobSet(["src/**", "**/*.rs"])
         prefix, rest = glob.partition()
+        copied = copy.copy(self.wax.Glob("a/?").partition()[1])
         try:
             self.wax.Glob("a//b")
         except self.wax.BuildError as error:
@@ -733,6 +994,7 @@ class Memory(unittest.TestCase):
             (glob.matched("src/a.rs").captures, prefix, rest.is_match("a.rs"), self.wax.Glob("a").text, picture),
             (ignored.is_ignored("a.log"), ignored.excludes_below("a"), list(ignored.filter(["a.log", "b"]))),
             (patterns.is_match("a"), patterns.matches("src/a.rs"), patterns.goes_on("src"), self.wax.escape("*")),
+            (copied.expression, copied.is_match("b")),
         )
 
     def run_with(self, number):
@@ -748,6 +1010,7 @@ class Memory(unittest.TestCase):
             (("", "a", "rs"), "src", True, "a", "a//b\n ^^ here\n"),
             (True, False, ["b"]),
             (False, [0, 1], True, r"\*"),
+            ("?", True),
         )
         self.assertEqual(self.run_with(0), wanted)
         requests = self.refusing.wax_requests()

@@ -11,6 +11,15 @@
 
 `walk` yields the files and folders that a glob matches.
 
+Globs, sets and ignore lists are values, as compiled expressions of `re` are: they are equal if they are built from equal
+texts, and can be keys, copied and pickled. So they can be sent to other processes, and so can the errors.
+
+    >>> Glob("*.rs") == Glob("*.rs"), GlobSet(["a", "b"]) == GlobSet(["b", "a"])
+    (True, False)
+    >>> import pickle
+    >>> pickle.loads(pickle.dumps(glob))
+    Glob('src/**/*.{rs,toml}')
+
 The library is loaded from the path in the environment variable `WAX_LIBRARY`. If that isn't set, it is `libwax.so` in
 the folder of this file or, if there is none, the system's `libwax.so.0`. The calls `is_match`, `goes_on`, `is_ignored`
 and `excludes_below` are methods of the extension `_wax` if that is in this package, or where Python looks for modules.
@@ -27,7 +36,22 @@ import itertools
 import os
 import stat
 import types
-from typing import TYPE_CHECKING, Any, Callable, Iterable, Iterator, List, NoReturn, Optional, Sequence, Tuple, Union
+from typing import (
+    TYPE_CHECKING,
+    Any,
+    Callable,
+    Dict,
+    Iterable,
+    Iterator,
+    List,
+    NoReturn,
+    Optional,
+    Sequence,
+    Tuple,
+    Type,
+    Union,
+    cast,
+)
 
 __all__ = [
     "BuildError",
@@ -68,6 +92,9 @@ class Error(ValueError):
         super().__init__(message or _MESSAGES.get(number, f"error {number}"))
         self.number = number
 
+    def __reduce__(self) -> Tuple[Any, ...]:
+        return type(self), (self.number, str(self)), vars(self)
+
 
 class BuildError(Error):
     """The error of an expression that can't be built.
@@ -95,6 +122,9 @@ class BuildError(Error):
         self.span = span
         self.picture = picture
 
+    def __reduce__(self) -> Tuple[Any, ...]:
+        return type(self), (self.number, self.expression, self.span, self.picture), vars(self)
+
 
 class LineError(Error):
     """The error of a line of an ignore list. `line` is the number of the line, from 1; `number` is what it is for a
@@ -103,6 +133,9 @@ class LineError(Error):
     def __init__(self, number: int, line: int) -> None:
         super().__init__(number, f"line {line}: {_MESSAGES.get(number, f'error {number}')}")
         self.line = line
+
+    def __reduce__(self) -> Tuple[Any, ...]:
+        return type(self), (self.number, self.line), vars(self)
 
 
 class _Span(ctypes.Structure):
@@ -264,6 +297,9 @@ class _Handle(ctypes.c_void_p):
             self.release(self)
 
 
+_NOT_BUILT = "the object isn't built: `__init__` wasn't called, or failed"
+
+
 class _Held:
     """An object that owns a handle, with two calls that decide something about a path. The extension has its own."""
 
@@ -281,7 +317,7 @@ class _Held:
     @property
     def _handle(self) -> Any:
         if self._owned is None:
-            raise ValueError("the object isn't built: `__init__` wasn't called, or failed")
+            raise ValueError(_NOT_BUILT)
         return self._owned
 
     def _decided(self, function: Any, path: str) -> bool:
@@ -297,9 +333,6 @@ class _Held:
         if status < 0:
             _raise(-status)
         return bool(status)
-
-    def __reduce__(self) -> NoReturn:
-        raise TypeError(f"cannot pickle {type(self).__name__!r} object")
 
 
 class _Matcher(_Held):
@@ -372,6 +405,56 @@ _SET_CALLS = _calls_of("wax_set_is_match", "wax_set_goes_on", "wax_set_free")
 _IGNORE_CALLS = _calls_of("wax_ignore_is_ignored", "wax_ignore_excludes_below", "wax_ignore_free")
 
 
+# the attributes that are set when an object is built
+_BUILT = {"_owned", "_first", "_second", "_given", "_most_captures"}
+
+
+class _Value:
+    """An object that is compared, hashed, copied and pickled by what it is built from.
+
+    A copy is built again, so it has a handle of its own. It has the other attributes, too, such as those of a subclass.
+    """
+
+    _given: Any = None  # what the object is built from
+
+    def _build(self, given: Any) -> None:
+        raise NotImplementedError
+
+    def _source(self) -> Any:
+        """Returns what the object is built from, or raises an error if it isn't built."""
+        if self._given is None:
+            raise ValueError(_NOT_BUILT)
+        return self._given
+
+    def _shown(self) -> str:
+        """Returns what `repr` shows of an object that is built: an expression that builds an equal one."""
+        return f"{type(self).__name__}({self._given!r})"
+
+    def __eq__(self, other: object) -> bool:
+        if type(self) is not type(other):
+            return NotImplemented
+        return bool(self._given == cast(_Value, other)._given)
+
+    def __hash__(self) -> int:
+        return hash((type(self), self._given))
+
+    def __repr__(self) -> str:
+        return object.__repr__(self) if self._given is None else self._shown()
+
+    def __getstate__(self) -> Dict[str, Any]:
+        return {name: value for name, value in vars(self).items() if name not in _BUILT}
+
+    def __reduce__(self) -> Tuple[Any, ...]:
+        return _copied, (type(self), self._source()), self.__getstate__()
+
+
+def _copied(kind: Type[_Value], given: Any) -> _Value:
+    """Builds a copy of an object of this type. Pickled objects name this function."""
+    copied = kind.__new__(kind)
+    copied._build(given)
+    return copied
+
+
 class Matched:
     """What a glob captures of a path.
 
@@ -395,29 +478,59 @@ class Matched:
         return f"Matched({self.text!r}, {self.captures!r})"
 
 
-class Glob(_MatcherBase):
-    """A glob, built from an expression.
+class Glob(_Value, _MatcherBase):
+    """A glob, built from an expression, which `str` returns.
 
-    `expression` is this expression.
+    Globs are equal if they are built from equal expressions.
 
     Raises `BuildError` if the expression can't be built, `MemoryError` if an allocation fails.
+
+        >>> glob = Glob("src/*.rs")
+        >>> glob, str(glob)
+        (Glob('src/*.rs'), 'src/*.rs')
+        >>> {glob: "Rust"}[Glob("src/*.rs")]
+        'Rust'
     """
 
-    expression = ""
-    _is_rest = False  # (of a partition, so that its expression alone may mean something else)
+    # the expression, and by how many partitions the glob is the rest of it
+    _given: Optional[Tuple[str, int]] = None
     _most_captures = 0
     _refused = staticmethod(_raise)  # (the extension calls it)
 
     def __init__(self, expression: str) -> None:
+        self._build((expression, 0))
+
+    def _build(self, given: Tuple[str, int]) -> None:
+        expression, _ = given
         text, handle, span = _bytes(expression), ctypes.c_void_p(), _Span()
         status = _library.wax_glob_new(text, len(text), ctypes.byref(handle), ctypes.byref(span))
         if status:
             _raise_built(-status, expression, span)
         self._hold(handle.value, *_GLOB_CALLS)
-        self.expression, self._most_captures = expression, len(text)
+        self._given, self._most_captures = (str.__str__(expression), 0), len(text)
 
-    def __repr__(self) -> str:
-        return f"Glob({self.expression!r})"
+    def __reduce__(self) -> Tuple[Any, ...]:
+        whole, partitions = self._source()
+        return (_rest, (whole, partitions), self.__getstate__()) if partitions else super().__reduce__()
+
+    def __str__(self) -> str:
+        return self.expression
+
+    def _shown(self) -> str:
+        whole, partitions = self._source()
+        return f"{type(self).__name__}({whole!r}){'.partition()[1]' * partitions}"
+
+    @property
+    def expression(self) -> str:
+        """The expression. Of the rest that `partition` returns, it is the rest of the expression, without earlier flags.
+
+        >>> Glob("src/*.rs").expression
+        'src/*.rs'
+        """
+        whole, partitions = self._source()
+        if partitions:
+            return _written(_using.wax_glob_expression, self._handle, room=self._most_captures)[1]
+        return str(whole)
 
     def matched(self, path: str) -> Optional[Matched]:
         """Returns what the glob captures of the path, or None if it doesn't match the path.
@@ -505,13 +618,18 @@ class Glob(_MatcherBase):
         """Returns the prefix with which each match begins, and a glob of the rest, or None if there is no rest.
 
         The rest matches what this glob matches after the prefix, and after a `/` unless the prefix is empty or ends
-        with one. Its `expression` is the rest of this one, without flags that come before it.
+        with one. Its `expression` is the rest of this one, without flags that come before it, so it may match other
+        paths by itself. Therefore a rest is copied and pickled with the whole expression, and equals only rests of it.
 
         Raises `MemoryError` if an allocation fails.
 
             >>> prefix, rest = Glob("src/{a/*.rs}").partition()
             >>> prefix, rest.is_match("b.rs"), rest.expression
             ('src/a/', True, '*.rs')
+            >>> rest
+            Glob('src/{a/*.rs}').partition()[1]
+            >>> rest == Glob("src/{a/*.rs}").partition()[1], rest == Glob("*.rs")
+            (True, False)
         """
         handle = ctypes.c_void_p()
         out = [ctypes.byref(handle)]
@@ -520,19 +638,30 @@ class Glob(_MatcherBase):
             return prefix, None
         rest = Glob.__new__(Glob)
         rest._hold(handle.value, *_GLOB_CALLS)
-        rest._most_captures, rest._is_rest = self._most_captures, True
-        rest.expression = _written(_using.wax_glob_expression, rest._handle, room=self._most_captures)[1]
+        whole, partitions = self._source()
+        rest._given, rest._most_captures = (whole, partitions + 1), self._most_captures
         return prefix, rest
 
     def _expressions(self) -> Sequence[Optional[str]]:
-        return [None if self._is_rest else self.expression]
+        whole, partitions = self._source()
+        return [None if partitions else whole]
 
     def _prefixes(self) -> List[str]:
         return [self.partition()[0]]
 
 
-class GlobSet(_MatcherBase):
-    """A set of globs, built from expressions. `expressions` are these.
+def _rest(whole: str, partitions: int) -> Optional[Glob]:
+    """Returns the rest of a glob after so many partitions, for a copy. Pickled objects name this function."""
+    rest: Optional[Glob] = Glob(whole)
+    for _ in range(partitions):
+        rest = rest and rest.partition()[1]
+    return rest
+
+
+class GlobSet(_Value, _MatcherBase):
+    """A set of globs, built from expressions.
+
+    Sets are equal if they are built from equal expressions in the same order.
 
     Raises `BuildError` for the first expression that can't be built, `Error` 9 if the set is too large, `MemoryError`
     if an allocation fails.
@@ -542,12 +671,14 @@ class GlobSet(_MatcherBase):
         (True, [0, 2])
     """
 
-    expressions: Tuple[str, ...] = ()
+    _given: Optional[Tuple[str, ...]] = None
     _refused = staticmethod(_raise)
 
     def __init__(self, expressions: Iterable[str]) -> None:
-        expressions = tuple(expressions)
-        texts = [_bytes(expression) for expression in expressions]
+        self._build(tuple(expressions))
+
+    def _build(self, given: Tuple[str, ...]) -> None:
+        texts = [_bytes(expression) for expression in given]
         joined, count = b"".join(texts), len(texts)
         lengths = (ctypes.c_size_t * count)(*map(len, texts))
         handle, which, span = ctypes.c_void_p(), ctypes.c_size_t(), _Span()
@@ -555,14 +686,23 @@ class GlobSet(_MatcherBase):
             joined, len(joined), lengths, count, ctypes.byref(handle), ctypes.byref(which), ctypes.byref(span)
         )
         if status and which.value < count:
-            _raise_built(-status, expressions[which.value], span)
+            _raise_built(-status, given[which.value], span)
         if status:
             _raise(-status)
         self._hold(handle.value, *_SET_CALLS)
-        self.expressions = expressions
+        self._given = tuple(str.__str__(expression) for expression in given)
 
-    def __repr__(self) -> str:
-        return f"GlobSet({list(self.expressions)!r})"
+    def _shown(self) -> str:
+        return f"{type(self).__name__}({list(self.expressions)!r})"
+
+    @property
+    def expressions(self) -> Tuple[str, ...]:
+        """The expressions, in their order.
+
+        >>> GlobSet(["src/**", "*.md"]).expressions
+        ('src/**', '*.md')
+        """
+        return tuple(self._source())
 
     def matches(self, path: str) -> List[int]:
         """Returns the indexes of all expressions that match the path, ascending.
@@ -593,23 +733,39 @@ class GlobSet(_MatcherBase):
         return [Glob(expression).partition()[0] for expression in self.expressions]
 
 
-class IgnoreList(_IgnoreBase):
+class IgnoreList(_Value, _IgnoreBase):
     """An ignore list, with a glob on each line: paths that it matches are ignored or, after a `!`, aren't. The last
     line that matches a path decides. Lines that are empty or begin with `#` are skipped.
+
+    Lists are equal if they are built from equal texts.
 
     Raises `LineError` if the glob of a line has an error, `MemoryError` if an allocation fails.
     """
 
+    _given: Optional[str] = None
     _refused = staticmethod(_raise)
 
     def __init__(self, text: str) -> None:
-        lines, handle, line = _bytes(text), ctypes.c_void_p(), ctypes.c_size_t()
+        self._build(text)
+
+    def _build(self, given: str) -> None:
+        lines, handle, line = _bytes(given), ctypes.c_void_p(), ctypes.c_size_t()
         status = _library.wax_ignore_new(lines, len(lines), ctypes.byref(handle), ctypes.byref(line))
         if status and line.value:
             raise LineError(-status, line.value)
         if status:
             _raise(-status)
         self._hold(handle.value, *_IGNORE_CALLS)
+        self._given = str.__str__(given)
+
+    @property
+    def text(self) -> str:
+        """The text that the list is built from.
+
+        >>> IgnoreList("*.o\\n").text
+        '*.o\\n'
+        """
+        return str(self._source())
 
     def filter(self, paths: Iterable[str]) -> Iterator[str]:
         """Returns an iterator over the paths that the list doesn't ignore, in order.
