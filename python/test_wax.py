@@ -668,11 +668,11 @@ class Values(unittest.TestCase):
 
     def test_with_and_without_the_extension(self):
         """What is pickled with the extension is read without it, and what is pickled there is read here."""
-        code = "import pickle, sys, wax; it = pickle.load(sys.stdin.buffer); print(wax._extension, *it, sep='\\n'); "
+        code = "import pickle, sys; sys.modules.update({'_wax': None, 'wax._wax': None}); import wax; "
+        code += "it = pickle.load(sys.stdin.buffer); print(wax._extension, *it, sep='\\n'); "
         code += "sys.stdout.flush(); pickle.dump(it, sys.stdout.buffer)"
         made = [self.build(shown) for shown in self.shown if "Glob('" not in shown or "rs" in shown]
-        others = {name: value for name, value in os.environ.items() if name != "PYTHONPATH"}
-        others["PYTHONIOENCODING"] = "utf-8"
+        others = {**os.environ, "PYTHONIOENCODING": "utf-8"}
         ran = subprocess.run(
             [sys.executable, "-c", code], input=pickle.dumps(made), stdout=subprocess.PIPE, env=others, check=True
         )
