@@ -61,19 +61,11 @@ module _ {X : Type 0} where
   differ_first x xs new differ (suc i) (suc j) lt within same =
       differ i j (omega (arith, lt)) (omega (arith, within)) same
 
-  pub one_differs : (x : X) → AllDiffer (x ∷ [])
-  one_differs x = differ_first x [] (λ h. let no : h.0 < 0 = h.1 in omega (arith, no)) (λ i j lt within same.
-      let no : j < 0 = within in omega (arith, no))
-
 distinct : (ks : List ℕ) → AllDiffer ks → IsDistinct eqb ks
 distinct ks differ = IsDistinct-from_apart eqb ks (λ i j d lt within. ne_eqb _ _ (λ same.
     let low : i < length ks = omega (arith, lt, within) in
     differ i j lt within
     (slice_get-get_or ks i d low ∙ ap Some same ∙ sym (slice_get-get_or ks j d within))))
-
-pub one_within : (k n : ℕ) → k < n → All (λ j. j < n) (k ∷ [])
-one_within k n low zero d within = low
-one_within k n low (suc i) d within = absurd (omega (arith, within))
 
 -- ---- later lines that are added to others
 module _ (lines : List (Line Span)) where
