@@ -1,8 +1,9 @@
 -- Caches whose states change.
-use Rattle.std.proofs.Common.{◌≡◌, ◌≤◌, ◌<◌, ◌↔◌, ℕ, Bool, IsTrue, ◌+◌, ◌*◌, ◌/◌, slice_get, set, List, []}
+use Rattle.std.proofs.Common.{◌≡◌, ◌≤◌, ◌<◌, ◌↔◌, ℕ, Bool, IsTrue, ◌+◌, ◌*◌, slice_get, set, List, []}
 use Rattle.std.proofs.Common.{◌∷◌, ◌++◌, ◌⊎◌, inl, inr, Option, Some, None, IfSome, Result, Ok, Err, IfOk}
-use Rattle.std.proofs.Common.{OnErr, length, refl, sym, ◌∙◌, ap, subst, arith, length-append, replicate}
+use Rattle.std.proofs.Common.{OnErr, length, sym, ◌∙◌, ap, subst, arith, length-append, replicate}
 use Rattle.std.proofs.lemmas.List.{length-replicate}
+use Rattle.wax_lazy.specs.Cost.{most_kept}
 use Rattle.wax_lazy.specs.declared.cache.Cache.{Cache}
 use Rattle.wax_states.specs.declared.table.State.{State}
 use Rattle.std.specs.Global.{Vec}
@@ -67,21 +68,21 @@ module _ (code : List Instruction) (old new : Cache) (held : IsCacheOf code old)
     start = start_same c.maker;
     table = subst (λ z. IsTable code z new.table.cells.items) (sym c.states)
         (subst (IsTable code (c.left ∷ [])) (sym c.cells) (table_push code [] [] (table_empty code) c.left
-        (alone s c.left good c.places c.failure c.accepts c.numbers)));
+        (alone s c.left good c.places c.failure c.accepts c.numbers) (omega arith)));
     wide = wide_empty code new.table.states.items new.table.wide_cells.items c.wide;
     rows = rows_empty code new.table.states.items new.rows.keys.items new.rows.cells.items
         c.row_keys c.row_cells;
     first = no_first code new.table.states.items new.start new.first c.first;
   }
 
-  pub cache_added : (s : State) (number : ℕ) → IsState code old.table.states.items s
-      → IsAdded old new s number → IsCacheOf code new
-  cache_added s number good a = record {
+  pub cache_added : (s : State) (number : ℕ) → length old.table.states.items < most_kept
+      → IsState code old.table.states.items s → IsAdded old new s number → IsCacheOf code new
+  cache_added s number few good a = record {
     size = size_same a.maker;
     start = start_same a.maker;
     table = subst (λ z. IsTable code z new.table.cells.items) (sym a.states)
         (subst (IsTable code (old.table.states.items ++ s ∷ [])) (sym a.cells)
-        (table_push code old.table.states.items old.table.cells.items held.table s good));
+        (table_push code old.table.states.items old.table.cells.items held.table s good few));
     wide = subst (λ z. AreWideCells code new.table.states.items z.items) (sym a.wide)
         (subst (λ z. AreWideCells code z old.table.wide_cells.items) (sym a.states)
         (wide_keeps code old.table.states.items (old.table.states.items ++ s ∷ []) old.table.wide_cells.items
@@ -98,12 +99,13 @@ module _ (code : List Instruction) (old new : Cache) (held : IsCacheOf code old)
         (keeps_append old.table.states.items (s ∷ [])) held.first)));
   }
 
-  pub cache_kept : {E : Type 0} (s : State) (result : Result ℕ E) → IsState code old.table.states.items s
+  pub cache_kept : {E : Type 0} (s : State) (result : Result ℕ E)
+      → length old.table.states.items < most_kept → IsState code old.table.states.items s
       → IfOk result (IsAdded old new s) → OnErr result (IsCleared old new)
       → KeepsCache code old new
-  cache_kept s (Ok number) good ok err =
-      record { cache = cache_added s number good ok; start = ok.maker.start }
-  cache_kept s (Err e) good ok err = record { cache = cache_cleared err; start = err.maker.start }
+  cache_kept s (Ok number) few good ok err =
+      record { cache = cache_added s number few good ok; start = ok.maker.start }
+  cache_kept s (Err e) few good ok err = record { cache = cache_cleared err; start = err.maker.start }
 
 module _ (old new : Cache) (s : State) (number : ℕ) (a : IsAdded old new s number) where
   pub added_keeps : KeepsStates old.table.states.items new.table.states.items

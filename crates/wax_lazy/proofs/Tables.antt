@@ -1,5 +1,5 @@
 -- States that are added, and cells that are filled.
-use Rattle.std.proofs.Common.{◌≡◌, ℕ, zero, suc, ◌+◌, ◌-◌, ◌*◌, ◌/◌, ◌%◌, ◌<◌, ◌≤◌, ◌⊎◌, ◌↔◌, ◌≢◌, inl, inr}
+use Rattle.std.proofs.Common.{◌≡◌, ℕ, zero, suc, ◌+◌, ◌-◌, ◌*◌, ◌<◌, ◌≤◌, ◌⊎◌, ◌↔◌, ◌≢◌, inl, inr}
 use Rattle.std.proofs.Common.{Bool, true, false, List, [], ◌∷◌, ◌++◌, Option, Some, None, IfSome, IsTrue}
 use Rattle.std.proofs.Common.{is_some, true≢false, Contains, length, get_or, set, replicate, refl, sym, ◌∙◌}
 use Rattle.std.proofs.Common.{ap, subst, arith, slice_get, length-append, length-set, get_or-set_same}
@@ -13,6 +13,7 @@ use Rattle.wax_states.specs.declared.table.State.{State}
 use Rattle.wax_states.specs.declared.table.WideCell.{WideCell}
 use Rattle.wax_states.specs.declared.table.Next.{Next}
 use Rattle.wax_states.specs.declared.table.Next.TheVariants.{To, Nothing, Everything}
+use Rattle.wax_lazy.specs.Cost.{most_kept}
 use Rattle.wax_lazy.specs.inner.Table.{AreNumbersOf, AreWideCells, BeginsTexts, IsFailureState, IsState}
 use Rattle.wax_lazy.specs.inner.Table.{IsTable, IsJoinOf, KeepsStates, Leads, known_numbers, numbers_in}
 use Rattle.wax_lazy.specs.inner.Table.{own_at, own_in}
@@ -119,6 +120,7 @@ module _ (old new : List State) (keeps : KeepsStates old new) where
 -- ---- tables
 pub table_empty : (code : List Instruction) → IsTable code [] []
 table_empty code = record {
+  few = omega arith;
   room = refl;
   rows = λ t s e. absurd (none_some e);
   says = λ t k lt low. absurd (omega (arith, lt));
@@ -169,8 +171,9 @@ module _ (code : List Instruction) (states : List State) (cells : List ℕ)
           ∙ get_or-replicate 128 (128 * t + k - length cells) 0 0 few))
     ]
 
-    pub table_push : IsTable code (states ++ s ∷ []) (cells ++ replicate 128 0)
-    table_push = record {
+    pub table_push : length states < most_kept → IsTable code (states ++ s ∷ []) (cells ++ replicate 128 0)
+    table_push fits = record {
+      few = omega (arith, longer, fits);
       room = omega
           (arith, longer, length-append cells (replicate 128 0), length-replicate {A = ℕ} 128 0, table.room);
       rows = row_pushed;
@@ -200,6 +203,7 @@ module _ (code : List Instruction) (states : List State) (cells : List ℕ)
 
     pub table_write : IsTable code states (set cells (128 * t + k) cell)
     table_write = record {
+      few = table.few;
       room = length-set cells (128 * t + k) cell ∙ table.room;
       rows = table.rows;
       says = cell_written;
@@ -244,6 +248,7 @@ module _ (old new : List State) (t : ℕ) (accepts : State → Option Bool) (num
       → IfSome (numbers settled.0) (λ v. AreNumbersOf code settled.0.places.items v.items)
       → IsTable code new cells
   table_settled code cells table ends are = record {
+    few = omega (arith, table.few, count);
     room = omega (arith, table.room, count);
     rows = λ u r e. elim (cases_eq u t) [
       | inl same ↦ (let is : said ≡ r = some_same (sym here ∙ ap (slice_get new) (sym same) ∙ e) in

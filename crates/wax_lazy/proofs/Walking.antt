@@ -1,5 +1,5 @@
 -- A text that is followed from state to state.
-use Rattle.std.proofs.Common.{◌≡◌, ℕ, suc, ◌+◌, ◌/◌, ◌<◌, ◌↔◌, Bool, IsTrue, List, [], ◌∷◌, ◌++◌, length}
+use Rattle.std.proofs.Common.{◌≡◌, ℕ, suc, ◌+◌, ◌<◌, ◌↔◌, Bool, IsTrue, List, [], ◌∷◌, ◌++◌, length}
 use Rattle.std.proofs.Common.{get_or, drop, refl, sym, ◌∙◌, ap, subst, arith, drop-cons}
 use Rattle.wax_lazy.specs.inner.Cached.{DecidesLeft, LeadsFor}
 use Rattle.wax_states.specs.declared.table.Next.{Next}

@@ -1,2 +1,2 @@
 -- What a lazy DFA knows of a program.
-pub use Rattle.wax_lazy.specs.inner.Cached.{IsDfaOf}
+pub use Rattle.wax_lazy.specs.inner.Cached.{IsDfaOf, KnowsAhead}

@@ -1,3 +1,4 @@
+pub mod Cost
 pub mod Dfa
 pub mod Numbers
 pub mod Verdict

@@ -3,6 +3,7 @@ ghost use Rattle.std.specs.Prelude.{◌≡◌, ◌+◌, ◌*◌, ◌/◌, ◌^�
 ghost use Rattle.std.specs.Prelude.{IfOk, IfSome, IsFalse, IsTrue, OnErr, Some, drop, length, slice_get};
 ghost use Rattle.std.specs.Prelude.{slice_index};
 ghost use Rattle.std.specs.Str.{IsAscii};
+ghost use Rattle.wax_lazy.specs.Cost.{char_visits, end_visits, fill_visits, step_visits};
 ghost use Rattle.wax_lazy.specs.inner.Cached.{AreNext, AreParted, AreSameLists, AreStepped};
 ghost use Rattle.wax_lazy.specs.inner.Cached.{GrowsBy, IsAdded, KeepsCache, KnowsState};
 ghost use Rattle.wax_lazy.specs.inner.Cached.{DecidesLeft, IsCacheOf, IsCleared, IsInterned, IsChain};
@@ -151,6 +152,8 @@ impl Cache {
         ensures kept { KeepsCache program.now.0 self.old self.new }
         ensures leads { let places = places_at self.old.table.states.items state in
             IfOk result (LeadsNext program.now.0 self.new.table.states.items places c) }
+        ensures above { meter.new ≤ meter.old + fill_visits program.now.0 }
+        ensures steady { meter.old ≤ meter.new }
     {
         self.prepare_for(program, c)?;
         if self.is_full() {
@@ -159,7 +162,7 @@ impl Cache {
                 None => self.fill(program, state, c, meter),
             };
         }
-        let next = self.follow_known(program, state, c, MOST_PARTS, meter)?;
+        let next = self.follow_cell(program, state, c, meter)?;
         if self.rows.is_often_met(state) && self.rows.size() < self.most_bytes / 2 {
             self.rows.record(program, &self.table, state, c, next)?;
         }
@@ -227,25 +230,57 @@ impl Cache {
         ensures decides { let places = places_at self.old.table.states.items state in
             IfOk result (λ r. DecidesLeft program.now.0 self.new.table.states.items places
             (drop index text.now) (drop r.1 text.now) r.0) }
+        ensures spent { IfOk result (λ r.
+            meter.new + char_visits program.now.0 * index ≤ meter.old + char_visits program.now.0 * r.1) }
+        ensures most { let all = char_visits program.now.0 * length text.now in
+            meter.new + char_visits program.now.0 * index ≤ meter.old + all }
+        ensures steady { meter.old ≤ meter.new }
     {
         let c = char::from(text[index]);
-        if !self.is_full() {
-            if let Some(chain) = self.chain(program, state) {
-                if let Some(true) = check_at(program, chain.place, c, meter) {
-                    return self.follow_chain(program, chain, text, index, meter);
-                }
-            }
+        if let Some(chain) = self.chain_taking(program, state, c, meter) {
+            return self.follow_chain(program, chain, text, index, meter);
         }
         let next = self.fill(program, state, c, meter)?;
         Ok((next, index + 1))
+    }
+
+    /// Returns the chain that begins at the own place of a state, if its first check takes the character,
+    /// and there is room for more states. Reads at most this check.
+    fn chain_taking(
+        &self,
+        program: &CompiledProgram,
+        state: StateId,
+        c: char,
+        meter: &mut Meter,
+    ) -> Option<Chain>
+        requires here { KnowsState program.now.0 self.now state }
+        ensures chain { let places = places_at self.now.table.states.items state in
+            IfSome result (IsChain program.now.0 self.now.table.states.items places) }
+        ensures check { IfSome result (λ chain. IsCheckAt program.now.0 chain.place c true) }
+        ensures few { IfSome result (λ _. length self.now.table.states.items < 60000) }
+        ensures fits { IfSome result (λ _. length program.now.0 < 2 ^ 64) }
+        ensures large { IfSome result (λ _. 256 ≤ length program.now.0) }
+        ensures above { meter.new ≤ meter.old + 1 }
+        ensures less { length program.now.0 < 256 → meter.new ≡ meter.old }
+        ensures steady { meter.old ≤ meter.new }
+    {
+        if self.is_full() {
+            return None;
+        }
+        let chain = self.chain(program, state)?;
+        match check_at(program, chain.place, c, meter) {
+            Some(true) => Some(chain),
+            _ => None,
+        }
     }
 
     /// Returns the chain that begins at the own place of a state, if it has only one. Returns `None` in
     /// a small program.
     fn chain(&self, program: &CompiledProgram, state: StateId) -> Option<Chain>
         requires here { KnowsState program.now.0 self.now state }
-        ensures { let places = places_at self.now.table.states.items state in
+        ensures chain { let places = places_at self.now.table.states.items state in
             IfSome result (IsChain program.now.0 self.now.table.states.items places) }
+        ensures large { IfSome result (λ _. 256 ≤ length program.now.0) }
     {
         if program.size() < LEAST_PARTED {
             return None;
@@ -284,6 +319,7 @@ impl Cache {
         requires has_state { IfSome chain.failure (HasState self.old.table.states.items) }
         requires few { length self.old.table.states.items < 60000 }
         requires small { length program.now.0 < 2 ^ 64 }
+        requires large { 256 ≤ length program.now.0 }
         requires ascii { IsAscii text.now }
         requires within { index < length text.now }
         requires check { IsCheckAt program.now.0 chain.place (slice_index text.now index) true }
@@ -293,6 +329,11 @@ impl Cache {
             → IsChain program.now.0 self.old.table.states.items places chain
             → IfOk result (λ r. DecidesLeft program.now.0 self.new.table.states.items places
             (drop index text.now) (drop r.1 text.now) r.0) }
+        ensures spent { IfOk result (λ r. meter.new + 1 + char_visits program.now.0 * index
+            ≤ meter.old + char_visits program.now.0 * r.1) }
+        ensures most { let all = char_visits program.now.0 * length text.now in
+            meter.new + 1 + char_visits program.now.0 * index ≤ meter.old + all }
+        ensures steady { meter.old ≤ meter.new }
     {
         let mut here = chain;
         let mut end = index;
@@ -337,10 +378,12 @@ impl Cache {
         ensures kept { KeepsCache program.now.0 self.old self.new }
         ensures leads { let places = places_or_none self.old.table.states.items failure in
             IfOk result (LeadsNext program.now.0 self.new.table.states.items places c) }
-        ensures grows { IfOk result (λ _. GrowsBy 130 self.old self.new) }
+        ensures grows { IfOk result (λ _. GrowsBy 132 self.old self.new) }
+        ensures above { meter.new ≤ meter.old + fill_visits program.now.0 }
+        ensures steady { meter.old ≤ meter.new }
     {
         match failure {
-            Some(failure) => self.follow_known(program, failure, c, MOST_PARTS, meter),
+            Some(failure) => self.follow_cell(program, failure, c, meter),
             None => Ok(Next::Nothing),
         }
     }
@@ -360,6 +403,8 @@ impl Cache {
         ensures union { let failure = places_or_none self.old.table.states.items chain.failure in IfOk result
             (λ state. IsJoinOf program.now.0 (places_at self.new.table.states.items state) failure
             (chain.place ∷ [])) }
+        ensures above { meter.new ≤ meter.old + 2 * length program.now.0 }
+        ensures steady { meter.old ≤ meter.new }
     {
         self.others.clear();
         self.others.push(chain.place)?;
@@ -385,17 +430,74 @@ impl Cache {
         ensures kept { KeepsCache program.now.0 self.old self.new }
         ensures leads { let places = places_at self.old.table.states.items state in
             IfOk result (LeadsNext program.now.0 self.new.table.states.items places c) }
+        ensures above { meter.new ≤ meter.old + fill_visits program.now.0 }
+        ensures steady { meter.old ≤ meter.new }
     {
         if self.is_full() {
             self.restart(state)?;
-            return self.follow(program, 0, c, MOST_PARTS, meter);
+            return self.follow_within(program, 0, c, meter);
         }
-        self.follow(program, state, c, MOST_PARTS, meter)
+        self.follow_within(program, state, c, meter)
+    }
+
+    /// Follows a character by its cell, if that is filled, and otherwise as `follow_within` does.
+    fn follow_cell(
+        &mut self,
+        program: &CompiledProgram,
+        state: StateId,
+        c: char,
+        meter: &mut Meter,
+    ) -> Result<Next, AllocError>
+        requires here { KnowsState program.now.0 self.old state }
+        requires few { length self.old.table.states.items < 65000 }
+        ensures kept { KeepsCache program.now.0 self.old self.new }
+        ensures leads { let places = places_at self.old.table.states.items state in
+            IfOk result (LeadsNext program.now.0 self.new.table.states.items places c) }
+        ensures grows { IfOk result (λ _. GrowsBy 132 self.old self.new) }
+        ensures above { meter.new ≤ meter.old + fill_visits program.now.0 }
+        ensures steady { meter.old ≤ meter.new }
+    {
+        if let Some(next) = self.cached_next(state, c) {
+            return Ok(next);
+        }
+        self.follow_within(program, state, c, meter)
+    }
+
+    /// Follows a character by a step of the program, and fills its cell. In a large program, does what
+    /// `follow` does; if that reads more instructions than the program has, and in a small program, which
+    /// has no failure states, steps from all places of the state.
+    #[tactic(auto, using(crate::proofs::Costs::fill_large))]
+    fn follow_within(
+        &mut self,
+        program: &CompiledProgram,
+        state: StateId,
+        c: char,
+        meter: &mut Meter,
+    ) -> Result<Next, AllocError>
+        requires here { KnowsState program.now.0 self.old state }
+        requires few { length self.old.table.states.items < 65000 }
+        ensures kept { KeepsCache program.now.0 self.old self.new }
+        ensures leads { let places = places_at self.old.table.states.items state in
+            IfOk result (LeadsNext program.now.0 self.new.table.states.items places c) }
+        ensures grows { IfOk result (λ _. GrowsBy 132 self.old self.new) }
+        ensures above { meter.new ≤ meter.old + fill_visits program.now.0 }
+        ensures steady { meter.old ≤ meter.new }
+    {
+        if program.size() < LEAST_PARTED {
+            return self.follow_all(program, state, c, meter);
+        }
+        let most = meter.ticks().saturating_add(program.size() as u128);
+        let found = self.follow(program, state, c, MOST_PARTS, most, meter)?;
+        match found {
+            Some(next) => Ok(next),
+            None => self.follow_all(program, state, c, meter),
+        }
     }
 
     /// Follows a character by a step of the program, mostly only from the state's own places: where
     /// its failure state leads is found by that state's cell, which is filled in the same way, up to
-    /// `depth` times. If its own places lead nowhere, the failure state decides.
+    /// `depth` times. If its own places lead nowhere, the failure state decides. Returns `None` once the
+    /// meter passes `most`: then a step from all places of the first state reads less.
     #[cycle(follow)]
     fn follow(
         &mut self,
@@ -403,33 +505,43 @@ impl Cache {
         state: StateId,
         c: char,
         depth: usize,
+        most: u128,
         meter: &mut Meter,
-    ) -> Result<Next, AllocError>
+    ) -> Result<Option<Next>, AllocError>
         requires here { KnowsState program.now.0 self.old state }
         requires few { length self.old.table.states.items + (2 * depth + 2) < 65533 }
+        requires most { meter.old ≤ most }
         ensures kept { KeepsCache program.now.0 self.old self.new }
-        ensures leads { let places = places_at self.old.table.states.items state in
-            IfOk result (LeadsNext program.now.0 self.new.table.states.items places c) }
+        ensures leads { let places = places_at self.old.table.states.items state in IfOk result
+            (λ found. IfSome found (LeadsNext program.now.0 self.new.table.states.items places c)) }
         ensures grows { IfOk result (λ _. GrowsBy (2 * depth + 2) self.old self.new) }
+        ensures above { meter.new ≤ most + step_visits program.now.0 }
+        ensures steady { meter.old ≤ meter.new }
     {
         let Some(failure) = self.table.state(state).failure else {
-            return self.follow_all(program, state, c, meter);
+            return Ok(Some(self.follow_all(program, state, c, meter)?));
         };
         if depth == 0 {
-            return self.follow_all(program, state, c, meter);
+            return Ok(Some(self.follow_all(program, state, c, meter)?));
         }
-        let next = self.follow_known(program, failure, c, depth - 1, meter)?;
+        let found = self.follow_known(program, failure, c, depth - 1, most, meter)?;
+        let Some(next) = found else {
+            return Ok(None);
+        };
+        if meter.ticks() > most {
+            return Ok(None);
+        }
         if let Next::Everything = next {
             self.table.write(state, c, ALL);
-            return Ok(next);
+            return Ok(Some(next));
         }
         let target = next.state();
         let leads = self.step_own(program, state, c, target, meter)?;
         if !leads {
             self.table.write(state, c, cell_of(next));
-            return Ok(next);
+            return Ok(Some(next));
         }
-        self.enter(program, state, c, target, meter)
+        Ok(Some(self.enter(program, state, c, target, meter)?))
     }
 
     /// Follows a character by its cell, if that is filled, and otherwise as `follow` does.
@@ -440,19 +552,23 @@ impl Cache {
         state: StateId,
         c: char,
         depth: usize,
+        most: u128,
         meter: &mut Meter,
-    ) -> Result<Next, AllocError>
+    ) -> Result<Option<Next>, AllocError>
         requires here { KnowsState program.now.0 self.old state }
         requires few { length self.old.table.states.items + (2 * depth + 2) < 65533 }
+        requires most { meter.old ≤ most }
         ensures kept { KeepsCache program.now.0 self.old self.new }
-        ensures leads { let places = places_at self.old.table.states.items state in
-            IfOk result (LeadsNext program.now.0 self.new.table.states.items places c) }
+        ensures leads { let places = places_at self.old.table.states.items state in IfOk result
+            (λ found. IfSome found (LeadsNext program.now.0 self.new.table.states.items places c)) }
         ensures grows { IfOk result (λ _. GrowsBy (2 * depth + 2) self.old self.new) }
+        ensures above { meter.new ≤ most + step_visits program.now.0 }
+        ensures steady { meter.old ≤ meter.new }
     {
         if let Some(next) = self.cached_next(state, c) {
-            return Ok(next);
+            return Ok(Some(next));
         }
-        self.follow(program, state, c, depth, meter)
+        self.follow(program, state, c, depth, most, meter)
     }
 
     /// Steps from a state's own places. Writes the places that were reached, and those of the state
@@ -474,6 +590,8 @@ impl Cache {
             → IsDead program.now.0 (own_at self.old.table.states.items state) c) }
         ensures reaches { IfOk result (λ leads. IsTrue leads
             → AreStepped program.now.0 self.old.table.states.items state target c self.new) }
+        ensures above { meter.new ≤ meter.old + length program.now.0 }
+        ensures steady { meter.old ≤ meter.new }
     {
         let own = &self.table.state(state).own;
         let also = self.table.places_or_none(target);
@@ -503,6 +621,9 @@ impl Cache {
         ensures leads { let places = places_at self.old.table.states.items state in
             IfOk result (LeadsNext program.now.0 self.new.table.states.items places c) }
         ensures grows { IfOk result (λ _. GrowsBy 2 self.old self.new) }
+        ensures above { meter.new ≤ meter.old + step_visits program.now.0 }
+        ensures less { length program.now.0 < 256 → meter.new ≤ meter.old + (length program.now.0 + 1) }
+        ensures steady { meter.old ≤ meter.new }
     {
         let places = self.table.places(state);
         self.stepper.step(
@@ -535,6 +656,9 @@ impl Cache {
         ensures leads { let places = places_at self.old.table.states.items state in
             IfOk result (LeadsNext program.now.0 self.new.table.states.items places c) }
         ensures grows { IfOk result (λ _. GrowsBy 2 self.old self.new) }
+        ensures above { meter.new ≤ meter.old + (2 * length program.now.0 + 1) }
+        ensures less { length program.now.0 < 256 → target ≡ None → meter.new ≤ meter.old + 1 }
+        ensures steady { meter.old ≤ meter.new }
     {
         if self.reached.is_empty() {
             self.table.write(state, c, DEAD);
@@ -564,11 +688,18 @@ impl Cache {
         ensures kept { KeepsCache program.now.0 self.old self.new }
         ensures small { IfOk result (λ t. t < 65533) }
         ensures interned { IfOk result (λ t. IsInterned 2 self.old self.new self.old.reached.items t) }
+        ensures above { meter.new ≤ meter.old + 2 * length program.now.0 }
+        ensures less { length program.now.0 < 256 → target ≡ None → meter.new ≡ meter.old }
+        ensures steady { meter.old ≤ meter.new }
     {
-        if target.is_some() && !has_loop(program, &self.others, meter) {
+        if self.has_no_loop(program, target, meter) {
             return self.intern(program, target);
         }
         if program.size() < LEAST_PARTED {
+            return self.intern(program, None);
+        }
+        // A list with more places than there are instructions isn't worth the time that it would take.
+        if self.reached.len() > program.size() {
             return self.intern(program, None);
         }
         part_loops(
@@ -586,6 +717,24 @@ impl Cache {
         mem::swap(&mut self.reached, &mut self.loops);
         let failure = loops?;
         self.intern(program, Some(failure))
+    }
+
+    /// Returns whether there is a state `target`, and none of the other places that were reached is a
+    /// loop. Returns `false` for a list with more places than there are instructions.
+    fn has_no_loop(
+        &self,
+        program: &CompiledProgram,
+        target: Option<StateId>,
+        meter: &mut Meter,
+    ) -> bool
+        ensures above { meter.new ≤ meter.old + length program.now.0 }
+        ensures none { target ≡ None → meter.new ≡ meter.old }
+        ensures steady { meter.old ≤ meter.new }
+    {
+        if target.is_none() || self.others.len() > program.size() {
+            return false;
+        }
+        !has_loop(program, &self.others, meter)
     }
 
     /// Finds the state of the places that were reached, and adds it if it is new, with this failure
@@ -688,6 +837,8 @@ impl Cache {
         ensures kept { KeepsCache program.now.0 self.old self.new }
         ensures accepts { let places = places_at self.old.table.states.items state in
             IsTrue result ↔ AnyAmong program.now.0 places [] }
+        ensures above { meter.new ≤ meter.old + end_visits program.now.0 }
+        ensures steady { meter.old ≤ meter.new }
     {
         if let Some(accepts) = self.table.state(state).accepts {
             return accepts;
@@ -710,6 +861,8 @@ impl Cache {
         ensures kept { KeepsCache program.now.0 self.old self.new }
         ensures numbers { let places = places_at self.old.table.states.items state in
             IfOk result (λ _. AreNumbersOf program.now.0 places (numbers_at self.new (Some state))) }
+        ensures above { meter.new ≤ meter.old + (2 * length program.now.0 + 1) }
+        ensures steady { meter.old ≤ meter.new }
     {
         if self.table.state(state).numbers.is_some() {
             return Ok(());
@@ -740,7 +893,9 @@ impl Cache {
         }
     }
 
-    /// Computes what `accepts` returns: by the own places of the state, and then by its failure state.
+    /// Computes what `accepts` returns: by the own places of the state, and then by its failure state. Once
+    /// that reads more instructions than the program has, goes on from all places of a failure state.
+    #[tactic(auto, using(crate::proofs::Costs::end_large, crate::proofs::Costs::end_small))]
     fn computed(&mut self, program: &CompiledProgram, state: StateId, meter: &mut Meter) -> bool
         requires here { KnowsState program.now.0 self.old state }
         ensures kept { KeepsCache program.now.0 self.old self.new }
@@ -749,7 +904,15 @@ impl Cache {
         ensures first { self.new.first ≡ self.old.first }
         ensures accepts { let places = places_at self.old.table.states.items state in
             IsTrue result ↔ AnyAmong program.now.0 places [] }
+        ensures above { meter.new ≤ meter.old + end_visits program.now.0 }
+        ensures steady { meter.old ≤ meter.new }
     {
+        if program.size() < LEAST_PARTED {
+            return self
+                .stepper
+                .accepts(program, self.table.places(state), meter);
+        }
+        let most = meter.ticks().saturating_add(program.size() as u128);
         let mut here = state;
         for _part in 0..MOST_PARTS {
             let kept = self.table.state(here);
@@ -759,6 +922,9 @@ impl Cache {
             let Some(failure) = kept.failure else {
                 break;
             };
+            if meter.ticks() > most {
+                break;
+            }
             if self.own_accept(program, here, meter) {
                 return true;
             }
@@ -778,6 +944,8 @@ impl Cache {
         ensures first { self.new.first ≡ self.old.first }
         ensures accepts { IsTrue result
             ↔ AnyAmong program.now.0 (own_at self.old.table.states.items state) [] }
+        ensures above { meter.new ≤ meter.old + length program.now.0 }
+        ensures steady { meter.old ≤ meter.new }
     {
         let own = &self.table.state(state).own;
         let accepts = self.stepper.accepts(program, own, meter);

@@ -1,7 +1,8 @@
 //! Deciding many texts by one program.
-ghost use Rattle.std.specs.Prelude.{◌≡◌, ◌≤◌, ◌↔◌, IfOk, IsFalse, IsTrue, List, None, Some, chars};
-ghost use Rattle.std.specs.Prelude.{is_some, length};
-ghost use Rattle.wax_lazy.specs.Dfa.{IsDfaOf};
+ghost use Rattle.std.specs.Prelude.{◌≡◌, ◌+◌, ◌*◌, ◌≤◌, ◌↔◌, IfOk, IsFalse, IsTrue, List, None, Some};
+ghost use Rattle.std.specs.Prelude.{chars, is_some, length};
+ghost use Rattle.wax_lazy.specs.Cost.{list_visits, match_visits, most_kept};
+ghost use Rattle.wax_lazy.specs.Dfa.{IsDfaOf, KnowsAhead};
 ghost use Rattle.wax_lazy.specs.Numbers.{AreNumbers};
 ghost use Rattle.wax_lazy.specs.Verdict.{IsVerdict};
 ghost use Rattle.wax_lazy.specs.inner.Cached.{IsFollowed, IsKeptFor, numbers_known};
@@ -9,6 +10,7 @@ ghost use Rattle.wax_program.specs.Closed.{IsClosed};
 ghost use Rattle.wax_program.specs.Last.{ReadsLast};
 ghost use Rattle.wax_program.specs.Machine.{Accepts};
 ghost use Rattle.wax_program.specs.Onward.{AreFlagsOf, AreLevelsOf, HasLevel};
+ghost use Rattle.wax_program.specs.Visits.{onward_visits};
 ghost use Rattle.wax_program.specs.declared.instruction.Instruction.{Instruction};
 
 use crate::cache::Cache;
@@ -46,8 +48,6 @@ pub struct LazyDfa {
     onward: Option<Onward>,
     /// Those for each limit of names, from the first verdict with a limit on.
     levels: Option<Levels>,
-    /// Counts the instructions that were read, for all texts.
-    meter: Meter,
 }
 
 impl LazyDfa {
@@ -75,7 +75,6 @@ impl LazyDfa {
             cache: None,
             onward: None,
             levels: None,
-            meter,
         }
     }
 
@@ -121,6 +120,10 @@ impl LazyDfa {
     /// Returns whether the program accepts the text. If the text leads only to states that are known,
     /// this takes what `Matcher::is_match` does, without its test.
     ///
+    /// The meter counts the instructions that are read, whatever earlier texts led to: for each character
+    /// and at the end at most as many as the program has, and one more; or nine times as many, if it has
+    /// 256 and more. Following a character by a cell that is filled reads none.
+    ///
     /// # Errors
     ///
     /// Returns `NoMemory` if allocation fails. Further texts can be decided even then.
@@ -129,18 +132,21 @@ impl LazyDfa {
         alloc: Global,
         program: &CompiledProgram,
         text: &str,
+        meter: &mut Meter,
     ) -> Result<bool, NoMemory>
         requires { IsDfaOf program.now.0 self.old }
         ensures dfa { IsDfaOf program.now.0 self.new }
         ensures decides { IfOk result (λ b. IsTrue b ↔ Accepts program.now.0 0 (chars text.now)) }
+        ensures above { meter.new ≤ meter.old + match_visits program.now.0 (length (chars text.now)) }
+        ensures steady { meter.old ≤ meter.new }
     {
         if self.gives_up() {
-            return decide_once(alloc, program, self.reads_last, text, &mut self.meter);
+            return decide_once(alloc, program, self.reads_last, text, meter);
         }
         self.prepare(alloc, program)?;
         let text = followed(text, self.reads_last);
         match &mut self.cache {
-            Some(cache) => Ok(accepts(program, cache, text, &mut self.meter)?),
+            Some(cache) => Ok(accepts(program, cache, text, meter)?),
             None => unreachable!(),
         }
     }
@@ -148,6 +154,9 @@ impl LazyDfa {
     /// Returns whether the program accepts the text, and whether it accepts one of something at most
     /// `most` names below the folder with this text; without a limit if it is `None`. The first verdict
     /// with each limit finds the places of the program that lead on.
+    ///
+    /// The meter counts as in `is_match`, and also the instructions that are read to find the places that
+    /// lead on, unless they are known.
     ///
     /// # Errors
     ///
@@ -158,14 +167,21 @@ impl LazyDfa {
         program: &CompiledProgram,
         text: &str,
         most: Option<usize>,
+        meter: &mut Meter,
     ) -> Result<Verdict, NoMemory>
         requires { IsDfaOf program.now.0 self.old }
         ensures dfa { IsDfaOf program.now.0 self.new }
         ensures decides { IfOk result (IsVerdict program.now.0 most (chars text.now)) }
+        ensures above { let first = onward_visits program.now.0 most in
+            meter.new ≤ meter.old + first + match_visits program.now.0 (length (chars text.now)) }
+        ensures later { KnowsAhead self.old most
+            → meter.new ≤ meter.old + match_visits program.now.0 (length (chars text.now)) }
+        ensures known { IfOk result (λ _. KnowsAhead self.new most) }
+        ensures steady { meter.old ≤ meter.new }
     {
         match most {
-            Some(most) => self.verdict_within(alloc, program, text, most),
-            None => self.verdict_without_limit(alloc, program, text),
+            Some(most) => self.verdict_within(alloc, program, text, most, meter),
+            None => self.verdict_without_limit(alloc, program, text, meter),
         }
     }
 
@@ -176,13 +192,21 @@ impl LazyDfa {
         program: &CompiledProgram,
         text: &str,
         most: usize,
+        meter: &mut Meter,
     ) -> Result<Verdict, NoMemory>
         requires { IsDfaOf program.now.0 self.old }
         ensures dfa { IsDfaOf program.now.0 self.new }
         ensures decides { IfOk result (IsVerdict program.now.0 (Some most) (chars text.now)) }
+        ensures above { let first = onward_visits program.now.0 (Some most) in
+            meter.new ≤ meter.old + first + match_visits program.now.0 (length (chars text.now)) }
+        ensures later { KnowsAhead self.old (Some most)
+            → meter.new ≤ meter.old + match_visits program.now.0 (length (chars text.now)) }
+        ensures known { IfOk result (λ _. KnowsAhead self.new (Some most)) }
+        ensures steady { meter.old ≤ meter.new }
     {
-        let levels = self.take_levels(alloc, program, most)?;
-        let verdict = self.verdict_by(alloc, program, levels.level(most), text, Some(most));
+        let levels = self.take_levels(alloc, program, most, meter)?;
+        let onward = levels.level(most);
+        let verdict = self.verdict_by(alloc, program, onward, text, Some(most), meter);
         self.levels = Some(levels);
         Ok(verdict?)
     }
@@ -193,13 +217,20 @@ impl LazyDfa {
         alloc: Global,
         program: &CompiledProgram,
         text: &str,
+        meter: &mut Meter,
     ) -> Result<Verdict, NoMemory>
         requires { IsDfaOf program.now.0 self.old }
         ensures dfa { IsDfaOf program.now.0 self.new }
         ensures decides { IfOk result (IsVerdict program.now.0 None (chars text.now)) }
+        ensures above { let first = onward_visits program.now.0 None in
+            meter.new ≤ meter.old + first + match_visits program.now.0 (length (chars text.now)) }
+        ensures later { KnowsAhead self.old None
+            → meter.new ≤ meter.old + match_visits program.now.0 (length (chars text.now)) }
+        ensures known { IfOk result (λ _. KnowsAhead self.new None) }
+        ensures steady { meter.old ≤ meter.new }
     {
-        let onward = self.take_onward(alloc, program)?;
-        let verdict = self.verdict_by(alloc, program, &onward, text, None);
+        let onward = self.take_onward(alloc, program, meter)?;
+        let verdict = self.verdict_by(alloc, program, &onward, text, None, meter);
         self.onward = Some(onward);
         Ok(verdict?)
     }
@@ -212,14 +243,16 @@ impl LazyDfa {
         onward: &Onward,
         text: &str,
         most: Option<usize>,
+        meter: &mut Meter,
     ) -> Result<Verdict, AllocError>
         requires dfa { IsDfaOf program.now.0 self.old }
         requires onward { AreFlagsOf program.now.0 most onward.now }
         ensures dfa { IsDfaOf program.now.0 self.new }
         ensures decides { IfOk result (IsVerdict program.now.0 most (chars text.now)) }
+        ensures above { meter.new ≤ meter.old + match_visits program.now.0 (length (chars text.now)) }
+        ensures steady { meter.old ≤ meter.new }
     {
         self.prepare(alloc, program)?;
-        let meter = &mut self.meter;
         match &mut self.cache {
             Some(cache) => judge(program, onward, self.reads_last, cache, text, most, meter),
             None => unreachable!(),
@@ -233,17 +266,20 @@ impl LazyDfa {
         alloc: Global,
         program: &CompiledProgram,
         text: &str,
+        meter: &mut Meter,
     ) -> Result<Option<StateId>, NoMemory>
         requires dfa { IsDfaOf program.now.0 self.old }
         requires closed { IsClosed program.now.0 }
         ensures dfa { IsDfaOf program.now.0 self.new }
         ensures numbers { IfOk result
             (λ state. AreNumbers program.now.0 (chars text.now) (numbers_known self.new.cache state)) }
+        ensures above { meter.new ≤ meter.old + list_visits program.now.0 (length (chars text.now)) }
+        ensures steady { meter.old ≤ meter.new }
     {
         self.prepare(alloc, program)?;
         let text = followed(text, self.reads_last);
         match &mut self.cache {
-            Some(cache) => Ok(find_numbers(program, cache, text, &mut self.meter)?),
+            Some(cache) => Ok(find_numbers(program, cache, text, meter)?),
             None => unreachable!(),
         }
     }
@@ -263,14 +299,18 @@ impl LazyDfa {
         &mut self,
         alloc: Global,
         program: &CompiledProgram,
+        meter: &mut Meter,
     ) -> Result<Onward, AllocError>
         requires { IsDfaOf program.now.0 self.old }
         ensures dfa { IsDfaOf program.now.0 self.new }
         ensures onward { IfOk result (AreFlagsOf program.now.0 None) }
+        ensures above { meter.new ≤ meter.old + onward_visits program.now.0 None }
+        ensures known { KnowsAhead self.old None → meter.new ≡ meter.old }
+        ensures steady { meter.old ≤ meter.new }
     {
         match self.onward.take() {
             Some(onward) => Ok(onward),
-            None => Onward::new(alloc, program, &mut self.meter),
+            None => Onward::new(alloc, program, meter),
         }
     }
 
@@ -281,18 +321,32 @@ impl LazyDfa {
         alloc: Global,
         program: &CompiledProgram,
         most: usize,
+        meter: &mut Meter,
     ) -> Result<Levels, AllocError>
         requires { IsDfaOf program.now.0 self.old }
         ensures dfa { IsDfaOf program.now.0 self.new }
         ensures levels { IfOk result (AreLevelsOf program.now.0) }
         ensures found { IfOk result (λ levels. HasLevel levels most) }
+        ensures above { meter.new ≤ meter.old + onward_visits program.now.0 (Some most) }
+        ensures known { KnowsAhead self.old (Some most) → meter.new ≡ meter.old }
+        ensures steady { meter.old ≤ meter.new }
     {
         let mut levels = match self.levels.take() {
             Some(levels) => levels,
             None => Levels::new(alloc),
         };
-        levels.find(alloc, program, most, &mut self.meter)?;
+        levels.find(alloc, program, most, meter)?;
         Ok(levels)
+    }
+
+    /// Returns how many states are kept.
+    pub(crate) fn states(&self) -> usize
+        ensures { (code : List Instruction) → IsDfaOf code self.now → result ≤ most_kept }
+    {
+        match &self.cache {
+            Some(cache) => cache.table.states.len(),
+            None => 0,
+        }
     }
 
     /// Returns whether states were removed before they had served enough text.
@@ -308,7 +362,8 @@ impl LazyDfa {
 /// otherwise all of it.
 #[inline]
 fn followed(text: &str, reads_last: bool) -> &str
-    ensures { IsFollowed reads_last (chars text.now) (chars result.now) }
+    ensures part { IsFollowed reads_last (chars text.now) (chars result.now) }
+    ensures shorter { length (chars result.now) ≤ length (chars text.now) }
 {
     if reads_last {
         return last_name(text);
@@ -333,6 +388,8 @@ fn judge(
     requires last { IsTrue reads_last → ReadsLast program.now.0 }
     ensures cache { IsKeptFor program.now.0 reads_last cache.new }
     ensures decides { IfOk result (IsVerdict program.now.0 most (chars text.now)) }
+    ensures above { meter.new ≤ meter.old + match_visits program.now.0 (length (chars text.now)) }
+    ensures steady { meter.old ≤ meter.new }
 {
     if reads_last {
         let is_match = accepts(program, cache, last_name(text), meter)?;
@@ -356,7 +413,9 @@ fn decide_once(
 ) -> Result<bool, NoMemory>
     requires last { IsTrue reads_last → ReadsLast program.now.0 }
     requires long { IsTrue reads_last → 2 ≤ length program.now.0 }
-    ensures { IfOk result (λ b. IsTrue b ↔ Accepts program.now.0 0 (chars text.now)) }
+    ensures decides { IfOk result (λ b. IsTrue b ↔ Accepts program.now.0 0 (chars text.now)) }
+    ensures above { meter.new ≤ meter.old + (length program.now.0 + 1) * (length (chars text.now) + 1) }
+    ensures steady { meter.old ≤ meter.new }
 {
     if reads_last {
         return run_last(alloc, program, text, meter);

@@ -1,6 +1,8 @@
 //! What the end of a text says of it, and of what may follow it.
-ghost use Rattle.std.specs.Prelude.{◌≡◌, ◌↔◌, ◌/◌, ℕ, List, IfOk, IfSome, IsTrue, chars};
+ghost use Rattle.std.specs.Prelude.{◌≡◌, ◌+◌, ◌*◌, ◌≤◌, ◌↔◌, ◌/◌, ℕ, List, IfOk, IfSome, IsTrue, chars};
+ghost use Rattle.std.specs.Prelude.{length};
 ghost use Rattle.wax_states.specs.States.{HasState, state_of};
+ghost use Rattle.wax_lazy.specs.Cost.{char_visits, end_visits};
 ghost use Rattle.wax_lazy.specs.inner.Cached.{AnyAhead, IsAheadVerdict, IsCacheOf, KeepsCache, LeadsText};
 ghost use Rattle.wax_lazy.specs.inner.Cached.{numbers_at};
 ghost use Rattle.wax_lazy.specs.Numbers.{AreNumbersFrom};
@@ -27,6 +29,9 @@ pub(crate) fn accepts(
     ensures kept { KeepsCache program.now.0 cache.old cache.new }
     ensures decides { IfOk result
         (λ b. IsTrue b ↔ Accepts program.now.0 cache.old.start (chars text.now)) }
+    ensures above { let all = char_visits program.now.0 * length (chars text.now) in
+        meter.new ≤ meter.old + all + end_visits program.now.0 }
+    ensures steady { meter.old ≤ meter.new }
 {
     match follow_text(program, cache, text, meter)? {
         Next::To(state) => Ok(cache.accepts(program, state, meter)),
@@ -48,6 +53,9 @@ pub(crate) fn find_numbers(
     ensures kept { KeepsCache program.now.0 cache.old cache.new }
     ensures numbers { let text = chars text.now in
         IfOk result (λ at. AreNumbersFrom program.now.0 cache.old.start text (numbers_at cache.new at)) }
+    ensures above { let all = char_visits program.now.0 * length (chars text.now) in
+        meter.new ≤ meter.old + all + (2 * length program.now.0 + 1) }
+    ensures steady { meter.old ≤ meter.new }
 {
     match follow_text(program, cache, text, meter)? {
         Next::To(state) => {
@@ -77,6 +85,8 @@ pub fn verdict_at(
     ensures decides { (text : List ℕ)
         → LeadsText program.now.0 cache.old.table.states.items cache.old.start text next
         → IsAheadVerdict program.now.0 most cache.old.start text m result }
+    ensures above { meter.new ≤ meter.old + end_visits program.now.0 }
+    ensures steady { meter.old ≤ meter.new }
 {
     match next {
         Next::To(state) => Verdict {

@@ -1,6 +1,7 @@
 //! Following a text from state to state.
-ghost use Rattle.std.specs.Prelude.{◌≡◌, ◌/◌, ◌<◌, ◌≤◌, [], IfOk, chars, drop, length};
+ghost use Rattle.std.specs.Prelude.{◌≡◌, ◌+◌, ◌*◌, ◌/◌, ◌<◌, ◌≤◌, [], IfOk, chars, drop, length};
 ghost use Rattle.std.specs.Str.{IsAscii, IsUtf8};
+ghost use Rattle.wax_lazy.specs.Cost.{char_visits};
 ghost use Rattle.wax_lazy.specs.inner.Cached.{DecidesLeft, IsCacheOf, KeepsCache, KnowsState, LeadsText};
 ghost use Rattle.wax_lazy.specs.inner.Rows.{HasRow};
 ghost use Rattle.wax_states.specs.States.{HasState, places_at};
@@ -22,6 +23,8 @@ pub(crate) fn follow_text(
     ensures kept { KeepsCache program.now.0 cache.old cache.new }
     ensures leads { IfOk result
         (LeadsText program.now.0 cache.new.table.states.items cache.old.start (chars text.now)) }
+    ensures above { meter.new ≤ meter.old + char_visits program.now.0 * length (chars text.now) }
+    ensures steady { meter.old ≤ meter.new }
 {
     if text.is_ascii() {
         return follow_ascii(program, cache, text.as_bytes(), meter);
@@ -41,6 +44,8 @@ fn follow_ascii(
     ensures kept { KeepsCache program.now.0 cache.old cache.new }
     ensures leads { IfOk result
         (LeadsText program.now.0 cache.new.table.states.items cache.old.start text.now) }
+    ensures above { meter.new ≤ meter.old + char_visits program.now.0 * length text.now }
+    ensures steady { meter.old ≤ meter.new }
 {
     let mut state = cache.begin(program, text.len())?;
     let mut index = 0;
@@ -74,6 +79,11 @@ fn advance_in(
     ensures decides { let places = places_at cache.old.table.states.items state in
         IfOk result (λ r. DecidesLeft program.now.0 cache.new.table.states.items places
         (drop index text.now) (drop r.1 text.now) r.0) }
+    ensures spent { IfOk result (λ r.
+        meter.new + char_visits program.now.0 * index ≤ meter.old + char_visits program.now.0 * r.1) }
+    ensures most { let all = char_visits program.now.0 * length text.now in
+        meter.new + char_visits program.now.0 * index ≤ meter.old + all }
+    ensures steady { meter.old ≤ meter.new }
 {
     if let Some(next) = cache.cached_ascii_next(state, text[index]) {
         return Ok((next, index + 1));
@@ -92,6 +102,8 @@ fn follow_chars(
     ensures kept { KeepsCache program.now.0 cache.old cache.new }
     ensures leads { IfOk result
         (LeadsText program.now.0 cache.new.table.states.items cache.old.start (chars text.now)) }
+    ensures above { meter.new ≤ meter.old + char_visits program.now.0 * length (chars text.now) }
+    ensures steady { meter.old ≤ meter.new }
 {
     let mut state = cache.begin(program, text.len())?;
     let mut left = text;
@@ -124,6 +136,10 @@ fn advance_left(
     ensures decides { let places = places_at cache.old.table.states.items state in
         IfOk result (λ r. DecidesLeft program.now.0 cache.new.table.states.items places
         (chars left.now) (chars (drop r.1 left.now)) r.0) }
+    ensures spent { let all = char_visits program.now.0 * length (chars left.now) in IfOk result
+        (λ r. meter.new + char_visits program.now.0 * length (chars (drop r.1 left.now)) ≤ meter.old + all) }
+    ensures most { meter.new ≤ meter.old + char_visits program.now.0 * length (chars left.now) }
+    ensures steady { meter.old ≤ meter.new }
 {
     if let Some(row) = cache.rows.find(state) {
         let (next, end) = follow_rows(program, cache, state, row, left.as_bytes());

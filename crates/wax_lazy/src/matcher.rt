@@ -1,15 +1,17 @@
 //! Matchers of many texts.
-ghost use Rattle.std.specs.Prelude.{◌≡◌, ◌↔◌, IfOk, IsTrue, List, chars};
+ghost use Rattle.std.specs.Prelude.{◌≡◌, ◌+◌, ◌≤◌, ◌↔◌, IfOk, IsTrue, List, chars, length};
+ghost use Rattle.wax_lazy.specs.Cost.{list_visits, match_visits, most_kept};
 ghost use Rattle.wax_lazy.specs.Numbers.{AreNumbers, IsLastNumber};
 ghost use Rattle.wax_lazy.specs.Verdict.{IsVerdict};
 ghost use Rattle.wax_program.specs.Closed.{IsClosed};
 ghost use Rattle.wax_program.specs.Machine.{Accepts};
+ghost use Rattle.wax_program.specs.Visits.{onward_visits};
 ghost use Rattle.wax_program.specs.declared.instruction.Instruction.{Instruction};
 
 use crate::dfa::LazyDfa;
 use std::alloc::Global;
 use std::marker::Model;
-use wax_program::CompiledProgram;
+use wax_program::{CompiledProgram, Meter};
 use wax_query::diagnostics::NoMemory;
 use wax_query::query::Verdict;
 
@@ -138,20 +140,42 @@ impl<P: HasProgram> Matcher<P> {
         ensures decides { IfOk result (λ b. IsTrue b ↔ Accepts self.old 0 (chars text.now)) }
         ensures same { self.new ≡ self.old }
     {
+        let mut meter = Meter::new();
+        self.is_match_metered(text, &mut meter)
+    }
+
+    /// Returns what `is_match` does. The meter counts the instructions that are read, whatever earlier
+    /// texts led to: for each character and at the end at most as many as the program has, and one more;
+    /// or nine times as many, if it has 256 and more. Following a character by a cell that is filled reads
+    /// none, and so does a text that the test before rejects.
+    ///
+    /// # Errors
+    ///
+    /// Returns `NoMemory` if allocation fails. The matcher can be used for further texts even then.
+    #[inline]
+    pub fn is_match_metered(&mut self, text: &str, meter: &mut Meter) -> Result<bool, NoMemory>
+        ensures decides { IfOk result (λ b. IsTrue b ↔ Accepts self.old 0 (chars text.now)) }
+        ensures same { self.new ≡ self.old }
+        ensures above { meter.new ≤ meter.old + match_visits self.old (length (chars text.now)) }
+        ensures steady { meter.old ≤ meter.new }
+    {
         if !self.program.may_accept(text) {
             return Ok(false);
         }
-        self.follow(text)
+        self.follow(text, meter)
     }
 
     /// Follows the text. It is a function of its own, never inlined, so that a text that the test
     /// before it rejects costs little more than the test.
     #[inline(never)]
-    fn follow(&mut self, text: &str) -> Result<bool, NoMemory>
+    fn follow(&mut self, text: &str, meter: &mut Meter) -> Result<bool, NoMemory>
         ensures decides { IfOk result (λ b. IsTrue b ↔ Accepts self.old 0 (chars text.now)) }
         ensures same { self.new ≡ self.old }
+        ensures above { meter.new ≤ meter.old + match_visits self.old (length (chars text.now)) }
+        ensures steady { meter.old ≤ meter.new }
     {
-        self.dfa.is_match(self.alloc, self.program.program(), text)
+        let program = self.program.program();
+        self.dfa.is_match(self.alloc, program, text, meter)
     }
 
     /// Returns whether the program accepts the text, and whether it accepts one of something at most
@@ -168,8 +192,30 @@ impl<P: HasProgram> Matcher<P> {
         ensures decides { IfOk result (IsVerdict self.old most (chars text.now)) }
         ensures same { self.new ≡ self.old }
     {
-        self.dfa
-            .verdict(self.alloc, self.program.program(), text, most)
+        let mut meter = Meter::new();
+        self.verdict_metered(text, most, &mut meter)
+    }
+
+    /// Returns what `verdict` does. The meter counts as in `is_match_metered`, and also the instructions
+    /// that are read to find the places of the program that lead on, unless they are known.
+    ///
+    /// # Errors
+    ///
+    /// Returns `NoMemory` if allocation fails. The matcher can be used for further texts even then.
+    pub fn verdict_metered(
+        &mut self,
+        text: &str,
+        most: Option<usize>,
+        meter: &mut Meter,
+    ) -> Result<Verdict, NoMemory>
+        ensures decides { IfOk result (IsVerdict self.old most (chars text.now)) }
+        ensures same { self.new ≡ self.old }
+        ensures above { let first = onward_visits self.old most in
+            meter.new ≤ meter.old + first + match_visits self.old (length (chars text.now)) }
+        ensures steady { meter.old ≤ meter.new }
+    {
+        let program = self.program.program();
+        self.dfa.verdict(self.alloc, program, text, most, meter)
     }
 
     /// Writes the numbers of the patterns that match the text, ascending. The program has to be one
@@ -185,9 +231,30 @@ impl<P: HasProgram> Matcher<P> {
         ensures numbers { IfOk result (λ _. AreNumbers self.old (chars text.now) numbers.new.items) }
         ensures same { self.new ≡ self.old }
     {
+        let mut meter = Meter::new();
+        self.list_numbers_metered(text, numbers, &mut meter)
+    }
+
+    /// Writes what `list_numbers` does. The meter counts as in `is_match_metered`.
+    ///
+    /// # Errors
+    ///
+    /// Returns `NoMemory` if allocation fails. The matcher can be used for further texts even then.
+    pub fn list_numbers_metered(
+        &mut self,
+        text: &str,
+        numbers: &mut Vec<usize>,
+        meter: &mut Meter,
+    ) -> Result<(), NoMemory>
+        requires { IsClosed self.old }
+        ensures numbers { IfOk result (λ _. AreNumbers self.old (chars text.now) numbers.new.items) }
+        ensures same { self.new ≡ self.old }
+        ensures above { meter.new ≤ meter.old + list_visits self.old (length (chars text.now)) }
+        ensures steady { meter.old ≤ meter.new }
+    {
         numbers.clear();
         let program = self.program.program();
-        let found = self.dfa.find_numbers(self.alloc, program, text)?;
+        let found = self.dfa.find_numbers(self.alloc, program, text, meter)?;
         numbers.extend_from_slice(self.dfa.numbers(found))?;
         Ok(())
     }
@@ -205,9 +272,36 @@ impl<P: HasProgram> Matcher<P> {
         ensures last { IfOk result (IsLastNumber self.old (chars text.now)) }
         ensures same { self.new ≡ self.old }
     {
+        let mut meter = Meter::new();
+        self.last_number_metered(text, &mut meter)
+    }
+
+    /// Returns what `last_number` does. The meter counts as in `is_match_metered`.
+    ///
+    /// # Errors
+    ///
+    /// Returns `NoMemory` if allocation fails. The matcher can be used for further texts even then.
+    pub fn last_number_metered(
+        &mut self,
+        text: &str,
+        meter: &mut Meter,
+    ) -> Result<Option<usize>, NoMemory>
+        requires { IsClosed self.old }
+        ensures last { IfOk result (IsLastNumber self.old (chars text.now)) }
+        ensures same { self.new ≡ self.old }
+        ensures above { meter.new ≤ meter.old + list_visits self.old (length (chars text.now)) }
+        ensures steady { meter.old ≤ meter.new }
+    {
         let program = self.program.program();
-        let found = self.dfa.find_numbers(self.alloc, program, text)?;
+        let found = self.dfa.find_numbers(self.alloc, program, text, meter)?;
         Ok(self.dfa.numbers(found).last().copied())
+    }
+
+    /// Returns how many states the matcher keeps.
+    pub fn states(&self) -> usize
+        ensures { result ≤ most_kept }
+    {
+        self.dfa.states()
     }
 
     /// Returns whether the matcher runs its program for each text from now on, since the states

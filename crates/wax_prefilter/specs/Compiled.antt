@@ -1,5 +1,5 @@
 -- What a tree is compiled to.
-use Rattle.std.specs.Prelude.{◌≡◌, ◌↔◌, ◌≤◌, ℕ, false, List}
+use Rattle.std.specs.Prelude.{◌≡◌, ◌↔◌, ◌<◌, ◌≤◌, ℕ, false, List, length}
 use Rattle.wax_program.specs.Machine.{Accepts}
 use Rattle.wax_program.specs.declared.instruction.Instruction.{Instruction}
 use Rattle.wax_token.specs.Cost.{program_length}
@@ -11,8 +11,9 @@ abbrev pub Instructions : Type 0
 Instructions = List Instruction × ℕ
 
 -- The program accepts exactly the texts that the tree matches, with nothing around it; its length is
--- `program_length`, which is within the limit.
+-- `program_length`, which is within the limit and exceeds the number of instructions.
 pub record IsCompiled {A : Type 0} (t : Tree A) (program : Instructions) : Type 0 where
   pub accepts : (text : List ℕ) → Accepts program.0 0 text ↔ Means t false false text
   pub len : program.1 ≡ program_length t
   pub fits : program_length t ≤ 1048576
+  pub longer : length program.0 < program.1

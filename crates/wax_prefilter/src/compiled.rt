@@ -2,10 +2,12 @@
 ghost use Rattle.std.specs.Prelude.{◌≡◌, ◌+◌, ◌*◌, ◌++◌, ◌∷◌, ◌<◌, ◌≤◌, ◌↔◌, [], ℕ, List, IfOk, IsTrue};
 ghost use Rattle.std.specs.Prelude.{None, chars, false, length, min};
 ghost use Rattle.std.specs.Str.{IsUtf8};
+ghost use Rattle.wax_lazy.specs.Cost.{match_visits};
 ghost use Rattle.wax_lazy.specs.Verdict.{AcceptsBelow, IsVerdict};
 ghost use Rattle.wax_program.specs.Last.{IsLastName};
 ghost use Rattle.wax_program.specs.Machine.{Accepts};
 ghost use Rattle.wax_program.specs.Meter.{most_ticks};
+ghost use Rattle.wax_program.specs.Visits.{onward_visits};
 ghost use Rattle.wax_query.specs.Outcome.{MatchBuild};
 ghost use Rattle.wax_token.specs.Cost.{costs, program_length};
 ghost use Rattle.wax_token.specs.Meaning.{MeansEach};
@@ -77,8 +79,10 @@ impl CompiledTokens {
         ensures length { MatchBuild result
             (λ c. (c.1 ≡ costs (trees tokens.now) + 1) × (c.1 ≤ 1048576))
             (λ _. 1048576 < costs (trees tokens.now) + 1) }
+        ensures longer { IfOk result (λ c. length c.0 < c.1) }
     {
         let program = encode::compile(alloc, tokens, Sides::NONE)?;
+        let _size = program.size();
         let prefilter = Prefilter::new(alloc, tokens)?;
         let dfa = LazyDfa::of(&program);
         Ok(CompiledTokens {
@@ -181,10 +185,31 @@ impl CompiledTokens {
         ensures decides { IfOk result (λ answer. IsTrue answer ↔ Accepts self.old.0 0 (chars text.now)) }
         ensures same { self.new ≡ self.old }
     {
+        let mut meter = Meter::new();
+        self.is_match_cached_metered(alloc, text, &mut meter)
+    }
+
+    /// Returns what `is_match_cached` does. The meter counts the instructions of the program that are
+    /// read, whatever earlier texts led to. A text that the test rejects takes none.
+    ///
+    /// # Errors
+    ///
+    /// Returns `NoMemory` if allocation fails. Further texts can be decided even then.
+    pub fn is_match_cached_metered(
+        &mut self,
+        alloc: Global,
+        text: &str,
+        meter: &mut Meter,
+    ) -> Result<bool, NoMemory>
+        ensures decides { IfOk result (λ answer. IsTrue answer ↔ Accepts self.old.0 0 (chars text.now)) }
+        ensures same { self.new ≡ self.old }
+        ensures above { meter.new ≤ meter.old + match_visits self.old.0 (length (chars text.now)) }
+        ensures steady { meter.old ≤ meter.new }
+    {
         if !self.prefilter.may_match_at_once(text) {
             return Ok(false);
         }
-        self.dfa.is_match(alloc, &self.program, text)
+        self.dfa.is_match(alloc, &self.program, text, meter)
     }
 
     /// Returns whether the tokens match the text, and whether they match something at most `most` names
@@ -203,7 +228,30 @@ impl CompiledTokens {
         ensures decides { IfOk result (IsVerdict self.old.0 most (chars text.now)) }
         ensures same { self.new ≡ self.old }
     {
-        self.dfa.verdict(alloc, &self.program, text, most)
+        let mut meter = Meter::new();
+        self.verdict_cached_metered(alloc, text, most, &mut meter)
+    }
+
+    /// Returns what `verdict_cached` does. The meter counts as in `is_match_cached_metered`, and also the
+    /// instructions that are read to find the places of the program that lead on, unless they are known.
+    ///
+    /// # Errors
+    ///
+    /// Returns `NoMemory` if allocation fails. Further texts can be decided even then.
+    pub fn verdict_cached_metered(
+        &mut self,
+        alloc: Global,
+        text: &str,
+        most: Option<usize>,
+        meter: &mut Meter,
+    ) -> Result<Verdict, NoMemory>
+        ensures decides { IfOk result (IsVerdict self.old.0 most (chars text.now)) }
+        ensures same { self.new ≡ self.old }
+        ensures above { let first = onward_visits self.old.0 most in
+            meter.new ≤ meter.old + first + match_visits self.old.0 (length (chars text.now)) }
+        ensures steady { meter.old ≤ meter.new }
+    {
+        self.dfa.verdict(alloc, &self.program, text, most, meter)
     }
 
     /// Returns how many bytes at the beginning of a text can be passed over in a search for lines

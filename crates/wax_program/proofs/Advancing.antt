@@ -369,6 +369,33 @@ reads_within len i n old new le h =
     mul-le-mul_left len (let e : i + 1 ≤ n + 1 = omega (arith, le) in e) in
     omega (arith, a, h)
 
+-- a bound by the number of instructions and one more is one by the length, which exceeds that number
+pub fewer_within : (n len k old new : ℕ) → n < len → new ≤ old + (n + 1) * (k + 1)
+    → new ≤ old + len * (k + 1)
+fewer_within n len k old new few h =
+    let a : (n + 1) * (k + 1) ≤ len * (k + 1) =
+    mul-le-mul_right (k + 1) (let e : n + 1 ≤ len = omega (arith, few) in e) in
+    omega (arith, a, h)
+
+-- so many visits for each flag
+pub swept_one : (x k j old mid new : ℕ) → k < j → mid ≤ old + x * k → new ≤ mid + x → new ≤ old + x * j
+swept_one x k j old mid new more h g =
+    let a : x * (k + 1) ≤ x * j = mul-le-mul_left x (let e : k + 1 ≤ j = omega (arith, more) in e) in
+    omega (arith, a, h, g)
+
+-- and as many once more
+pub swept_all : (x k most old mid new : ℕ) → k ≤ most → mid ≤ old + x * k → new ≤ mid + x
+    → new ≤ old + x * (most + 1)
+swept_all x k most old mid new few h g =
+    let a : x * k ≤ x * most = mul-le-mul_left x (let e : k ≤ most = few in e) in
+    omega (arith, a, h, g)
+
+-- and as many for each of at most so many
+pub spent_within : (x k most old new : ℕ) → k ≤ most → new ≤ old + x * k → new ≤ old + x * most
+spent_within x k most old new few h =
+    let a : x * k ≤ x * most = mul-le-mul_left x (let e : k ≤ most = few in e) in
+    omega (arith, a, h)
+
 -- so many rounds, one more, and what is left is counted by its bytes
 pub reads_passed : (len m r n bytes old met mid passed new : ℕ) → 4 ≤ len → (m + 1) + r ≡ n → bytes ≤ 4 * r
     → met ≤ old + len * m → mid ≤ met + len

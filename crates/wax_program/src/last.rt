@@ -32,6 +32,7 @@ pub fn run_last(
     requires start { 2 ≤ length program.now.0 }
     ensures decides { IfOk result (λ b. IsTrue b ↔ Accepts program.now.0 0 (chars text.now)) }
     ensures above { meter.new ≤ meter.old + program.now.1 * (length (chars text.now) + 1) }
+    ensures fewer { meter.new ≤ meter.old + (length program.now.0 + 1) * (length (chars text.now) + 1) }
     ensures below { IfOk result
         (λ b. IsTrue b → min (meter.old + length (chars text.now)) most_ticks ≤ meter.new) }
     ensures steady { meter.old ≤ meter.new }

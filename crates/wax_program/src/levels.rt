@@ -1,7 +1,8 @@
 //! Which places of a program lead on to an accepted text with a limit of names.
-ghost use Rattle.std.specs.Prelude.{◌≡◌, ◌+◌, ◌<◌, ◌↔◌, ℕ, IfOk, IsTrue, List, length};
+ghost use Rattle.std.specs.Prelude.{◌≡◌, ◌+◌, ◌*◌, ◌<◌, ◌≤◌, ◌↔◌, ℕ, IfOk, IsTrue, List, Some, length};
 ghost use Rattle.wax_program.specs.declared.instruction.Instruction.{Instruction};
 ghost use Rattle.wax_program.specs.Onward.{AreFlagsOf, AreLevelsOf, AreOthers, HasLevel};
+ghost use Rattle.wax_program.specs.Visits.{onward_visits, sweeps_visits};
 ghost use Rattle.wax_program.specs.inner.Leads.{HoldLast, IsNextLevel};
 
 use crate::bits::Set;
@@ -44,8 +45,9 @@ impl Levels {
         }
     }
 
-    /// Finds the flags for this limit, unless they are known. If memory runs out, what was found
-    /// before stays valid.
+    /// Finds the flags for this limit, unless they are known: those for each limit up to it that aren't
+    /// known, as long as they differ from those before. If memory runs out, what was found before stays
+    /// valid.
     pub fn find(
         &mut self,
         alloc: Global,
@@ -56,6 +58,9 @@ impl Levels {
         requires { AreLevelsOf program.now.0 self.old }
         ensures levels { AreLevelsOf program.now.0 self.new }
         ensures found { IfOk result (λ _. HasLevel self.new most) }
+        ensures above { meter.new ≤ meter.old + onward_visits program.now.0 (Some most) }
+        ensures known { HasLevel self.old most → meter.new ≡ meter.old }
+        ensures steady { meter.old ≤ meter.new }
     {
         if self.has(most) {
             return Ok(());
@@ -100,6 +105,8 @@ impl Levels {
         requires others { AreOthers program.now.0 others.now }
         ensures levels { AreLevelsOf program.now.0 self.new }
         ensures found { IfOk result (λ _. HasLevel self.new most) }
+        ensures above { meter.new ≤ meter.old + sweeps_visits program.now.0 * (most + 1) }
+        ensures steady { meter.old ≤ meter.new }
     {
         while !self.has(most) {
             self.add(alloc, program, others, meter)?;
@@ -119,6 +126,8 @@ impl Levels {
         requires others { AreOthers program.now.0 others.now }
         ensures levels { AreLevelsOf program.now.0 self.new }
         ensures more { IfOk result (λ _. length self.new.levels ≡ length self.old.levels + 1) }
+        ensures above { meter.new ≤ meter.old + sweeps_visits program.now.0 }
+        ensures steady { meter.old ≤ meter.new }
     {
         let next = self.next(alloc, program, others, meter)?;
         let is_last = self.is_last(&next);
@@ -138,7 +147,9 @@ impl Levels {
         requires levels { AreLevelsOf program.now.0 self.now }
         requires room { length program.now.0 < length others.now }
         requires others { AreOthers program.now.0 others.now }
-        ensures { IfOk result (IsNextLevel program.now.0 self.now.levels) }
+        ensures level { IfOk result (IsNextLevel program.now.0 self.now.levels) }
+        ensures above { meter.new ≤ meter.old + sweeps_visits program.now.0 }
+        ensures steady { meter.old ≤ meter.new }
     {
         match self.levels.last() {
             Some(last) => Onward::after(alloc, program, others, last, meter),

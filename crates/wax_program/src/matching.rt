@@ -16,9 +16,10 @@ use wax_query::diagnostics::NoMemory;
 
 /// Returns whether the program accepts the text.
 ///
-/// Reads at most `program.len()` instructions for each character, and as many at the end; the meter
-/// counts each of them. Stops once the rest of the text can't change the result. Allocates three
-/// bits for each instruction at the start, and nothing for a program of fewer than 64 instructions.
+/// Reads at most as many instructions as the program has, and one more, for each character, and as
+/// many at the end; the meter counts each of them. Stops once the rest of the text can't change the
+/// result. Allocates three bits for each instruction at the start, and nothing for a program of fewer
+/// than 64 instructions.
 pub fn run(
     alloc: Global,
     program: &CompiledProgram,
@@ -27,6 +28,7 @@ pub fn run(
 ) -> Result<bool, NoMemory>
     ensures decides { IfOk result (λ b. IsTrue b ↔ Accepts program.now.0 0 (chars text.now)) }
     ensures above { meter.new ≤ meter.old + program.now.1 * (length (chars text.now) + 1) }
+    ensures fewer { meter.new ≤ meter.old + (length program.now.0 + 1) * (length (chars text.now) + 1) }
     ensures below { IfOk result
         (λ b. IsTrue b → min (meter.old + length (chars text.now)) most_ticks ≤ meter.new) }
     ensures steady { meter.old ≤ meter.new }
@@ -43,8 +45,9 @@ pub(crate) fn run_at(
     meter: &mut Meter,
 ) -> Result<bool, NoMemory>
     requires start { start ≤ length program.now.0 }
+    ensures few { length program.now.0 < program.now.1 }
     ensures decides { IfOk result (λ b. IsTrue b ↔ Accepts program.now.0 start (chars text.now)) }
-    ensures above { meter.new ≤ meter.old + program.now.1 * (length (chars text.now) + 1) }
+    ensures above { meter.new ≤ meter.old + (length program.now.0 + 1) * (length (chars text.now) + 1) }
     ensures below { IfOk result
         (λ b. IsTrue b → min (meter.old + length (chars text.now)) most_ticks ≤ meter.new) }
     ensures steady { meter.old ≤ meter.new }
@@ -71,12 +74,11 @@ fn run_over<R: Sets>(
 ) -> bool
     requires start { start ≤ length program.now.0 }
     requires size { (R.position sets.old).size ≡ length program.now.0 }
-    requires few { length program.now.0 < program.now.1 }
     requires pending { IsEmpty (R.position sets.old).pending }
     requires read { IsEmpty (R.position sets.old).read }
     requires next { IsEmpty (R.position sets.old).next }
     ensures decides { IsTrue result ↔ Accepts program.now.0 start (chars text.now) }
-    ensures above { meter.new ≤ meter.old + program.now.1 * (length (chars text.now) + 1) }
+    ensures above { meter.new ≤ meter.old + (length program.now.0 + 1) * (length (chars text.now) + 1) }
     ensures below { IsTrue result → min (meter.old + length (chars text.now)) most_ticks ≤ meter.new }
     ensures steady { meter.old ≤ meter.new }
 {
@@ -87,7 +89,7 @@ fn run_over<R: Sets>(
         if !step(program, c, sets, &mut steady, meter) {
             return false;
         }
-        if c == '/' && program.len() >= 4 && absorbs(program, sets, steady) {
+        if c == '/' && program.size() >= 3 && absorbs(program, sets, steady) {
             meter.skip(Skipped::rest(program, sets, left.as_str()));
             return finish(program, sets, meter);
         }

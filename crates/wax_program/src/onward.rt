@@ -5,6 +5,7 @@ ghost use Rattle.wax_program.specs.Machine.{PassesTest};
 ghost use Rattle.wax_program.specs.Onward.{AreFlagsOf, AreOthers, TakesOther, ahead_of, flags_for};
 ghost use Rattle.wax_program.specs.Places.{HoldsPlace};
 ghost use Rattle.wax_program.specs.Tests.{test_of};
+ghost use Rattle.wax_program.specs.Visits.{onward_visits, sweep_visits, sweeps_visits};
 ghost use Rattle.wax_program.specs.declared.instruction.Test.{Test};
 ghost use Rattle.wax_program.specs.declared.instruction.Instruction.{Instruction};
 ghost use Rattle.wax_program.specs.declared.instruction.Instruction.TheVariants.{Components};
@@ -97,7 +98,9 @@ impl Onward {
         program: &CompiledProgram,
         meter: &mut Meter,
     ) -> Result<Onward, AllocError>
-        ensures { IfOk result (AreFlagsOf program.now.0 None) }
+        ensures flags { IfOk result (AreFlagsOf program.now.0 None) }
+        ensures above { meter.new ≤ meter.old + onward_visits program.now.0 None }
+        ensures steady { meter.old ≤ meter.new }
     {
         let others = others_of(alloc, program, meter)?;
         Onward::without_limit(alloc, program, &others, meter)
@@ -111,7 +114,9 @@ impl Onward {
     ) -> Result<Onward, AllocError>
         requires room { length program.now.0 < length others.now }
         requires others { AreOthers program.now.0 others.now }
-        ensures { IfOk result (AreFlagsOf program.now.0 None) }
+        ensures flags { IfOk result (AreFlagsOf program.now.0 None) }
+        ensures above { meter.new ≤ meter.old + sweeps_visits program.now.0 }
+        ensures steady { meter.old ≤ meter.new }
     {
         let basis = Basis {
             program,
@@ -131,7 +136,9 @@ impl Onward {
     ) -> Result<Onward, AllocError>
         requires room { length program.now.0 < length others.now }
         requires others { AreOthers program.now.0 others.now }
-        ensures { IfOk result (AreFlagsAfter program.now.0 (Some earlier.now)) }
+        ensures flags { IfOk result (AreFlagsAfter program.now.0 (Some earlier.now)) }
+        ensures above { meter.new ≤ meter.old + sweeps_visits program.now.0 }
+        ensures steady { meter.old ≤ meter.new }
     {
         let basis = Basis {
             program,
@@ -141,11 +148,16 @@ impl Onward {
         Onward::find(alloc, &basis, meter)
     }
 
-    /// Finds them: goes through the program from its end until no place is added.
+    /// Finds them: goes through the program from its end until no place is added. That reads each
+    /// instruction at most three times for each loop that lies within another. What is proved is
+    /// quadratic: each time but the last adds one of three flags of a place.
     fn find(alloc: Global, basis: &Basis<'_>, meter: &mut Meter) -> Result<Onward, AllocError>
         requires room { length basis.now.program.now.0 < length basis.now.others.now }
         requires others { AreOthers basis.now.program.now.0 basis.now.others.now }
-        ensures { IfOk result (AreFlagsAfter basis.now.program.now.0 (option_copied basis.now.earlier)) }
+        ensures flags { IfOk result
+            (AreFlagsAfter basis.now.program.now.0 (option_copied basis.now.earlier)) }
+        ensures above { meter.new ≤ meter.old + sweeps_visits basis.now.program.now.0 }
+        ensures steady { meter.old ≤ meter.new }
     {
         let mut onward = Onward::empty(alloc, basis.program)?;
         onward.insert(Ahead::Rest, basis.program.size());
@@ -317,6 +329,8 @@ impl Onward {
         ensures same { IsFalse result → self.new ≡ self.old }
         ensures closed { IsFalse result
             → IsClosedFor basis.now.program.now.0 (option_copied basis.now.earlier) self.old m at }
+        ensures above { meter.new ≤ meter.old + 1 }
+        ensures steady { meter.old ≤ meter.new }
     {
         if self.holds(m, at) {
             return false;
@@ -345,6 +359,8 @@ impl Onward {
         ensures same { IsFalse result → self.new ≡ self.old }
         ensures closed { IsFalse result
             → IsClosedAt basis.now.program.now.0 (option_copied basis.now.earlier) self.old at }
+        ensures above { meter.new ≤ meter.old + 3 }
+        ensures steady { meter.old ≤ meter.new }
     {
         if self.mark(basis, Ahead::Rest, at, meter) {
             self.mark(basis, Ahead::Path, at, meter);
@@ -369,6 +385,8 @@ impl Onward {
         ensures same { IsFalse result → self.new ≡ self.old }
         ensures closed { IsFalse result → (k : ℕ) → k < length basis.now.program.now.0
             → IsClosedAt basis.now.program.now.0 (option_copied basis.now.earlier) self.old k }
+        ensures above { meter.new ≤ meter.old + sweep_visits basis.now.program.now.0 }
+        ensures steady { meter.old ≤ meter.new }
     {
         let mut added = false;
         let mut at = basis.program.size();
@@ -382,7 +400,8 @@ impl Onward {
     }
 }
 
-/// Returns the places whose instruction has a test that a character other than `/` passes.
+/// Returns the places whose instruction has a test that a character other than `/` passes. Reads each
+/// instruction once.
 pub(crate) fn others_of(
     alloc: Global,
     program: &CompiledProgram,
@@ -390,6 +409,8 @@ pub(crate) fn others_of(
 ) -> Result<Set, AllocError>
     ensures room { IfOk result (λ others. length program.now.0 < length others) }
     ensures others { IfOk result (AreOthers program.now.0) }
+    ensures above { meter.new ≤ meter.old + length program.now.0 }
+    ensures steady { meter.old ≤ meter.new }
 {
     let mut others = Set::new(alloc, program.size())?;
     for at in 0..program.size() {
@@ -407,8 +428,10 @@ fn takes_other_at(
     at: usize,
     meter: &mut Meter,
 ) -> Result<bool, AllocError>
-    ensures { IfOk result (λ answer. (i : Instruction) → (t : Test) → slice_get program.now.0 at ≡ Some i
-        → test_of i ≡ Some t → IsTrue answer ↔ TakesOther t) }
+    ensures answer { IfOk result (λ answer. (i : Instruction) → (t : Test)
+        → slice_get program.now.0 at ≡ Some i → test_of i ≡ Some t → IsTrue answer ↔ TakesOther t) }
+    ensures above { meter.new ≤ meter.old + 1 }
+    ensures steady { meter.old ≤ meter.new }
 {
     match test_at(program, at, meter) {
         Some(test) => test.takes_other(alloc),

@@ -1,7 +1,7 @@
 //! Sets of places that are also listed, so that emptying one takes no longer than filling it.
 ghost use Rattle.std.specs.Prelude.{◌≡◌, ◌<◌, ℕ, [], Contains, IfOk, false, length, slice_index_or};
 ghost use Rattle.wax_states.specs.inner.Listed.{HasLost, Inserts, Lists};
-ghost use Rattle.wax_program.specs.Places.{IsEmpty};
+ghost use Rattle.wax_program.specs.Places.{IsEmpty, member_count};
 
 use std::alloc::{AllocError, Global};
 use std::marker::Model;
@@ -48,6 +48,7 @@ impl ListedSet {
     pub fn places(&self) -> &[usize]
         ensures places { self.now.places ≡ result.now }
         ensures all { Lists result.now self.now.flags }
+        ensures counted { length result.now ≡ member_count self.now.flags }
     {
         &self.places
     }

@@ -1,6 +1,6 @@
 //! The sets of places of a step, which takes time in proportion to the places that it reaches, and
 //! not to the length of the program.
-ghost use Rattle.std.specs.Prelude.{◌≡◌, ◌<◌, ◌↔◌, ℕ, [], Contains, IfOk, IsTrue, MatchOption, length};
+ghost use Rattle.std.specs.Prelude.{◌≡◌, ◌+◌, ◌<◌, ◌≤◌, ◌↔◌, ℕ, [], Contains, IfOk, IsTrue, MatchOption, length};
 ghost use Rattle.wax_states.specs.inner.Listed.{AreRead, IsNextUnread, IsJoined, IsLoaded, Lists};
 ghost use Rattle.wax_program.specs.Closed.{ReadsEnd};
 ghost use Rattle.wax_program.specs.Threads.{IsDone};
@@ -89,7 +89,8 @@ impl ListedSets {
         }
     }
 
-    /// Writes the numbers of the ends that were read here.
+    /// Writes the numbers of the ends that were read here. Reads one instruction for each place that was
+    /// reached.
     ///
     /// # Errors
     ///
@@ -102,8 +103,10 @@ impl ListedSets {
     ) -> Result<(), AllocError>
         requires size { self.now.size ≡ length program.now.0 }
         requires done { IsDone self.now }
-        ensures { IfOk result (λ _. (number : ℕ) → Contains numbers.new.items number
+        ensures ends { IfOk result (λ _. (number : ℕ) → Contains numbers.new.items number
             ↔ ReadsEnd program.now.0 self.now number) }
+        ensures above { meter.new ≤ meter.old + (length program.now.0 + 1) }
+        ensures steady { meter.old ≤ meter.new }
     {
         list_ends_among(program, self.here.places(), numbers, meter)
     }

@@ -1,5 +1,5 @@
 //! Steps of a program by one character, from places that a caller keeps.
-ghost use Rattle.std.specs.Prelude.{◌≡◌, ◌+◌, ◌≤◌, ◌↔◌, IfOk, IsFalse, IsTrue, [], length};
+ghost use Rattle.std.specs.Prelude.{◌≡◌, ◌+◌, ◌*◌, ◌≤◌, ◌↔◌, IfOk, IsFalse, IsTrue, [], length};
 ghost use Rattle.std.specs.List.Sorted.{IsStrictlyIncreasing};
 ghost use Rattle.wax_states.specs.Reached.{AreEndsMarked, AreReached, taken_if};
 ghost use Rattle.wax_program.specs.Closed.{IsClosed};
@@ -123,6 +123,8 @@ impl Stepper {
         ensures same { self.new ≡ self.old }
         ensures ends { IfOk result (λ _. AreEndsMarked program.now.0 places.now numbers.new.items) }
         ensures ascending { IfOk result (λ _. IsStrictlyIncreasing numbers.new.items) }
+        ensures above { meter.new ≤ meter.old + (2 * length program.now.0 + 1) }
+        ensures steady { meter.old ≤ meter.new }
     {
         self.sets.load(places);
         advance(program, '/', &mut self.sets, meter);

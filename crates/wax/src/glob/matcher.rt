@@ -1,8 +1,10 @@
 //! A matcher of one glob for many paths.
-ghost use Rattle.std.specs.Prelude.{◌≡◌, ◌↔◌, None, IfOk, IsTrue, chars, false};
+ghost use Rattle.std.specs.Prelude.{◌≡◌, ◌+◌, ◌≤◌, ◌↔◌, None, IfOk, IsTrue, chars, false, length};
 ghost use Rattle.wax.specs.GlobView.{IsMeant};
 ghost use Rattle.wax_query.specs.Parts.{NoLineEndsBefore};
+ghost use Rattle.wax_lazy.specs.Cost.{first_visits, path_visits};
 ghost use Rattle.wax_prefilter.specs.Below.{MeansBelow, goes_test, goes_tested};
+ghost use Rattle.wax_token.specs.Cost.{program_length};
 ghost use Rattle.wax_token.specs.Decided.{means_test, means_tested};
 
 use crate::glob::Glob;
@@ -11,6 +13,7 @@ use std::marker::Model;
 use wax_exclude::is_everything;
 use wax_lazy::Matcher;
 use wax_prefilter::{CompiledTokens, folder_of, is_within};
+use wax_program::Meter;
 use wax_query::diagnostics::NoMemory;
 use wax_query::matching::{BuildMatcher, CandidatePath, PathMatcher};
 use wax_query::query::Verdict;
@@ -38,10 +41,11 @@ impl Drop for GlobMatcher<'_, '_> {
 }
 
 impl<'g, 't> Model for GlobMatcher<'g, 't> {
-    ghost use Rattle.std.specs.Prelude.{◌↔◌, IfSome, IsTrue, List, chars, ℕ};
+    ghost use Rattle.std.specs.Prelude.{◌<◌, ◌↔◌, IfSome, IsTrue, List, chars, length, ℕ};
     ghost use Rattle.wax.specs.GlobView.{GlobView, IsMeant, glob_code};
     ghost use Rattle.wax.specs.Matching.{AcceptsMeant};
     ghost use Rattle.wax_prefilter.specs.Within.{IsInFolder};
+    ghost use Rattle.wax_token.specs.Cost.{program_length};
 
     ghost Value = { GlobView };
 
@@ -52,7 +56,8 @@ impl<'g, 't> Model for GlobMatcher<'g, 't> {
     ghost invariant = { λ m. AcceptsMeant m.matcher m.glob.now
         × (IsTrue m.matches_all → (text : List ℕ) → IsMeant m.glob.now text)
         × IfSome m.folder (λ folder. (text : List ℕ)
-        → IsMeant m.glob.now text ↔ IsInFolder (chars folder.now) text) };
+        → IsMeant m.glob.now text ↔ IsInFolder (chars folder.now) text)
+        × (length m.matcher < program_length m.glob.now.tree) };
 }
 
 impl<'t> Glob<'t> {
@@ -93,6 +98,32 @@ impl GlobMatcher<'_, '_> {
         ensures decides { IfOk result (λ answer. answer ≡ means_test self.old.tree false false path.now) }
         ensures same { self.new ≡ self.old }
     {
+        let mut meter = Meter::new();
+        self.is_match_metered(path, &mut meter)
+    }
+
+    /// Returns what `is_match` does, and moves the meter by the number of instructions that its program
+    /// visits, whatever earlier paths led to: at most its length for each character and once more at the
+    /// end; or nine times that, if its length exceeds 256. Paths that lead only to what earlier ones led
+    /// to move it by nothing.
+    ///
+    /// # Errors
+    ///
+    /// Returns `NoMemory` if allocation fails. The matcher can be used for further paths after
+    /// that.
+    #[inline]
+    pub fn is_match_metered(
+        &mut self,
+        path: &CandidatePath<'_>,
+        meter: &mut Meter,
+    ) -> Result<bool, NoMemory>
+        ensures means { IfOk result (λ answer. IsTrue answer ↔ IsMeant self.old path.now) }
+        ensures decides { IfOk result (λ answer. answer ≡ means_test self.old.tree false false path.now) }
+        ensures same { self.new ≡ self.old }
+        ensures above { let size = program_length self.old.tree in
+            meter.new ≤ meter.old + path_visits size (length path.now) }
+        ensures steady { meter.old ≤ meter.new }
+    {
         if self.matches_all {
             return Ok(true);
         }
@@ -100,7 +131,7 @@ impl GlobMatcher<'_, '_> {
         if let Some(folder) = self.folder {
             return Ok(is_within(text, folder));
         }
-        self.matcher.is_match(text)
+        self.matcher.is_match_metered(text, meter)
     }
 
     /// Returns whether something below the folder with this path can match: whether the glob matches
@@ -141,18 +172,53 @@ impl GlobMatcher<'_, '_> {
         ensures onward { IfOk result (λ verdict. verdict.goes_on ≡ goes_test self.old.tree None path.now) }
         ensures same { self.new ≡ self.old }
     {
-        self.judge(path, None)
+        let mut meter = Meter::new();
+        self.verdict_metered(path, &mut meter)
+    }
+
+    /// Returns what `verdict` does. The meter counts as in `is_match_metered`, and also what the first
+    /// verdict visits to find what leads on.
+    ///
+    /// # Errors
+    ///
+    /// Returns `NoMemory` if allocation fails. The matcher can be used for further paths after
+    /// that.
+    pub fn verdict_metered(
+        &mut self,
+        path: &CandidatePath<'_>,
+        meter: &mut Meter,
+    ) -> Result<Verdict, NoMemory>
+        ensures means { IfOk result (λ verdict. IsTrue verdict.is_match ↔ IsMeant self.old path.now) }
+        ensures below { IfOk result
+            (λ verdict. IsTrue verdict.goes_on ↔ MeansBelow self.old.tree path.now) }
+        ensures decides { IfOk result
+            (λ verdict. verdict.is_match ≡ means_test self.old.tree false false path.now) }
+        ensures onward { IfOk result (λ verdict. verdict.goes_on ≡ goes_test self.old.tree None path.now) }
+        ensures same { self.new ≡ self.old }
+        ensures above { let size = program_length self.old.tree in
+            meter.new ≤ meter.old + first_visits size None + path_visits size (length path.now) }
+        ensures steady { meter.old ≤ meter.new }
+    {
+        self.judge(path, None, meter)
     }
 
     // Returns what `verdict` does, for at most `most` names below the folder, if that is some number.
-    fn judge(&mut self, path: &CandidatePath<'_>, most: Option<usize>) -> Result<Verdict, NoMemory>
+    fn judge(
+        &mut self,
+        path: &CandidatePath<'_>,
+        most: Option<usize>,
+        meter: &mut Meter,
+    ) -> Result<Verdict, NoMemory>
         ensures decides { IfOk result
             (λ verdict. verdict.is_match ≡ means_test self.old.tree false false path.now) }
         ensures onward { IfOk result
             (λ verdict. verdict.goes_on ≡ goes_test self.old.tree most path.now) }
         ensures same { self.new ≡ self.old }
+        ensures above { let size = program_length self.old.tree in
+            meter.new ≤ meter.old + first_visits size most + path_visits size (length path.now) }
+        ensures steady { meter.old ≤ meter.new }
     {
-        self.matcher.verdict(path.as_str(), most)
+        self.matcher.verdict_metered(path.as_str(), most, meter)
     }
 
     /// Returns how many bytes at the beginning of a text can be passed over in a search for lines
@@ -192,7 +258,8 @@ impl PathMatcher for GlobMatcher<'_, '_> {
         path: &CandidatePath<'_>,
         most: usize,
     ) -> Result<Verdict, NoMemory> {
-        self.judge(path, Some(most))
+        let mut meter = Meter::new();
+        self.judge(path, Some(most), &mut meter)
     }
 
     fn earliest_end(&self, text: &str) -> usize {

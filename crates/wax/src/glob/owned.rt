@@ -1,13 +1,16 @@
 //! A matcher that owns its glob.
-ghost use Rattle.std.specs.Prelude.{◌≡◌, ◌↔◌, None, IfOk, IsTrue, false};
+ghost use Rattle.std.specs.Prelude.{◌≡◌, ◌+◌, ◌≤◌, ◌↔◌, None, IfOk, IsTrue, false, length};
 ghost use Rattle.wax.specs.GlobView.{IsMeant};
 ghost use Rattle.wax_query.specs.Parts.{NoLineEndsBefore};
+ghost use Rattle.wax_lazy.specs.Cost.{first_visits, path_visits};
 ghost use Rattle.wax_prefilter.specs.Below.{MeansBelow, goes_test, goes_tested};
+ghost use Rattle.wax_token.specs.Cost.{program_length};
 ghost use Rattle.wax_token.specs.Decided.{means_test, means_tested};
 
 use crate::glob::Glob;
 use std::alloc::Global;
 use std::marker::Model;
+use wax_program::Meter;
 use wax_query::diagnostics::NoMemory;
 use wax_query::matching::{CandidatePath, PathMatcher};
 use wax_query::query::Verdict;
@@ -55,12 +58,21 @@ impl<'t> Glob<'t> {
     }
 
     /// Returns whether the glob matches the whole path, with the help of what is kept of earlier paths.
-    fn is_match_cached(&mut self, alloc: Global, path: &CandidatePath<'_>) -> Result<bool, NoMemory>
+    fn is_match_cached(
+        &mut self,
+        alloc: Global,
+        path: &CandidatePath<'_>,
+        meter: &mut Meter,
+    ) -> Result<bool, NoMemory>
         ensures means { IfOk result (λ answer. IsTrue answer ↔ IsMeant self.old path.now) }
         ensures decides { IfOk result (λ answer. answer ≡ means_test self.old.tree false false path.now) }
         ensures same { self.new ≡ self.old }
+        ensures above { let size = program_length self.old.tree in
+            meter.new ≤ meter.old + path_visits size (length path.now) }
+        ensures steady { meter.old ≤ meter.new }
     {
-        self.compiled.is_match_cached(alloc, path.as_str())
+        self.compiled
+            .is_match_cached_metered(alloc, path.as_str(), meter)
     }
 
     /// Returns whether the glob matches the whole path, and whether it matches the path of something
@@ -71,14 +83,19 @@ impl<'t> Glob<'t> {
         alloc: Global,
         path: &CandidatePath<'_>,
         most: Option<usize>,
+        meter: &mut Meter,
     ) -> Result<Verdict, NoMemory>
         ensures decides { IfOk result
             (λ verdict. verdict.is_match ≡ means_test self.old.tree false false path.now) }
         ensures onward { IfOk result
             (λ verdict. verdict.goes_on ≡ goes_test self.old.tree most path.now) }
         ensures same { self.new ≡ self.old }
+        ensures above { let size = program_length self.old.tree in
+            meter.new ≤ meter.old + first_visits size most + path_visits size (length path.now) }
+        ensures steady { meter.old ≤ meter.new }
     {
-        self.compiled.verdict_cached(alloc, path.as_str(), most)
+        self.compiled
+            .verdict_cached_metered(alloc, path.as_str(), most, meter)
     }
 }
 
@@ -110,7 +127,29 @@ impl<'t> OwnedGlobMatcher<'t> {
         ensures decides { IfOk result (λ answer. answer ≡ means_test self.old.tree false false path.now) }
         ensures same { self.new ≡ self.old }
     {
-        self.glob.is_match_cached(self.alloc, path)
+        let mut meter = Meter::new();
+        self.is_match_metered(path, &mut meter)
+    }
+
+    /// Returns what `is_match` does, and moves the meter as `GlobMatcher::is_match_metered` does.
+    ///
+    /// # Errors
+    ///
+    /// Returns `NoMemory` if allocation fails. The matcher can be used for further paths after
+    /// that.
+    pub fn is_match_metered(
+        &mut self,
+        path: &CandidatePath<'_>,
+        meter: &mut Meter,
+    ) -> Result<bool, NoMemory>
+        ensures means { IfOk result (λ answer. IsTrue answer ↔ IsMeant self.old path.now) }
+        ensures decides { IfOk result (λ answer. answer ≡ means_test self.old.tree false false path.now) }
+        ensures same { self.new ≡ self.old }
+        ensures above { let size = program_length self.old.tree in
+            meter.new ≤ meter.old + path_visits size (length path.now) }
+        ensures steady { meter.old ≤ meter.new }
+    {
+        self.glob.is_match_cached(self.alloc, path, meter)
     }
 
     /// Returns whether something below the folder with this path can match: whether the glob matches
@@ -144,18 +183,53 @@ impl<'t> OwnedGlobMatcher<'t> {
         ensures onward { IfOk result (λ verdict. verdict.goes_on ≡ goes_test self.old.tree None path.now) }
         ensures same { self.new ≡ self.old }
     {
-        self.judge(path, None)
+        let mut meter = Meter::new();
+        self.verdict_metered(path, &mut meter)
+    }
+
+    /// Returns what `verdict` does. The meter counts as in `is_match_metered`, and also what the first
+    /// verdict visits to find what leads on.
+    ///
+    /// # Errors
+    ///
+    /// Returns `NoMemory` if allocation fails. The matcher can be used for further paths after
+    /// that.
+    pub fn verdict_metered(
+        &mut self,
+        path: &CandidatePath<'_>,
+        meter: &mut Meter,
+    ) -> Result<Verdict, NoMemory>
+        ensures means { IfOk result (λ verdict. IsTrue verdict.is_match ↔ IsMeant self.old path.now) }
+        ensures below { IfOk result
+            (λ verdict. IsTrue verdict.goes_on ↔ MeansBelow self.old.tree path.now) }
+        ensures decides { IfOk result
+            (λ verdict. verdict.is_match ≡ means_test self.old.tree false false path.now) }
+        ensures onward { IfOk result (λ verdict. verdict.goes_on ≡ goes_test self.old.tree None path.now) }
+        ensures same { self.new ≡ self.old }
+        ensures above { let size = program_length self.old.tree in
+            meter.new ≤ meter.old + first_visits size None + path_visits size (length path.now) }
+        ensures steady { meter.old ≤ meter.new }
+    {
+        self.judge(path, None, meter)
     }
 
     // Returns what `verdict` does, for at most `most` names below the folder, if that is some number.
-    fn judge(&mut self, path: &CandidatePath<'_>, most: Option<usize>) -> Result<Verdict, NoMemory>
+    fn judge(
+        &mut self,
+        path: &CandidatePath<'_>,
+        most: Option<usize>,
+        meter: &mut Meter,
+    ) -> Result<Verdict, NoMemory>
         ensures decides { IfOk result
             (λ verdict. verdict.is_match ≡ means_test self.old.tree false false path.now) }
         ensures onward { IfOk result
             (λ verdict. verdict.goes_on ≡ goes_test self.old.tree most path.now) }
         ensures same { self.new ≡ self.old }
+        ensures above { let size = program_length self.old.tree in
+            meter.new ≤ meter.old + first_visits size most + path_visits size (length path.now) }
+        ensures steady { meter.old ≤ meter.new }
     {
-        self.glob.verdict_cached(self.alloc, path, most)
+        self.glob.verdict_cached(self.alloc, path, most, meter)
     }
 }
 
@@ -180,7 +254,8 @@ impl PathMatcher for OwnedGlobMatcher<'_> {
         path: &CandidatePath<'_>,
         most: usize,
     ) -> Result<Verdict, NoMemory> {
-        self.judge(path, Some(most))
+        let mut meter = Meter::new();
+        self.judge(path, Some(most), &mut meter)
     }
 
     fn earliest_end(&self, text: &str) -> usize {

@@ -1,6 +1,6 @@
 -- What is kept between texts.
-use Rattle.std.specs.Prelude.{◌≡◌, ℕ, ◌+◌, ◌*◌, ◌/◌, ◌<◌, ◌≤◌, ◌⊎◌, ◌↔◌, List, [], ◌∷◌, ◌++◌, Bool, None}
-use Rattle.std.specs.Prelude.{Contains, IfSome, IsFalse, IsTrue, Option, Some, length, replicate}
+use Rattle.std.specs.Prelude.{◌≡◌, ℕ, ◌+◌, ◌*◌, ◌<◌, ◌≤◌, ◌⊎◌, ◌↔◌, List, [], ◌∷◌, ◌++◌, Bool, None}
+use Rattle.std.specs.Prelude.{Contains, is_some, IfSome, IsFalse, IsTrue, Option, Some, length, replicate}
 use Rattle.std.specs.Prelude.{false, slice_get, true}
 use Rattle.wax_lazy.specs.declared.cache.Cache.{Cache}
 use Rattle.wax_lazy.specs.declared.cache.Chain.{Chain}
@@ -12,7 +12,8 @@ use Rattle.wax_program.specs.declared.instruction.Instruction.{Instruction}
 use Rattle.wax_program.specs.Places.{HoldsPlace}
 use Rattle.wax_program.specs.Last.{IsLastName, ReadsLast}
 use Rattle.wax_program.specs.Machine.{Accepts}
-use Rattle.wax_program.specs.Onward.{AreFlagsOf, AreLevelsOf, PlaceFlags, IsAhead, flags_for}
+use Rattle.wax_program.specs.Onward.{AreFlagsOf, AreLevelsOf, HasLevel, LevelFlags, PlaceFlags, IsAhead}
+use Rattle.wax_program.specs.Onward.{flags_for}
 use Rattle.wax_query.specs.declared.query.verdict.Verdict.{Verdict}
 use Rattle.wax_program.specs.declared.onward.Ahead.{Ahead}
 use Rattle.wax_program.specs.Threads.{AnyAmong}
@@ -180,3 +181,8 @@ pub record IsDfaOf (code : List Instruction) (k : LazyDfa) : Type 0 where
   pub cache : IfSome k.cache (IsKeptFor code k.reads_last)
   pub onward : IfSome k.onward (AreFlagsOf code None)
   pub levels : IfSome k.levels (AreLevelsOf code)
+
+-- it has the places that lead on within this limit, or without one
+abbrev pub KnowsAhead : LazyDfa → Option ℕ → Type 0
+KnowsAhead k None = IsTrue (is_some k.onward)
+KnowsAhead k (Some most) = (levels : LevelFlags) × (k.levels ≡ Some levels) × HasLevel levels most

@@ -1,5 +1,5 @@
 -- What rows of cells say of a program.
-use Rattle.std.specs.Prelude.{◌≡◌, ℕ, ◌+◌, ◌*◌, ◌/◌, ◌<◌, ◌⊎◌, List, [], ◌∷◌, ◌++◌, Some}
+use Rattle.std.specs.Prelude.{◌≡◌, ℕ, ◌+◌, ◌*◌, ◌<◌, ◌⊎◌, List, [], ◌∷◌, ◌++◌, Some}
 use Rattle.std.specs.Prelude.{length, slice_get, slice_index}
 use Rattle.std.specs.Char.{encode_utf8}
 use Rattle.wax_lazy.specs.declared.rows.Begun.{Begun}

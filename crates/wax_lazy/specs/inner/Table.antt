@@ -1,7 +1,8 @@
 -- What a table of states says of a program.
-use Rattle.std.specs.Prelude.{◌≡◌, ℕ, ◌+◌, ◌*◌, ◌/◌, ◌<◌, ◌⊎◌, ◌↔◌, List, [], Option, Some, None, IfSome}
+use Rattle.std.specs.Prelude.{◌≡◌, ℕ, ◌+◌, ◌*◌, ◌<◌, ◌≤◌, ◌⊎◌, ◌↔◌, List, [], Option, Some, None, IfSome}
 use Rattle.std.specs.Prelude.{IsTrue, length, slice_get, slice_index}
 use Rattle.std.specs.Global.{Vec}
+use Rattle.wax_lazy.specs.Cost.{most_kept}
 use Rattle.wax_program.specs.declared.instruction.Instruction.{Instruction}
 use Rattle.wax_program.specs.Machine.{Accepts}
 use Rattle.wax_program.specs.Threads.{AnyAmong}
@@ -71,8 +72,9 @@ IsWideCell code states w = (w.cell ≡ 0)
 abbrev pub AreWideCells : List Instruction → List State → List WideCell → Type 0
 AreWideCells code states ws = (i : ℕ) (w : WideCell) → slice_get ws i ≡ Some w → IsWideCell code states w
 
--- the states are those of a program, and each has a cell for each of 128 characters
+-- the states are those of a program, at most so many, and each has a cell for each of 128 characters
 pub record IsTable (code : List Instruction) (states : List State) (cells : List ℕ) : Type 0 where
+  pub few : length states ≤ most_kept
   pub room : length cells ≡ 128 * length states
   pub rows : (t : ℕ) (s : State) → slice_get states t ≡ Some s → IsState code states s
   pub says : (t k : ℕ) → t < length states → k < 128

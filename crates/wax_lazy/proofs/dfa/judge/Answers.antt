@@ -1,6 +1,7 @@
-use Rattle.std.proofs.Common.{◌↔◌, ◌∙◌, IsTrue, chars, subst, sym, rules}
+use Rattle.std.proofs.Common.{◌↔◌, ◌∙◌, IsTrue, arith, chars, length, subst, sym, rules}
 use Rattle.std.proofs.lemmas.Str.{scalars-chars}
 use Rattle.wax_lazy.proofs.Ahead.{last_below}
+use Rattle.wax_lazy.proofs.Costs.{matched_within, name_shorter}
 use Rattle.wax_lazy.proofs.Walking.{decides_by}
 use Rattle.wax_lazy.specs.inner.Cached.{IsAheadVerdict, LeadsText}
 use Rattle.wax_program.proofs.LastNames.{name_decides}
@@ -44,3 +45,23 @@ returns-clause-decides c =
       matches = way.matches;
       below = decides_by verdict.goes_on _ _ (ahead_below most (Accepts code 0) text scalars) way.ahead;
     }
+
+pub returns-then-reads_last-clause-above : goal.returns-then-reads_last-clause-above
+returns-then-reads_last-clause-above c = matched_within c.args.program.now.0
+    (length (chars c.last_name.result.now)) (length (chars c.args.text.now)) c.args.meter.now
+    c.accepts.new.meter
+    (name_shorter (chars c.args.text.now) (chars c.last_name.result.now) c.last_name.ensures.name)
+    c.accepts.ensures.above
+
+pub returns-clause-above : goal.returns-clause-above
+returns-clause-above c = matched_within c.args.program.now.0
+    (length (chars c.args.text.now)) (length (chars c.args.text.now)) c.args.meter.now
+    c.verdict_at.new.meter (omega arith)
+    (omega (arith, c.follow_text.ensures.above, c.verdict_at.ensures.above))
+
+pub returns-in_err-is_match-clause-above : goal.returns-in_err-is_match-clause-above
+returns-in_err-is_match-clause-above c = matched_within c.args.program.now.0
+    (length (chars c.last_name.result.now)) (length (chars c.args.text.now)) c.args.meter.now
+    c.accepts.new.meter
+    (name_shorter (chars c.args.text.now) (chars c.last_name.result.now) c.last_name.ensures.name)
+    c.accepts.ensures.above

@@ -1,4 +1,4 @@
-use Rattle.std.proofs.Common.{◌/◌, chars}
+use Rattle.std.proofs.Common.{chars}
 use Rattle.wax_states.specs.States.{places_at}
 use Rattle.wax_lazy.proofs.Ahead.{matches_all, matches_at, matches_none}
 use Rattle.wax_lazy.proofs.Walking.{decides_by}

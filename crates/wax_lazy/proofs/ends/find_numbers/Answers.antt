@@ -1,4 +1,4 @@
-use Rattle.std.proofs.Common.{◌/◌, [], Some, chars, refl}
+use Rattle.std.proofs.Common.{[], Some, chars, refl}
 use Rattle.wax_states.specs.States.{places_at}
 use Rattle.wax_lazy.proofs.Numbering.{numbers_led, numbers_never, numbers_none}
 use Rattle.wax_lazy.specs.inner.Cached.{numbers_at}

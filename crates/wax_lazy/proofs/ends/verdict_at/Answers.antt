@@ -1,4 +1,4 @@
-use Rattle.std.proofs.Common.{◌↔◌, ◌/◌, IsTrue, subst, sym}
+use Rattle.std.proofs.Common.{◌↔◌, IsTrue, subst, sym}
 use Rattle.wax_states.specs.States.{places_at}
 use Rattle.wax_lazy.specs.inner.Cached.{AnyAhead}
 use Rattle.wax_lazy.proofs.Ahead.{ahead_at, matches_at, verdict_everything, verdict_nothing}

@@ -1,5 +1,7 @@
-use Rattle.std.proofs.Common.{◌≡◌, ◌∙◌, ◌++◌, [], List, ℕ, drop, arith}
+use Rattle.std.proofs.Common.{◌≡◌, ◌∙◌, ◌++◌, ◌≤◌, ◌+◌, ◌*◌, [], List, ℕ, drop, length, arith}
 use Rattle.std.proofs.lemmas.List.{drop_all}
+use Rattle.wax_lazy.specs.Cost.{char_visits}
+use Rattle.wax_lazy.proofs.Costs.{spent_all, spent_on}
 use Rattle.wax_lazy.proofs.Walking.{leads_end, leads_on, leads_past}
 use Rattle.wax_program.specs.Machine.{Accepts}
 use Rattle.wax_lazy.proofs.following.follow_ascii.Goals as goal
@@ -11,12 +13,18 @@ loop-index-init c =
       cache = c.begin.ensures.kept.cache;
       start = c.begin.ensures.kept.start;
       has_state = begins.has_state;
+      above = omega arith;
+      steady = omega arith;
       within = omega arith;
       stays = λ s. begins.accepts (c.args.text.now ++ s);
     }
 
 pub returns-in_default : goal.returns-in_default
 returns-in_default c =
+    let x : ℕ = char_visits c.args.program.now.0 in
+    let here : c.advance_in.new.meter ≤ c.args.meter.now + x * c.in_ok-next.end =
+    spent_on (x * c.loop-index.index) (x * c.in_ok-next.end) c.args.meter.now c.loop-index.meter
+    c.advance_in.new.meter c.loop-index.invariant.above c.in_ok-next.ensures.spent in
     let code = c.args.program.now.0 in
     let text : List ℕ = c.args.text.now in
     let new = c.advance_in.new.cache.table.states.items in
@@ -29,10 +37,20 @@ returns-in_default c =
         start = c.advance_in.ensures.kept.start ∙ c.loop-index.invariant.start;
       };
       leads = leads_past code _ new (drop c.in_ok-next.end text) c.in_ok-next.next c.in_default.not-To led;
+      above = omega (
+        arith,
+        spent_all x 0 c.in_ok-next.end (length text) c.args.meter.now
+            c.advance_in.new.meter c.in_ok-next.ensures.further.1 (omega (arith, here)),
+      );
+      steady = omega (arith, c.loop-index.invariant.steady, c.advance_in.ensures.steady);
     }
 
 pub loop-index-preserved : goal.loop-index-preserved
 loop-index-preserved c =
+    let x : ℕ = char_visits c.args.program.now.0 in
+    let here : c.advance_in.new.meter ≤ c.args.meter.now + x * c.in_ok-next.end =
+    spent_on (x * c.loop-index.index) (x * c.in_ok-next.end) c.args.meter.now c.loop-index.meter
+    c.advance_in.new.meter c.loop-index.invariant.above c.in_ok-next.ensures.spent in
     let code = c.args.program.now.0 in
     let text : List ℕ = c.args.text.now in
     let led = leads_on code (λ s. Accepts code c.args.cache.now.start (text ++ s))
@@ -44,6 +62,8 @@ loop-index-preserved c =
       cache = c.advance_in.ensures.kept.cache;
       start = c.advance_in.ensures.kept.start ∙ c.loop-index.invariant.start;
       has_state = to.0;
+      above = here;
+      steady = omega (arith, c.loop-index.invariant.steady, c.advance_in.ensures.steady);
       within = c.in_ok-next.ensures.further.1;
       stays = to.1;
     }
@@ -55,3 +75,11 @@ returns-clause-leads c =
     drop_all c.loop-index.index c.args.text.now c.loop-index-test.false in
     leads_end c.args.program.now.0 _ c.loop-index.cache.table.states.items _ c.loop-index.state end
     held.has_state held.stays
+
+pub returns-clause-above : goal.returns-clause-above
+returns-clause-above c = omega (
+  arith,
+  spent_all (char_visits c.args.program.now.0) 0 c.loop-index.index
+      (length c.args.text.now) c.args.meter.now c.loop-index.meter c.loop-index.invariant.within
+      (omega (arith, c.loop-index.invariant.above)),
+)

@@ -1,4 +1,5 @@
-use Rattle.std.proofs.Common.{IfOk, sym, ◌∙◌, subst}
+use Rattle.std.proofs.Common.{◌≤◌, ◌+◌, ◌*◌, IfOk, length, sym, ◌∙◌, subst}
+use Rattle.wax_lazy.specs.Cost.{char_visits}
 use Rattle.std.proofs.lemmas.Str.{chars-IsAscii}
 use Rattle.wax_lazy.specs.inner.Cached.{LeadsText}
 use Rattle.wax_lazy.proofs.following.follow_text.Goals as goal
@@ -9,3 +10,9 @@ returns-then-is_ascii-clause-leads c =
     (LeadsText c.args.program.now.0 c.follow_ascii.new.cache.table.states.items c.args.cache.now.start z))
     (c.as_bytes.ensures.value ∙ sym (chars-IsAscii c.args.text.now c.if-is_ascii.ensures.cases))
     c.follow_ascii.ensures.leads
+
+pub returns-then-is_ascii-clause-above : goal.returns-then-is_ascii-clause-above
+returns-then-is_ascii-clause-above c =
+    let same = c.as_bytes.ensures.value ∙ sym (chars-IsAscii c.args.text.now c.if-is_ascii.ensures.cases) in
+    subst (λ z. c.follow_ascii.new.meter ≤ c.args.meter.now + char_visits c.args.program.now.0 * length z)
+    same c.follow_ascii.ensures.above

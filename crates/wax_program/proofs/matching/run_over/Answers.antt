@@ -46,8 +46,8 @@ returns-then-not-step-clause-decides g c =
 pub returns-then-not-step-clause-above : goal.returns-then-not-step-clause-above
 returns-then-not-step-clause-above g c =
     let (m, held) = c.loop-c.invariant in
-    reads_within c.args.program.now.1 m (length (chars c.args.text.now)) c.args.meter.now c.step.new.meter
-    (omega (arith, held.whole)) (omega (arith, c.step.ensures.above, held.above))
+    reads_within (length c.args.program.now.0 + 1) m (length (chars c.args.text.now)) c.args.meter.now
+    c.step.new.meter (omega (arith, held.whole)) (omega (arith, c.step.ensures.above, held.above))
 
 pub rest-requires : goal.rest-requires
 rest-requires g c = absorbed c.args.program.now.0 _ (c.absorbs.ensures (search rules))
@@ -80,12 +80,13 @@ returns-then-absorbs-clause-above g c =
     chars_few (chars_rest c.next.new.self) (IsUtf8-past_char _ _ _ held.utf8 c.in-Some.ensures.steps.0) in
     let bytes : length c.as_str.result.now ≡ length (chars_rest c.next.new.self) =
     ap length c.as_str.ensures in
-    let wide : 4 ≤ c.args.program.now.1 = search rules in
-    reads_passed c.args.program.now.1 m (length left) (length (chars c.args.text.now))
+    let wide : 4 ≤ length c.args.program.now.0 + 1 =
+    omega (arith, c.size.ensures.size, c.if-size-ge3.true) in
+    reads_passed (length c.args.program.now.0 + 1) m (length left) (length (chars c.args.text.now))
     (length c.as_str.result.now)
     c.args.meter.now c.loop-c.meter c.step.new.meter c.skip.new.self c.finish.new.meter wide
     (omega (arith, held.whole, ap length one)) (omega (arith, few.1, bytes)) held.above c.step.ensures.above
-    (omega (arith, c.skip.ensures.counted)) (omega (arith, c.finish.ensures.above, c.requires.few))
+    (omega (arith, c.skip.ensures.counted)) (omega (arith, c.finish.ensures.above))
 
 pub returns-then-absorbs-clause-below : goal.returns-then-absorbs-clause-below
 returns-then-absorbs-clause-below g c = λ h.
@@ -150,8 +151,8 @@ returns-clause-decides g c =
 pub returns-clause-above : goal.returns-clause-above
 returns-clause-above g c =
     let (m, held) = c.loop-c.invariant in
-    reads_within c.args.program.now.1 m (length (chars c.args.text.now)) c.args.meter.now c.finish-2.new.meter
-    (omega (arith, held.whole)) (omega (arith, c.finish-2.ensures.above, c.requires.few, held.above))
+    reads_within (length c.args.program.now.0 + 1) m (length (chars c.args.text.now)) c.args.meter.now
+    c.finish-2.new.meter (omega (arith, held.whole)) (omega (arith, c.finish-2.ensures.above, held.above))
 
 pub returns-clause-below : goal.returns-clause-below
 returns-clause-below g c =

@@ -17,7 +17,7 @@ invariant-loop-c g l = (m : ℕ) × record {
   next : IsEmpty (g.R.Sets.position l.sets).next;
   stays : Stays l.program.0 l.start (chars l.text) (chars (chars_rest l.left))
       (g.R.Sets.position l.sets).pending;
-  above : l.meter ≤ l.fn.meter + l.program.1 * m;
+  above : l.meter ≤ l.fn.meter + (length l.program.0 + 1) * m;
   below : min (l.fn.meter + m) most_ticks ≤ l.meter;
   steady : l.fn.meter ≤ l.meter;
   known : IfSome l.steady (IsKnown l.program.0);

@@ -6,6 +6,8 @@ use Rattle.wax_program.proofs.onward.others_of.Goals as goal
 
 pub loop-at-init : goal.loop-at-init
 loop-at-init c = record {
+  above = omega arith;
+  steady = omega arith;
   room = omega (arith, c.in_ok-others.ensures.room, c.size.ensures.size);
   first = record {
     none = λ k le h. c.in_ok-others.ensures.empty k h;
@@ -25,15 +27,19 @@ loop-at-preserved c =
     elim c.if-branch.branch [
       | then-branch w ↦
           let same : c.if-branch.others ≡ set flags at true = w.others-is ∙ w.insert.ensures in record {
+            above = omega (arith, held.above, c.takes_other_at.ensures.above);
+            steady = omega (arith, held.steady, c.takes_other_at.ensures.steady);
             room = omega (arith, held.room, ap length same, length-set flags at true);
             first = subst (λ z. AreFirst code z (at + 1)) (sym same)
                 (first_set code flags at held.first here answer w.if-branch.true
-                c.in_ok-takes_other_at.ensures);
+                c.in_ok-takes_other_at.ensures.answer);
           }
       | else-branch w ↦ record {
+        above = omega (arith, held.above, c.takes_other_at.ensures.above);
+        steady = omega (arith, held.steady, c.takes_other_at.ensures.steady);
         room = omega (arith, held.room, ap length w.others-is);
         first = subst (λ z. AreFirst code z (at + 1)) (sym w.others-is)
-            (first_left code flags at held.first answer w.if-branch.false c.in_ok-takes_other_at.ensures);
+            (first_left code flags at held.first answer w.if-branch.false c.in_ok-takes_other_at.ensures.answer);
       }
     ]
 

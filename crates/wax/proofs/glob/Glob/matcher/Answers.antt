@@ -1,5 +1,6 @@
-use Rattle.std.proofs.Common.{◌↔◌, List, ℕ, IfSome, ap, chars, false, subst, sym}
+use Rattle.std.proofs.Common.{◌<◌, ◌↔◌, List, ℕ, IfSome, ap, chars, false, length, subst, sym}
 use Rattle.wax_prefilter.specs.Compiled.{IsCompiled}
+use Rattle.wax_token.specs.Cost.{program_length}
 use Rattle.wax_token.specs.Meaning.{Means}
 use Rattle.wax.specs.Matching.{AcceptsMeant}
 use Rattle.wax_prefilter.specs.Within.{IsInFolder}
@@ -18,4 +19,6 @@ invariant_of-result c =
           → Means t false false text ↔ IsInFolder (chars folder.now) text)) c.token-2.ensures.same
           (folder_meant c.token-2.result.now _ c.folder_of.result c.concatenation.ensures
           c.folder_of.ensures),
+      subst (λ code. length code < program_length c.args.self.now.tree) (sym c.in_ok-matcher.ensures)
+          (subst (λ n. length compiled.0 < n) is.len is.longer),
     )

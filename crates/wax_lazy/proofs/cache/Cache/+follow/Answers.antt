@@ -1,5 +1,4 @@
-use Rattle.std.proofs.Common.{◌/◌, ◌≤◌, ℕ, ap, length, refl, sym, ◌∙◌, subst, arith, inl, inr, IfOk}
-use Rattle.std.proofs.lemmas.Result.{IfOk-weaker}
+use Rattle.std.proofs.Common.{◌≤◌, ℕ, ap, length, refl, sym, ◌∙◌, subst, arith, inl, inr}
 use Rattle.wax_lazy.specs.inner.Cached.{AreStepped}
 use Rattle.wax_lazy.specs.inner.Table.{KeepsStates, Leads, own_at}
 use Rattle.wax_states.specs.States.{IsDead, IsTransition, LeadOn, LeadsNext, TakesAll, cell_of_next}
@@ -29,7 +28,7 @@ follow-follow_known-requires t c =
           };
           has_state = held.has_state;
         },
-        omega (arith, c.requires.few),
+        (omega (arith, c.requires.few), c.requires.most),
       ),
     )
 
@@ -39,13 +38,13 @@ follow-returns-in-Everything-clause-kept t c =
     let was = c.requires.here.cache in
     let old = c.args.self.now.table.states.items in
     let new = c.follow_known.new.self.table.states.items in
-    let keeps = c.in_ok-next.ensures.grows.kept in
+    let keeps = c.in_ok-found.ensures.grows.kept in
     let now = c.follow_known.ensures.kept.cache in
     let later = failure_later code old new c.args.self.now.table.cells.items c.args.state c.state.result.now
     c.in-Some.failure was.table c.requires.here.has_state c.state.ensures c.in-Some.is keeps in
     let leads = leads_later code old new c.args.self.now.table.cells.items c.args.state c.state.result.now
-    c.in-Some.failure c.args.c c.in_ok-next.next was.table c.state.ensures c.in-Some.is keeps
-    c.in_ok-next.ensures.leads in
+    c.in-Some.failure c.args.c c.in-Some-found.next was.table c.state.ensures c.in-Some.is keeps
+    (rw c.in-Some-found.is at c.in_ok-found.ensures.leads) in
     let failure = rw c.in-Everything.is at leads in
     let all = part_takes_all code c.args.c (places_at old c.args.state) (places_at new c.in-Some.failure)
     (own_at new c.args.state) later.union failure in
@@ -65,12 +64,12 @@ follow-returns-in-Everything-clause-leads t c =
     let was = c.requires.here.cache in
     let old = c.args.self.now.table.states.items in
     let new = c.follow_known.new.self.table.states.items in
-    let keeps = c.in_ok-next.ensures.grows.kept in
+    let keeps = c.in_ok-found.ensures.grows.kept in
     let later = failure_later code old new c.args.self.now.table.cells.items c.args.state c.state.result.now
     c.in-Some.failure was.table c.requires.here.has_state c.state.ensures c.in-Some.is keeps in
     let leads = leads_later code old new c.args.self.now.table.cells.items c.args.state c.state.result.now
-    c.in-Some.failure c.args.c c.in_ok-next.next was.table c.state.ensures c.in-Some.is keeps
-    c.in_ok-next.ensures.leads in
+    c.in-Some.failure c.args.c c.in-Some-found.next was.table c.state.ensures c.in-Some.is keeps
+    (rw c.in-Some-found.is at c.in_ok-found.ensures.leads) in
     let failure = rw c.in-Everything.is at leads in
     let all = part_takes_all code c.args.c (places_at old c.args.state) (places_at new c.in-Some.failure)
     (own_at new c.args.state) later.union failure in
@@ -83,9 +82,9 @@ follow-cell_of-requires t c =
     let old = c.args.self.now.table.states.items in
     let made = c.follow_known.new.self.table.states.items in
     let few : length made ≤ 65533 =
-    omega (arith, c.in_ok-next.ensures.grows.few, c.requires.few, c.if-depth-eq0.false) in
-    next_within code made (places_at old c.in-Some.failure) c.args.c c.in_ok-next.next 65533
-    c.in_ok-next.ensures.leads few
+    omega (arith, c.in_ok-found.ensures.grows.few, c.requires.few, c.if-depth-eq0.false) in
+    next_within code made (places_at old c.in-Some.failure) c.args.c c.in-Some-found.next 65533
+    (rw c.in-Some-found.is at c.in_ok-found.ensures.leads) few
 
 pub follow-returns-then-not-leads : goal.follow-returns-then-not-leads
 follow-returns-then-not-leads t c =
@@ -94,15 +93,15 @@ follow-returns-then-not-leads t c =
     let old = c.args.self.now.table.states.items in
     let new = c.step_own.new.self.table.states.items in
     let same = ap (λ z. z.states.items) c.step_own.ensures.table in
-    let keeps = subst (KeepsStates old) (sym same) c.in_ok-next.ensures.grows.kept in
+    let keeps = subst (KeepsStates old) (sym same) c.in_ok-found.ensures.grows.kept in
     let now = c.step_own.ensures.kept.cache in
     let failure : ℕ = c.in-Some.failure in
-    let next = c.in_ok-next.next in
+    let next = c.in-Some-found.next in
     let here = places_at old c.args.state in
     let later = failure_later code old new c.args.self.now.table.cells.items c.args.state c.state.result.now
     failure was.table c.requires.here.has_state c.state.ensures c.in-Some.is keeps in
     let known = subst (λ z. LeadsNext code z (places_at old failure) c.args.c next)
-    (sym same) c.in_ok-next.ensures.leads in
+    (sym same) (rw c.in-Some-found.is at c.in_ok-found.ensures.leads) in
     let part = leads_later code old new c.args.self.now.table.cells.items c.args.state c.state.result.now
     failure c.args.c next was.table c.state.ensures c.in-Some.is keeps known in
     let dead = subst (λ z. IsDead code (own_at z c.args.state) c.args.c) (sym same)
@@ -128,9 +127,11 @@ follow-returns-then-not-leads t c =
           arith,
           ap (λ z. length z.items) c.write-then-not-leads.ensures.states,
           ap length same,
-          c.in_ok-next.ensures.grows.few,
+          c.in_ok-found.ensures.grows.few,
         );
       };
+      above = omega (arith, c.if-ticks-most.false, c.ticks.ensures, c.step_own.ensures.above);
+      steady = omega (arith, c.follow_known.ensures.steady, c.step_own.ensures.steady);
     }
 
 pub follow-enter-requires : goal.follow-enter-requires
@@ -140,7 +141,7 @@ follow-enter-requires t c =
     let old = c.args.self.now.table.states.items in
     let new = c.step_own.new.self.table.states.items in
     let same = ap (λ z. z.states.items) c.step_own.ensures.table in
-    let keeps = subst (KeepsStates old) (sym same) c.in_ok-next.ensures.grows.kept in
+    let keeps = subst (KeepsStates old) (sym same) c.in_ok-found.ensures.grows.kept in
     let failure : ℕ = c.in-Some.failure in
     let target = c.state-target.result in
     let here = places_at old c.args.state in
@@ -148,12 +149,12 @@ follow-enter-requires t c =
     let own = own_at new c.args.state in
     let later = failure_later code old new c.args.self.now.table.cells.items c.args.state c.state.result.now
     failure was.table c.requires.here.has_state c.state.ensures c.in-Some.is keeps in
-    let known = subst (λ z. LeadsNext code z (places_at old failure) c.args.c c.in_ok-next.next)
-    (sym same) c.in_ok-next.ensures.leads in
+    let known = subst (λ z. LeadsNext code z (places_at old failure) c.args.c c.in-Some-found.next)
+    (sym same) (rw c.in-Some-found.is at c.in_ok-found.ensures.leads) in
     let leads = leads_later code old new c.args.self.now.table.cells.items c.args.state c.state.result.now
-    failure c.args.c c.in_ok-next.next was.table c.state.ensures c.in-Some.is keeps known in
+    failure c.args.c c.in-Some-found.next was.table c.state.ensures c.in-Some.is keeps known in
     let by = subst (λ z. Leads code new part c.args.c z) (sym c.state-target.ensures)
-    (leads_known code new part c.args.c c.in_ok-next.next leads c.in_default-next.not-Everything) in
+    (leads_known code new part c.args.c c.in-Some-found.next leads c.in_default-next.not-Everything) in
     let stepped = subst (λ z. AreStepped code z c.args.state target c.args.c c.step_own.new.self) (sym same)
     (c.in_ok-leads.ensures.reaches c.if-not-leads.false) in
     let next =
@@ -165,7 +166,7 @@ follow-enter-requires t c =
         has_state = placed_keeps old new keeps c.args.state c.requires.here.has_state;
       };
       few =
-          omega (arith, ap length same, c.in_ok-next.ensures.grows.few, c.requires.few, c.if-depth-eq0.false);
+          omega (arith, ap length same, c.in_ok-found.ensures.grows.few, c.requires.few, c.if-depth-eq0.false);
       next = subst (λ z. LeadOn code c.args.c z c.step_own.new.self.reached.items)
           (sym (keeps c.args.state c.requires.here.has_state).1) next;
       target = target_parted code new part c.args.c own c.step_own.new.self.reached.items
@@ -178,17 +179,31 @@ follow-returns t c =
     let old = c.args.self.now.table.states.items in
     let new = c.enter.new.self.table.states.items in
     let same = ap (λ z. z.states.items) c.step_own.ensures.table in
-    let keeps = subst (KeepsStates old) (sym same) c.in_ok-next.ensures.grows.kept in
+    let keeps = subst (KeepsStates old) (sym same) c.in_ok-found.ensures.grows.kept in
+    let more = c.in_ok-enter.ensures.grows in
     record {
       kept = record {
         cache = c.enter.ensures.kept.cache;
         start = c.enter.ensures.kept.start ∙ c.step_own.ensures.kept.start
             ∙ c.follow_known.ensures.kept.start;
       };
-      leads = subst (λ z. IfOk c.enter.result (LeadsNext code new z c.args.c))
-          (keeps c.args.state c.requires.here.has_state).1 c.enter.ensures.leads;
-      grows = IfOk-weaker c.enter.result _ _ (λ _ more. record {
+      leads = subst (λ z. LeadsNext code new z c.args.c c.in_ok-enter.field-0)
+          (keeps c.args.state c.requires.here.has_state).1 c.in_ok-enter.ensures.leads;
+      grows = record {
         kept = keeps_more old c.step_own.new.self.table.states.items new keeps more.kept;
-        few = omega (arith, ap length same, c.in_ok-next.ensures.grows.few, more.few, c.if-depth-eq0.false);
-      }) c.enter.ensures.grows;
+        few = omega (arith, ap length same, c.in_ok-found.ensures.grows.few, more.few, c.if-depth-eq0.false);
+      };
+      above = omega (
+        arith,
+        c.if-ticks-most.false,
+        c.ticks.ensures,
+        c.step_own.ensures.above,
+        c.enter.ensures.above,
+      );
+      steady = omega (
+        arith,
+        c.follow_known.ensures.steady,
+        c.step_own.ensures.steady,
+        c.enter.ensures.steady,
+      );
     }

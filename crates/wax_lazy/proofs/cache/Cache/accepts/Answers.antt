@@ -1,4 +1,4 @@
-use Rattle.std.proofs.Common.{◌/◌, ◌↔◌, [], IfSome, IsTrue, Some, sym, ◌∙◌, ap, subst}
+use Rattle.std.proofs.Common.{◌↔◌, [], IfSome, IsTrue, Some, sym, ◌∙◌, ap, subst}
 use Rattle.wax_states.specs.States.{IsSettled, places_in}
 use Rattle.wax_lazy.proofs.Caches.{cache_accepts}
 use Rattle.wax_program.specs.Threads.{AnyAmong}

@@ -1,4 +1,4 @@
-use Rattle.std.proofs.Common.{◌≡◌, ◌*◌, ◌∷◌, [], ◌∙◌, sym, subst, rules}
+use Rattle.std.proofs.Common.{◌≡◌, ◌∷◌, [], ◌∙◌, sym, subst, rules}
 use Rattle.wax_lazy.specs.inner.Table.{BeginsTexts}
 use Rattle.wax_states.specs.States.{places_at}
 use Rattle.wax_lazy.proofs.Caches.{cache_cleared}

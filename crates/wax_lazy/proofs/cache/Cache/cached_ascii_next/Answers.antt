@@ -1,4 +1,4 @@
-use Rattle.std.proofs.Common.{◌≡◌, ◌+◌, ◌*◌, get_or, sym, subst}
+use Rattle.std.proofs.Common.{sym, subst}
 use Rattle.wax_states.specs.States.{IsTransition, places_at}
 use Rattle.wax_lazy.proofs.Tables.{cell_inside}
 use Rattle.wax_lazy.proofs.cache.Cache.cached_ascii_next.Goals as goal

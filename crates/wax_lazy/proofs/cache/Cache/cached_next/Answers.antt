@@ -1,4 +1,3 @@
-use Rattle.std.proofs.Common.{◌/◌}
 use Rattle.wax_states.specs.States.{places_at}
 use Rattle.wax_lazy.proofs.Tables.{wide_says}
 use Rattle.wax_lazy.proofs.cache.Cache.cached_next.Goals as goal

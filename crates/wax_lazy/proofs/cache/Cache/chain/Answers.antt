@@ -1,11 +1,11 @@
-use Rattle.std.proofs.Common.{◌≡◌, ◌∙◌, ◌/◌, ap, sym, subst, length, arith}
+use Rattle.std.proofs.Common.{◌≡◌, ◌∙◌, ap, sym, subst, length, arith}
 use Rattle.wax_lazy.specs.inner.Table.{IsJoinOf, own_in}
 use Rattle.wax_states.specs.States.{places_at}
 use Rattle.wax_lazy.proofs.Tables.{only_item, failure_at}
 use Rattle.wax_lazy.proofs.cache.Cache.chain.Goals as goal
 
-pub returns-in-len1 : goal.returns-in-len1
-returns-in-len1 c =
+pub returns-in-len1-clause-chain : goal.returns-in-len1-clause-chain
+returns-in-len1-clause-chain c =
     let code = c.args.program.now.0 in
     let states = c.args.self.now.table.states.items in
     let held = failure_at code states c.args.self.now.table.cells.items c.args.state c.state-kept.result.now

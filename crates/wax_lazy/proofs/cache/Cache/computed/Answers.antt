@@ -1,4 +1,4 @@
-use Rattle.std.proofs.Common.{◌/◌, [], refl, sym, ◌∙◌, subst}
+use Rattle.std.proofs.Common.{[], arith, refl, sym, ◌∙◌, subst}
 use Rattle.wax_states.specs.States.{HasState, places_at}
 use Rattle.wax_lazy.proofs.Chains.{own_ends, failure_ends, said_ends}
 use Rattle.wax_lazy.proofs.Tables.{failure_at}
@@ -41,6 +41,8 @@ loop-part-preserved c =
       table = now ∙ held.table;
       rows = c.own_accept.ensures.rows ∙ held.rows;
       first = c.own_accept.ensures.first ∙ held.first;
+      above = omega (arith, c.if-ticks-most.false, c.ticks-in-loop-part.ensures, c.own_accept.ensures.above);
+      steady = omega (arith, held.steady, c.own_accept.ensures.steady);
       has_state = subst (λ z. HasState z.states.items failure) (sym now) parted.has_state;
       same = (
         (λ h. subst (λ z. AnyAmong code (places_at z.states.items failure) []) (sym now)

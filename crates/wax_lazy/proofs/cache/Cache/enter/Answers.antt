@@ -1,4 +1,4 @@
-use Rattle.std.proofs.Common.{◌≡◌, ◌+◌, ◌*◌, ◌/◌, ℕ, List, [], refl, subst, sym, ◌∙◌, inl, inr, arith}
+use Rattle.std.proofs.Common.{◌≡◌, ℕ, List, [], refl, subst, sym, ◌∙◌, inl, inr, arith}
 use Rattle.std.proofs.Common.{eqb-true}
 use Rattle.std.proofs.lemmas.List.{nil_from_length}
 use Rattle.wax_program.specs.Threads.{AnyAmong}
@@ -78,3 +78,11 @@ returns-clause-leads c =
     let made = c.in_ok-to.ensures.interned in
     rw c.write-2.ensures.states (leads_to c.args.program.now.0 c.intern_parted.new.self.table.states.items _ _
     _ c.args.c c.in_ok-to.to refl made.known made.places_are c.requires.next)
+
+pub returns-clause-less : goal.returns-clause-less
+returns-clause-less c = λ small none.
+    let same = c.intern_parted.ensures.less small none in omega (arith, c.takes_all.ensures.above, same)
+
+pub returns-in_err-to-clause-less : goal.returns-in_err-to-clause-less
+returns-in_err-to-clause-less c = λ small none.
+    let same = c.intern_parted.ensures.less small none in omega (arith, c.takes_all.ensures.above, same)

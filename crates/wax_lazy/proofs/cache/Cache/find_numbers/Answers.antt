@@ -1,4 +1,4 @@
-use Rattle.std.proofs.Common.{◌≡◌, ◌/◌, Some, refl, sym, ◌∙◌, subst}
+use Rattle.std.proofs.Common.{◌≡◌, Some, refl, sym, ◌∙◌, subst}
 use Rattle.wax_states.specs.States.{places_at, places_in}
 use Rattle.wax_lazy.proofs.Caches.{cache_numbers}
 use Rattle.wax_lazy.proofs.Tables.{known_are, settled_numbers}

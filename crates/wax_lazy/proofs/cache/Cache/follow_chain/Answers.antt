@@ -1,6 +1,8 @@
-use Rattle.std.proofs.Common.{◌≡◌, ◌+◌, ◌/◌, ◌↔◌, ◌⊎◌, ◌∷◌, ◌++◌, ◌<◌, ℕ, List, IfSome, true, drop, length}
+use Rattle.std.proofs.Common.{◌≡◌, ◌+◌, ◌*◌, ◌↔◌, ◌⊎◌, ◌∷◌, ◌++◌, ◌<◌, ◌≤◌, ℕ, List, IfSome, true, drop, length}
 use Rattle.std.proofs.Common.{refl, sym, ◌∙◌, ap, subst, arith}
+use Rattle.wax_lazy.specs.Cost.{char_visits, fill_visits}
 use Rattle.wax_lazy.specs.inner.Cached.{DecidesLeft}
+use Rattle.wax_lazy.proofs.Costs.{char_large, fill_large, spent_all, spent_one, spent_two}
 use Rattle.wax_states.specs.States.{HasState, places_at, places_or_none}
 use Rattle.wax_lazy.proofs.Chains.{all_on, both_on, check_within, chain_begins, chain_ends, next_placed}
 use Rattle.wax_lazy.proofs.Chains.{failure_on}
@@ -8,6 +10,8 @@ use Rattle.wax_lazy.proofs.Walking.{next_of}
 use Rattle.wax_program.specs.Checks.{IsCheckAt}
 use Rattle.wax_program.specs.Machine.{Accepts}
 use Rattle.wax_program.specs.Threads.{AnyAmong}
+use Rattle.wax_lazy.proofs.cache.Cache.follow_chain.Goals.{then-end-text}
+use Rattle.wax_lazy.proofs.cache.Cache.follow_chain.Goals.{else-end-text+else-is_full+in-None}
 use Rattle.wax_lazy.proofs.cache.Cache.follow_chain.Goals as goal
 
 pub loop-next-init : goal.loop-next-init
@@ -18,6 +22,8 @@ loop-next-init c = record {
   few = c.requires.few;
   from = omega arith;
   within = c.requires.within;
+  spent = omega arith;
+  steady = omega arith;
   check = c.requires.check;
   stays = λ places chain s. chain_begins c.args.program.now.0 c.args.self.now.table.states.items places
       c.args.chain (drop c.args.index c.args.text.now ++ s) chain;
@@ -48,6 +54,7 @@ overflow_add-here c =
 pub loop-next-preserved : goal.loop-next-preserved
 loop-next-preserved c =
     let code = c.args.program.now.0 in
+    let x : ℕ = char_visits code in
     let text : List ℕ = c.args.text.now in
     let l = c.loop-next in
     let held = l.invariant in
@@ -68,6 +75,11 @@ loop-next-preserved c =
       few = c.is_full.ensures c.if-is_full.false;
       from = omega (arith, held.from);
       within = omega (arith, c.if-end-text.false);
+      spent = spent_one x c.args.index l.end c.args.meter.now l.meter c.check_at.new.meter
+          (fill_visits code + 1) held.spent
+          (omega (arith, c.follow_failure.ensures.above, c.check_at.ensures.above))
+          (omega (arith, fill_large code c.requires.large, char_large code c.requires.large));
+      steady = omega (arith, held.steady, c.follow_failure.ensures.steady, c.check_at.ensures.steady);
       check = further;
       stays = λ places chain. subst (λ o. (s : List ℕ) → AnyAmong code places (drop c.args.index text ++ s)
           ↔ (AnyAmong code (places_or_none new o) (after ++ s)
@@ -80,6 +92,7 @@ loop-next-preserved c =
 pub returns-in-Some-false : goal.returns-in-Some-false
 returns-in-Some-false c =
     let code = c.args.program.now.0 in
+    let x : ℕ = char_visits code in
     let text : List ℕ = c.args.text.now in
     let l = c.loop-next in
     let held = l.invariant in
@@ -95,6 +108,15 @@ returns-in-Some-false c =
     next_of text (l.end + 1) within ∙ ap (λ k. k ∷ ends) (sym c.from-c.ensures) in
     let check = subst (λ k. IsCheckAt code l.here.place k true) (sym c.from.ensures) held.check in
     let leads = c.in_ok-next.ensures.leads in
+    let last_meter : ℕ = c.follow_failure-in-Some-false.new.meter in
+    let spent : last_meter + 1 + x * c.args.index ≤ c.args.meter.now + x * (l.end + 1 + 1) =
+    spent_two x c.args.index l.end c.args.meter.now l.meter (last_meter + 1) (2 * fill_visits code + 2)
+    held.spent (omega (
+      arith,
+      c.follow_failure.ensures.above,
+      c.check_at.ensures.above,
+      c.follow_failure-in-Some-false.ensures.above,
+    )) (omega (arith, fill_large code c.requires.large, char_large code c.requires.large)) in
     let misses = subst (IsCheckAt code (l.here.place + 1) c.from-c.result) c.in-Some-false.field-0-test
     c.in-Some-false.ensures.check in
     record {
@@ -104,6 +126,16 @@ returns-in-Some-false c =
             ∙ c.follow_failure.ensures.kept.start ∙ held.start;
       };
       further = (omega (arith, held.from), omega (arith, within));
+      spent = spent;
+      most = spent_all x c.args.index (l.end + 1 + 1) (length text) c.args.meter.now (last_meter + 1)
+          (omega (arith, within)) spent;
+      steady = omega (
+        arith,
+        held.steady,
+        c.follow_failure.ensures.steady,
+        c.check_at.ensures.steady,
+        c.follow_failure-in-Some-false.ensures.steady,
+      );
       decides = λ places chain.
           let stays = subst (λ o. (s : List ℕ) → AnyAmong code places (drop c.args.index text ++ s)
           ↔ (AnyAmong code (places_or_none new o) (after ++ s)
@@ -118,6 +150,27 @@ returns-in-Some-false c =
 
 pub returns : goal.returns
 returns c =
+    let x : ℕ = char_visits c.args.program.now.0 in
+    let ended : c.if-end-text.meter ≤ c.follow_failure.new.meter + 1 = elim c.if-end-text.branch [
+      | then-end-text w ↦ omega (arith, w.meter-is)
+      | else-end-text+else-is_full+in-None w ↦ omega (arith, w.meter-is, w.check_at.ensures.above)
+    ] in
+    let onward : c.follow_failure.new.meter ≤ c.if-end-text.meter = elim c.if-end-text.branch [
+      | then-end-text w ↦ omega (arith, w.meter-is)
+      | else-end-text+else-is_full+in-None w ↦ omega (arith, w.meter-is, w.check_at.ensures.steady)
+    ] in
+    let last_meter : ℕ = c.end_chain.new.meter in
+    let spent : last_meter + 1 + x * c.args.index ≤ c.args.meter.now + x * (c.loop-next.end + 1) =
+    spent_one x c.args.index c.loop-next.end c.args.meter.now c.loop-next.meter (last_meter + 1)
+    (char_visits c.args.program.now.0) c.loop-next.invariant.spent
+    (omega (
+      arith,
+      ended,
+      c.follow_failure.ensures.above,
+      c.end_chain.ensures.above,
+      fill_large c.args.program.now.0 c.requires.large,
+      char_large c.args.program.now.0 c.requires.large,
+    )) (omega arith) in
     let code = c.args.program.now.0 in
     let text : List ℕ = c.args.text.now in
     let l = c.loop-next in
@@ -136,6 +189,16 @@ returns c =
         start = c.end_chain.ensures.kept.start ∙ c.follow_failure.ensures.kept.start ∙ held.start;
       };
       further = (omega (arith, held.from), omega (arith, held.within));
+      spent = spent;
+      most = spent_all x c.args.index (l.end + 1) (length text) c.args.meter.now (last_meter + 1)
+          (omega (arith, held.within)) spent;
+      steady = omega (
+        arith,
+        held.steady,
+        c.follow_failure.ensures.steady,
+        onward,
+        c.end_chain.ensures.steady,
+      );
       decides = λ places chain.
           let stays = subst (λ o. (s : List ℕ) → AnyAmong code places (drop c.args.index text ++ s)
           ↔ (AnyAmong code (places_or_none new o) (after ++ s)
@@ -149,3 +212,92 @@ returns c =
                 (l.here.place + 1) (stays s) c.in_ok-state.ensures.union),
           );
     }
+
+pub returns-in_err-state-clause-most : goal.returns-in_err-state-clause-most
+returns-in_err-state-clause-most c =
+    let x : ℕ = char_visits c.args.program.now.0 in
+    let ended : c.if-end-text.meter ≤ c.follow_failure.new.meter + 1 = elim c.if-end-text.branch [
+      | then-end-text w ↦ omega (arith, w.meter-is)
+      | else-end-text+else-is_full+in-None w ↦ omega (arith, w.meter-is, w.check_at.ensures.above)
+    ] in
+    let onward : c.follow_failure.new.meter ≤ c.if-end-text.meter = elim c.if-end-text.branch [
+      | then-end-text w ↦ omega (arith, w.meter-is)
+      | else-end-text+else-is_full+in-None w ↦ omega (arith, w.meter-is, w.check_at.ensures.steady)
+    ] in
+    let last_meter : ℕ = c.end_chain.new.meter in
+    let spent : last_meter + 1 + x * c.args.index ≤ c.args.meter.now + x * (c.loop-next.end + 1) =
+    spent_one x c.args.index c.loop-next.end c.args.meter.now c.loop-next.meter (last_meter + 1)
+    (char_visits c.args.program.now.0) c.loop-next.invariant.spent
+    (omega (
+      arith,
+      ended,
+      c.follow_failure.ensures.above,
+      c.end_chain.ensures.above,
+      fill_large c.args.program.now.0 c.requires.large,
+      char_large c.args.program.now.0 c.requires.large,
+    )) (omega arith) in
+    spent_all x c.args.index (c.loop-next.end + 1) (length c.args.text.now) c.args.meter.now (last_meter + 1)
+    (omega (arith, c.loop-next.invariant.within)) spent
+
+pub returns-in_err-state-clause-steady : goal.returns-in_err-state-clause-steady
+returns-in_err-state-clause-steady c =
+    let onward : c.follow_failure.new.meter ≤ c.if-end-text.meter = elim c.if-end-text.branch [
+      | then-end-text w ↦ omega (arith, w.meter-is)
+      | else-end-text+else-is_full+in-None w ↦ omega (arith, w.meter-is, w.check_at.ensures.steady)
+    ] in
+    omega (
+      arith,
+      c.loop-next.invariant.steady,
+      c.follow_failure.ensures.steady,
+      onward,
+      c.end_chain.ensures.steady,
+    )
+
+pub returns-in_err-next-in-Some-false-clause-most : goal.returns-in_err-next-in-Some-false-clause-most
+returns-in_err-next-in-Some-false-clause-most c =
+    let code = c.args.program.now.0 in
+    let x : ℕ = char_visits code in
+    let l = c.loop-next in
+    let last_meter : ℕ = c.follow_failure-in-Some-false.new.meter in
+    let spent : last_meter + 1 + x * c.args.index ≤ c.args.meter.now + x * (l.end + 1 + 1) =
+    spent_two x c.args.index l.end c.args.meter.now l.meter (last_meter + 1) (2 * fill_visits code + 2)
+    l.invariant.spent (omega (
+      arith,
+      c.follow_failure.ensures.above,
+      c.check_at.ensures.above,
+      c.follow_failure-in-Some-false.ensures.above,
+    )) (omega (arith, fill_large code c.requires.large, char_large code c.requires.large)) in
+    spent_all x c.args.index (l.end + 1 + 1) (length c.args.text.now) c.args.meter.now (last_meter + 1)
+    (omega (arith, c.if-end-text.false)) spent
+
+pub returns-in-Everything-clause-spent : goal.returns-in-Everything-clause-spent
+returns-in-Everything-clause-spent c =
+    let code = c.args.program.now.0 in
+    spent_one (char_visits code) c.args.index c.loop-next.end c.args.meter.now c.loop-next.meter
+    (c.follow_failure.new.meter + 1) (char_visits code) c.loop-next.invariant.spent
+    (omega (
+      arith,
+      c.follow_failure.ensures.above,
+      fill_large code c.requires.large,
+      char_large code c.requires.large,
+    )) (omega arith)
+
+pub returns-in-Everything-clause-most : goal.returns-in-Everything-clause-most
+returns-in-Everything-clause-most c = spent_all (char_visits c.args.program.now.0) c.args.index
+    (c.loop-next.end + 1) (length c.args.text.now) c.args.meter.now (c.follow_failure.new.meter + 1)
+    (omega (arith, c.loop-next.invariant.within)) (returns-in-Everything-clause-spent c)
+
+pub returns-in_err-next-clause-most : goal.returns-in_err-next-clause-most
+returns-in_err-next-clause-most c =
+    let code = c.args.program.now.0 in
+    spent_all (char_visits code) c.args.index
+    (c.loop-next.end + 1) (length c.args.text.now) c.args.meter.now (c.follow_failure.new.meter + 1)
+    (omega (arith, c.loop-next.invariant.within))
+    (spent_one (char_visits code) c.args.index c.loop-next.end c.args.meter.now c.loop-next.meter
+    (c.follow_failure.new.meter + 1) (char_visits code) c.loop-next.invariant.spent
+    (omega (
+      arith,
+      c.follow_failure.ensures.above,
+      fill_large code c.requires.large,
+      char_large code c.requires.large,
+    )) (omega arith))

@@ -1,4 +1,5 @@
-use Rattle.std.proofs.Common.{◌≡◌, ◌↔◌, ◌⊎◌, ◌<◌, ◌≤◌, ◌-◌, ◌++◌, ℕ, List, IfSome, drop, get_or, length, true}
+use Rattle.std.proofs.Common.{◌≡◌, ◌↔◌, ◌⊎◌, ◌<◌, ◌≤◌, ◌+◌, ◌*◌, ◌-◌, ◌++◌, ℕ, List, IfSome, drop, get_or, length, true}
+use Rattle.wax_lazy.specs.Cost.{char_visits}
 use Rattle.wax_lazy.specs.inner.Cached.{IsCacheOf, IsChain}
 use Rattle.wax_states.specs.States.{HasState, places_or_none}
 use Rattle.wax_program.specs.Checks.{IsCheckAt}
@@ -14,6 +15,8 @@ invariant-loop-next l = record {
   few : length l.self.table.states.items < 60000;
   from : l.fn.index ≤ l.end;
   within : l.end < length l.text;
+  spent : l.meter + char_visits l.program.0 * l.fn.index ≤ l.fn.meter + char_visits l.program.0 * l.end;
+  steady : l.fn.meter ≤ l.meter;
   check : IsCheckAt l.program.0 l.here.place (get_or l.text l.end 0) true;
   stays : (places : List ℕ) → IsChain l.program.0 l.fn.self.table.states.items places l.fn.chain
       → (s : List ℕ) → AnyAmong l.program.0 places (drop l.fn.index l.text ++ s)

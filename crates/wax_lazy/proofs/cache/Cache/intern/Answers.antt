@@ -19,7 +19,7 @@ returns-clause-kept c =
     let same = c.in_ok-places.ensures.items ∙ c.deref-2.ensures.value in
     let good = state_parted code c.args.self.now c.in_ok-places.places c.in_ok-own.own c.args.failure
     c.requires.failure same c.in_ok-own.ensures in
-    cache_kept code c.args.self.now c.keep.new.self c.requires.cache _ c.keep.result good
+    cache_kept code c.args.self.now c.keep.new.self c.requires.cache _ c.keep.result c.requires.few good
     c.keep.ensures.ok c.keep.ensures.err
 
 pub returns-clause-interned : goal.returns-clause-interned

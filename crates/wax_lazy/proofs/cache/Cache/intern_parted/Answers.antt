@@ -1,4 +1,4 @@
-use Rattle.std.proofs.Common.{◌∙◌, ◌*◌, ◌/◌, ℕ, ap, refl, sym, subst}
+use Rattle.std.proofs.Common.{◌∙◌, ℕ, ap, refl, sym, subst}
 use Rattle.std.proofs.lemmas.Result.{IfOk-weaker}
 use Rattle.wax_lazy.specs.inner.Table.{IsJoinOf}
 use Rattle.wax_states.specs.States.{places_at}
@@ -18,7 +18,7 @@ intern-requires-2-clause-failure c =
     let all = ap (λ z. z.items) (c.swap-2.ensures.x_after ∙ lists.loops ∙ c.swap.ensures.y_after) in
     let others = ap (λ z. z.items) lists.others in
     let parts = subst (λ z. AreParts z c.part_loops.new.loops.items c.part_loops.new.others.items)
-    c.deref-2.ensures.value c.in_ok-part_loops.ensures.parts in
+    c.deref.ensures.value c.in_ok-part_loops.ensures.parts in
     let union = union_of_parts code _ _ _ parts in
     record {
       has_state = made.known;

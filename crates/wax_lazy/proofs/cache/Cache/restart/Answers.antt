@@ -1,4 +1,3 @@
-use Rattle.std.proofs.Common.{◌/◌}
 use Rattle.wax_lazy.proofs.Caches.{restarted}
 use Rattle.wax_lazy.proofs.cache.Cache.restart.Goals as goal
 

@@ -13,7 +13,7 @@ returns-clause-levels c =
     let f : PlaceFlags = c.in_ok-next.next in
     let held : AreLevelsOf code old = subst (AreLevelsOf code) (sym c.self.view_is) c.requires.levels in
     let next : IsNextLevel code old.levels f =
-    subst (λ (l : LevelFlags). IsNextLevel code l.levels f) (sym c.self.view_is) c.in_ok-next.ensures in
+    subst (λ (l : LevelFlags). IsNextLevel code l.levels f) (sym c.self.view_is) c.in_ok-next.ensures.level in
     subst (λ xs. AreLevelsOf code
     (record { levels = xs; is_complete = c.is_last-is_last.result; others = i.others }))
     (sym c.in_ok-push.ensures.items)

@@ -15,6 +15,8 @@ loop-at-preserved c =
     let same : c.settle.new.self ≡ c.loop-at.self = c.settle.ensures.same c.if-settle.false in
     record {
       within = omega (arith, held.within);
+      above = omega (arith, held.above, c.settle.ensures.above, c.loop-at-test.true);
+      steady = omega (arith, held.steady, c.settle.ensures.steady);
       gains = gains_both code o _ _ _ held.gains c.settle.ensures.gains;
       more =
           λ t. subst (λ (f : PlaceFlags). flag_count c.args.self.now < flag_count f) (sym same) (held.more t);

@@ -13,7 +13,7 @@ returns-clause-ends c =
     (list_marked code c.args.places.now loaded c.advance.new.sets c.list_ends-listed.new.numbers.items
     c.requires.closed sized
     (c.advance.ensures.size ∙ sized) c.load.ensures.loaded c.advance.ensures.done c.advance.ensures.round
-    c.in_ok-listed.ensures)
+    c.in_ok-listed.ensures.ends)
 
 pub returns-clause-ascending : goal.returns-clause-ascending
 returns-clause-ascending c = numbers_ascend c.sort_unstable.new.self.items c.dedup.new.self.items

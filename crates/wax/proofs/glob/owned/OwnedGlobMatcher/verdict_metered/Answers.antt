@@ -1,5 +1,5 @@
 use Rattle.wax_set.proofs.Matchers.{verdict_below, verdict_means}
-use Rattle.wax.proofs.glob.owned.OwnedGlobMatcher.verdict.Goals as goal
+use Rattle.wax.proofs.glob.owned.OwnedGlobMatcher.verdict_metered.Goals as goal
 
 pub returns-clause-means : goal.returns-clause-means
 returns-clause-means c =

@@ -2,7 +2,7 @@ use Rattle.std.proofs.Common.{◌≡◌, ◌∙◌, ◌-◌, chars, length, slic
 use Rattle.wax_lazy.proofs.Numbering.{last_where}
 use Rattle.wax_lazy.specs.inner.Cached.{numbers_known}
 use Rattle.wax_lazy.specs.Numbers.{AreNumbers}
-use Rattle.wax_lazy.proofs.matcher.Matcher.last_number.Goals as goal
+use Rattle.wax_lazy.proofs.matcher.Matcher.last_number_metered.Goals as goal
 
 pub returns-clause-last : goal.returns-clause-last
 returns-clause-last g c =
