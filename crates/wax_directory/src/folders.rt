@@ -5,19 +5,18 @@ ghost use Rattle.wax_directory.specs.Counting.{no_counts};
 
 use crate::directory::{Directory, DirectoryFault, FileType, ListItem};
 use crate::history::History;
+use crate::names::{FolderNames, ReadAhead};
 use crate::path::is_open;
 use crate::tally::Tally;
 use std::alloc::{AllocError, Global};
 use std::fs::Files;
-use std::io::{ErrorKind, Read};
+use std::io::ErrorKind;
 use std::{fs, io};
 use wax_query::diagnostics::NoMemory;
 
-/// How many bytes of a folder's entries are read at once.
-const CHUNK: usize = 8192;
-
 /// The real file system. Links aren't followed, and items come in the system's order. Each item
-/// costs one system call. Nothing is claimed of what is shown, only of the counts and the answers.
+/// costs one system call. A folder stays open only while it has names that weren't read ahead.
+/// Nothing is claimed of what is shown, only of the counts and the answers.
 #[derive(Drop)]
 pub struct Folders {
     runtime: HostRuntime,
@@ -25,6 +24,7 @@ pub struct Folders {
     history: History,
     // The path of the item whose kind was looked at last: its text is used again for the next one.
     item_path: String,
+    ahead: ReadAhead,
 }
 
 impl Folders {
@@ -34,11 +34,13 @@ impl Folders {
         ensures unasked { ⟦<Self as Directory>⟧.law.answered result ≡ [] }
     {
         let item_path = String::new(runtime.alloc());
+        let ahead = ReadAhead::new(runtime.alloc());
         Folders {
             runtime,
             tally: Tally::none(),
             history: History::new(),
             item_path,
+            ahead,
         }
     }
 
@@ -87,74 +89,7 @@ impl Folders {
 pub struct FolderListing {
     // The path of the folder, to which a name can be appended.
     path: String,
-    names: NameReader,
-}
-
-// Reads the names of a folder, in parts. A part has whole names, each with a NUL at its end.
-#[derive(Drop)]
-struct NameReader {
-    folder: <HostRuntime as Files>::Dir,
-    buffer: Vec<u8>,
-    // Where the names in the buffer that weren't returned yet begin and end.
-    start: usize,
-    end: usize,
-    is_done: bool,
-}
-
-impl NameReader {
-    // Reads the next part if all names of the last one were returned. Returns whether there is a
-    // name.
-    fn fill(&mut self) -> io::Result<bool> {
-        if self.start < self.end {
-            return Ok(true);
-        }
-        if self.is_done {
-            return Ok(false);
-        }
-        let count = match self.folder.read(self.buffer.as_mut_slice()) {
-            Ok(count) => count,
-            Err(error) => {
-                self.is_done = true;
-                return Err(error);
-            }
-        };
-        self.start = 0;
-        self.end = count;
-        self.is_done = count == 0;
-        Ok(count > 0)
-    }
-
-    // Returns where the next name begins and ends in the buffer, and passes over it.
-    fn pass_name(&mut self) -> (usize, usize) {
-        let start = self.start;
-        let rest = self.buffer.get(start..self.end).unwrap_or(&[]);
-        let len = rest
-            .iter()
-            .position(|byte| *byte == 0)
-            .unwrap_or(rest.len());
-        let end = start.saturating_add(len);
-        self.start = end.saturating_add(1);
-        (start, end)
-    }
-
-    // Returns the next name, without `.` and `..`, or `None` at the end.
-    fn next(&mut self) -> io::Result<Option<&[u8]>> {
-        for _ in 0..u64::MAX {
-            if !self.fill()? {
-                return Ok(None);
-            }
-            let (start, end) = self.pass_name();
-            if !is_dots(self.buffer.get(start..end).unwrap_or(&[])) {
-                return Ok(self.buffer.get(start..end));
-            }
-        }
-        Ok(None)
-    }
-}
-
-// Returns whether a name is that of the folder itself or of the one above.
-fn is_dots(name: &[u8]) -> bool {
-    matches!(name, [b'.'] | [b'.', b'.'])
+    names: FolderNames,
 }
 
 // Replaces the empty path, which the system doesn't know.
@@ -195,10 +130,11 @@ fn kind_at(runtime: &HostRuntime, path: &str) -> Result<Option<FileType>, Direct
 fn opened_at(
     alloc: Global,
     runtime: &HostRuntime,
+    ahead: &mut ReadAhead,
     path: &str,
 ) -> Result<Box<FolderListing>, DirectoryFault> {
     match runtime.open_dir(system_path(path)) {
-        Ok(folder) => match listing_of(alloc, folder, path) {
+        Ok(folder) => match listing_of(alloc, ahead, folder, path) {
             Ok(listing) => Ok(listing),
             Err(_) => Err(DirectoryFault::Memory),
         },
@@ -209,23 +145,16 @@ fn opened_at(
 // The listing is in a box, so that little is moved with it.
 fn listing_of(
     alloc: Global,
+    ahead: &mut ReadAhead,
     folder: <HostRuntime as Files>::Dir,
     path: &str,
 ) -> Result<Box<FolderListing>, AllocError> {
-    let mut buffer = Vec::with_capacity(alloc, CHUNK)?;
-    buffer.extend_from_slice(&[0; CHUNK])?;
     let mut text = String::with_capacity(alloc, path.len() + 1)?;
     text.push_str(path)?;
     if !is_open(path) {
         text.push('/')?;
     }
-    let names = NameReader {
-        folder,
-        buffer,
-        start: 0,
-        end: 0,
-        is_done: false,
-    };
+    let names = ahead.names_of(alloc, folder)?;
     Ok(Box::new(alloc, FolderListing { path: text, names })?)
 }
 
@@ -258,7 +187,7 @@ impl Directory for Folders {
     }
 
     fn open(&mut self, alloc: Global, path: &str) -> Result<Box<FolderListing>, DirectoryFault> {
-        let answer = opened_at(alloc, &self.runtime, path);
+        let answer = opened_at(alloc, &self.runtime, &mut self.ahead, path);
         self.tally.add(Tally::of_opening(&answer));
         self.history.add_opening(path, &answer);
         answer

@@ -7,6 +7,7 @@ pub mod failing;
 pub mod folders;
 pub mod history;
 pub mod independent;
+mod names;
 pub mod path;
 mod paths;
 pub mod starving;
