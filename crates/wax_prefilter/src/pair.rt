@@ -10,8 +10,22 @@ use std::simd::prelude::*;
 /// How many positions are looked at together.
 const LANES: usize = 32;
 
-/// The characters that are most common in the paths of a Debian system, the most common one first.
-const COMMON: &[u8] = b"/otsnerlaciu.hp_-ymdg1b6x3vkf842w705z9jqEASMCRPITDLNGVOBQ+FHUWX";
+/// How many bytes are more common than each byte in the paths of a Debian system, which has them in the order
+/// `/otsnerlaciu.hp_-ymdg1b6x3vkf842w705z9jqEASMCRPITDLNGVOBQ+FHUWX`, from the most common one on. All others
+/// count as equally rare.
+const RARITY: [u8; 256] = [
+    63, 63, 63, 63, 63, 63, 63, 63, 63, 63, 63, 63, 63, 63, 63, 63, 63, 63, 63, 63, 63, 63, 63, 63,
+    63, 63, 63, 63, 63, 63, 63, 63, 63, 63, 63, 63, 63, 63, 63, 63, 63, 63, 63, 57, 63, 16, 12, 0,
+    34, 21, 31, 25, 30, 35, 23, 33, 29, 37, 63, 63, 63, 63, 63, 63, 63, 41, 55, 44, 49, 40, 58, 52,
+    59, 47, 63, 63, 50, 43, 51, 54, 46, 56, 45, 42, 48, 60, 53, 61, 62, 63, 63, 63, 63, 63, 63, 15,
+    63, 8, 22, 9, 19, 5, 28, 20, 13, 10, 38, 27, 7, 18, 4, 1, 14, 39, 6, 3, 2, 11, 26, 32, 24, 17,
+    36, 63, 63, 63, 63, 63, 63, 63, 63, 63, 63, 63, 63, 63, 63, 63, 63, 63, 63, 63, 63, 63, 63, 63,
+    63, 63, 63, 63, 63, 63, 63, 63, 63, 63, 63, 63, 63, 63, 63, 63, 63, 63, 63, 63, 63, 63, 63, 63,
+    63, 63, 63, 63, 63, 63, 63, 63, 63, 63, 63, 63, 63, 63, 63, 63, 63, 63, 63, 63, 63, 63, 63, 63,
+    63, 63, 63, 63, 63, 63, 63, 63, 63, 63, 63, 63, 63, 63, 63, 63, 63, 63, 63, 63, 63, 63, 63, 63,
+    63, 63, 63, 63, 63, 63, 63, 63, 63, 63, 63, 63, 63, 63, 63, 63, 63, 63, 63, 63, 63, 63, 63, 63,
+    63, 63, 63, 63, 63, 63, 63, 63, 63, 63, 63, 63, 63, 63,
+];
 
 /// Two bytes at a distance. Few positions have both, and they are found much faster than a whole text
 /// that begins and ends with them.
@@ -94,12 +108,9 @@ fn zeros(lanes: u8x32) -> u64
     lanes.simd_eq(u8x32::splat(0)).to_bitmask()
 }
 
-// Returns how rare the byte is: how many of the common characters are more common.
+// Returns how many bytes are more common.
 fn rarity(byte: u8) -> usize {
-    match COMMON.iter().position(|common| *common == byte) {
-        Some(more_common) => more_common,
-        None => COMMON.len(),
-    }
+    usize::from(RARITY[usize::from(byte)])
 }
 
 /// Returns the position of the rarest of the bytes, apart from the byte at the position `other`.
