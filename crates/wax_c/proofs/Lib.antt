@@ -1,4 +1,5 @@
 mod Collected
 mod CutEach
 mod Filled
+mod Spelled
 mod Values

@@ -9,3 +9,4 @@ pub mod Outcomes
 pub mod SetOwned
 pub mod Sets
 pub mod Texts
+pub mod inner

@@ -1,10 +1,13 @@
 //! What calls do, with `Result`s in place of numbers.
-ghost use Rattle.std.specs.Prelude.{◌≡◌, IfErr, IfOk, MatchResult, OnErr};
+ghost use Rattle.std.specs.Prelude.{◌≡◌, IfErr, IfOk, IfSome, MatchResult, OnErr};
 ghost use Rattle.wax_c.specs.Outcomes.{AreLines, Decides, Fills, IsGlobOf, IsNoGlob, SaysGoesOn, SaysMatch};
+ghost use Rattle.wax_c.specs.inner.Spelled.{SpellsOnly};
 
 use crate::error::CallError;
 use crate::output::put;
 use std::alloc::Global;
+use wax::rule::{Checked, check};
+use wax::token::{ExpressionMetadata, Tokenized, parse};
 use wax::{BuildError, CandidatePath, Counted, Glob, OwnedGlobMatcher, Program, filter_lines};
 
 /// Builds the glob of an expression.
@@ -21,6 +24,26 @@ pub(crate) fn build<'e>(alloc: Global, expression: &'e [u8]) -> Result<Glob<'e>,
     match Glob::new(alloc, text) {
         Ok(glob) => Ok(glob),
         Err(error) => Err(CallError::Build(error)),
+    }
+}
+
+/// Reads and checks an expression. Returns `None` if it isn't UTF-8, spells no glob or breaks a rule, or if
+/// allocation fails.
+pub(crate) fn read<'e>(
+    alloc: Global,
+    expression: &'e [u8],
+) -> Option<Checked<Tokenized<'e, ExpressionMetadata>>>
+    ensures { IfSome result (SpellsOnly expression.now) }
+{
+    let Ok(text) = str::from_utf8(expression) else {
+        return None;
+    };
+    let Ok(tokenized) = parse(alloc, text) else {
+        return None;
+    };
+    match check(alloc, tokenized) {
+        Ok(checked) => Some(checked),
+        Err(_) => None,
     }
 }
 

@@ -1,21 +1,24 @@
 //! Calls that build, use and free handles of sets of globs.
-ghost use Rattle.std.specs.Prelude.{◌≡◌, IfErr, IfOk, MatchResult, Option, length};
+ghost use Rattle.std.specs.Prelude.{◌≡◌, IfErr, IfOk, IfSome, MatchResult, Option, length};
 ghost use Rattle.std.specs.List.{AllZip};
 ghost use Rattle.wax.specs.Language.{Span, Tree};
 ghost use Rattle.wax_c.specs.Outcomes.{Decides, DecidesAs, IsGlobOf};
 ghost use Rattle.wax_c.specs.SetOwned.{maybe_set_at, set_at};
 ghost use Rattle.wax_c.specs.Sets.{HasSet, IsNoSet, IsSetHandle, IsSetOf, ListsMatches, ListsMatchesAs};
 ghost use Rattle.wax_c.specs.Sets.{SaysSetGoesOn, SaysSetMatch, cut_each};
+ghost use Rattle.wax_c.specs.inner.Spelled.{SpellsOnly};
 ghost use types.Logic.{sem};
 
-use crate::calls::build;
+use crate::calls::{build, read};
 use crate::error::{CallError, answer_of, status_of};
 use crate::globs::{WaxSpan, place_of};
 use crate::loose::Loose;
 use crate::output::write_over;
 use crate::set_handle::{HeldSet, SetHandle};
 use std::alloc::Global;
-use wax::{BuildError, CandidatePath, Glob, OwnedAnyMatcher, any};
+use wax::rule::Checked;
+use wax::token::{ExpressionMetadata, Tokenized};
+use wax::{Any, BuildError, CandidatePath, Glob, OwnedAnyMatcher, any};
 
 // The result of a call that builds a handle. `which` is the index of the pattern with an error, or the
 // number of patterns.
@@ -152,18 +155,88 @@ fn boxed_set(
     ensures { MatchResult result (λ made. IsSetOf (cut_each patterns.now lengths.now) made.value.matcher)
         (λ error. IsNoSet (cut_each patterns.now lengths.now) error.1 error.0) }
 {
-    let globs = match globs_of(alloc, patterns, lengths) {
-        Ok(globs) => globs,
-        Err(error) => return Err(error),
-    };
-    let set = match any(alloc, globs) {
+    let set = match build_set(alloc, patterns, lengths) {
         Ok(set) => set,
-        Err(error) => return Err((CallError::Build(error), lengths.len())),
+        Err(error) => return Err(error),
     };
     let matcher = set.into_matcher(alloc);
     match Box::new(alloc, HeldSet { matcher }) {
         Ok(made) => Ok(made),
         Err(_) => Err((CallError::Build(BuildError::Memory), lengths.len())),
+    }
+}
+
+// Builds the set of what the expressions spell. That takes half the time of building their globs first, which
+// is done only if there is no set, to find which pattern has an error.
+fn build_set(
+    alloc: Global,
+    patterns: &[u8],
+    lengths: &[usize],
+) -> Result<Any<'static>, (CallError, usize)>
+    ensures { MatchResult result (IsSetOf (cut_each patterns.now lengths.now))
+        (λ error. IsNoSet (cut_each patterns.now lengths.now) error.1 error.0) }
+{
+    if let Some(set) = set_of_spelled(alloc, patterns, lengths) {
+        return Ok(set);
+    }
+    set_of_globs(alloc, patterns, lengths)
+}
+
+// Builds the set of what the expressions spell. Returns `None` if it can't be built, for whatever reason.
+fn set_of_spelled(alloc: Global, patterns: &[u8], lengths: &[usize]) -> Option<Any<'static>>
+    ensures { IfSome result (IsSetOf (cut_each patterns.now lengths.now)) }
+{
+    let Some(expressions) = read_each(alloc, patterns, lengths) else {
+        return None;
+    };
+    match any(alloc, expressions) {
+        Ok(set) => Some(set),
+        Err(_) => None,
+    }
+}
+
+// Reads and checks the expression of each pattern. Returns `None` if one has an error, or if allocation
+// fails.
+fn read_each<'e>(
+    alloc: Global,
+    patterns: &'e [u8],
+    lengths: &[usize],
+) -> Option<Vec<Checked<Tokenized<'e, ExpressionMetadata>>>>
+    ensures { IfSome result
+        (λ expressions. AllZip SpellsOnly (cut_each patterns.now lengths.now) expressions.items) }
+{
+    let mut expressions = Vec::new(alloc);
+    let mut rest = patterns;
+    while expressions.len() < lengths.len() {
+        let length = lengths[expressions.len()].min(rest.len());
+        let (pattern, after) = rest.split_at(length);
+        let Some(expression) = read(alloc, pattern) else {
+            return None;
+        };
+        let Ok(()) = expressions.push(expression) else {
+            return None;
+        };
+        rest = after;
+    }
+    Some(expressions)
+}
+
+// Builds the set of the globs, or returns why there is none, as `boxed_set` does.
+fn set_of_globs(
+    alloc: Global,
+    patterns: &[u8],
+    lengths: &[usize],
+) -> Result<Any<'static>, (CallError, usize)>
+    ensures { MatchResult result (IsSetOf (cut_each patterns.now lengths.now))
+        (λ error. IsNoSet (cut_each patterns.now lengths.now) error.1 error.0) }
+{
+    let globs = match globs_of(alloc, patterns, lengths) {
+        Ok(globs) => globs,
+        Err(error) => return Err(error),
+    };
+    match any(alloc, globs) {
+        Ok(set) => Ok(set),
+        Err(error) => Err((CallError::Build(error), lengths.len())),
     }
 }
 
