@@ -13,7 +13,7 @@ use Rattle.wax_program.specs.Steady.{Alike}
 use Rattle.wax_program.specs.Threads.{AnyAmong}
 use Rattle.wax_compare.specs.inner.Cutting.{AreKept}
 use Rattle.wax_compare.specs.inner.Distinctions.{Extends, GoesOnIn, GoesTo, IsClosing, IsClosure, IsInClosure}
-use Rattle.wax_compare.proofs.Replaced.{marked}
+use Rattle.wax_states.proofs.Replaced.{marked}
 
 -- ---- lists that grow
 

@@ -19,7 +19,6 @@ pub mod Pushing
 pub mod Reaching
 pub mod Automata
 pub mod ReadingBack
-pub mod Replaced
 pub mod Searching
 pub mod Selecting
 pub mod Steps

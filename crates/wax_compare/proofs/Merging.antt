@@ -15,12 +15,13 @@ use Rattle.wax_program.specs.Machine.{PassesTest}
 use Rattle.wax_program.specs.Steady.{Alike}
 use Rattle.wax_program.specs.declared.instruction.Test.{Test}
 use Rattle.wax_program.specs.Tests.{IsTestAt, test_of}
-use Rattle.wax_compare.specs.Cuts.{AreAlike, AreLetters, AreUnlike, HasStandIn, StandsFor}
+use Rattle.wax_states.specs.Alike.{AreAlike}
+use Rattle.wax_compare.specs.Cuts.{AreLetters, AreUnlike, HasStandIn, StandsFor}
 use Rattle.wax_compare.specs.inner.Cutting.{AreKept}
 use Rattle.wax_compare.specs.inner.Merging.{AgreeAt, AgreeBefore, AreKeptLetters, AreMerged, IsDigestBefore}
 use Rattle.wax_compare.specs.inner.Merging.{IsDigestOf, PassesAt, stirred}
 use Rattle.wax_compare.proofs.Blocks.{no_mark, scalars_push}
-use Rattle.wax_compare.proofs.Steps.{same_alike}
+use Rattle.wax_states.proofs.Replaced.{same_alike}
 
 both_on : {P Q R : Type 0} → P ↔ Q → Q ↔ R → P ↔ R
 both_on f g = ((λ p. g.0 (f.0 p)), (λ r. f.1 (g.1 r)))

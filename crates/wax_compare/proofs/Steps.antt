@@ -3,8 +3,6 @@ use Rattle.std.proofs.Common.{◌≡◌, ◌⊎◌, ◌↔◌, ◌==◌, ℕ, Bo
 use Rattle.std.proofs.Common.{arith, false, sym, ◌∙◌}
 use Rattle.std.proofs.lemmas.Bool.{eq-eqb, eqb-true, true≢false}
 use Rattle.std.specs.Str.{all_scalars}
-use Rattle.wax_program.specs.declared.instruction.Instruction.TheVariants.{Check, Repeat, Components, Fork}
-use Rattle.wax_program.specs.declared.instruction.Instruction.TheVariants.{Jump, Back, End}
 use Rattle.wax_compare.proofs.Blocks.{same_bits}
 use Rattle.wax_program.specs.declared.instruction.Instruction.{Instruction}
 use Rattle.wax_program.specs.Machine.{Accepts}
@@ -13,7 +11,8 @@ use Rattle.wax_states.specs.Reached.{AreReached}
 use Rattle.wax_compare.specs.declared.wanted.Texts.{Texts}
 use Rattle.wax_compare.specs.declared.wanted.Texts.TheVariants.{All, Paths}
 use Rattle.wax_compare.specs.declared.pairs.StatePair.{StatePair}
-use Rattle.wax_compare.specs.Cuts.{AreAlike, StandsFor}
+use Rattle.wax_states.specs.Alike.{AreAlike}
+use Rattle.wax_compare.specs.Cuts.{StandsFor}
 use Rattle.wax_compare.specs.Comparison.{AsWanted, IsWanted}
 use Rattle.wax_compare.specs.Selected.{IsSelected}
 use Rattle.wax_compare.specs.Texts.{IsAmongTexts}
@@ -24,7 +23,7 @@ use Rattle.wax_compare.specs.inner.Automata.{state_places}
 use Rattle.wax_compare.specs.inner.Distinctions.{LeadAlike}
 use Rattle.wax_compare.specs.inner.Reaching.{EndsBy, GoesFrom, IsPairStep, OtherTakesNone, Readings}
 use Rattle.wax_compare.specs.inner.Reaching.{TakesNone}
-use Rattle.wax_compare.proofs.Replaced.{alike_turned, replaced}
+use Rattle.wax_states.proofs.Replaced.{alike_turned, replaced, same_alike}
 use Rattle.wax_compare.proofs.Selecting.{along, ends_along, never_wanted, none_selected_past, selected_as}
 use Rattle.wax_compare.proofs.Selecting.{selected_past, turned, wanted_along, wanted_as}
 
@@ -237,16 +236,6 @@ module _ (t : Task) (places others : List ℕ)
     among = kind_out t.texts s h.among;
     decided = (decided_as s).1 h.decided;
   }
-
--- ---- an instruction does the same by a character as by itself
-pub same_alike : (code : List Instruction) (c : ℕ) → AreAlike code c c
-same_alike code c k (Check t) is = ((λ h. h), (λ h. h))
-same_alike code c k (Repeat t) is = ((λ h. h), (λ h. h))
-same_alike code c k Components is = ((λ h. h), (λ h. h))
-same_alike code c k (Fork n) is = tt
-same_alike code c k (Jump n) is = tt
-same_alike code c k (Back n) is = tt
-same_alike code c k (End low high) is = λ number. ((λ h. h), (λ h. h))
 
 -- a letter stands for itself
 pub stands_itself : (code other : List Instruction) (c : ℕ) → StandsFor code other c c

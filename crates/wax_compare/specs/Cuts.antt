@@ -4,11 +4,7 @@ use Rattle.std.specs.Prelude.{slice_index}
 use Rattle.std.specs.Char.{IsScalar}
 use Rattle.std.specs.Str.{all_scalars}
 use Rattle.wax_program.specs.declared.instruction.Instruction.{Instruction}
-use Rattle.wax_program.specs.Steady.{Alike}
-
--- each instruction does the same by both characters
-abbrev pub AreAlike : List Instruction → ℕ → ℕ → Type 0
-AreAlike code c d = (k : ℕ) (i : Instruction) → slice_get code k ≡ Some i → Alike i c d
+use Rattle.wax_states.specs.Alike.{AreAlike}
 
 -- no cut is between the two characters
 abbrev pub SameBlock : List ℕ → ℕ → ℕ → Type 0

@@ -1,2 +1,4 @@
 pub mod Cells
 pub mod Listings
+pub mod Replaced
+pub mod Unmarked

@@ -1,3 +1,4 @@
+pub mod Alike
 pub mod Reached
 pub mod States
 pub mod inner

@@ -1,5 +1,5 @@
 -- States, which are places that were reached, and where characters lead from them.
-use Rattle.std.specs.Prelude.{◌≡◌, ℕ, ◌+◌, ◌/◌, ◌%◌, ◌<◌, ◌⊎◌, ◌↔◌, Bool, List, [], ◌∷◌, Option, Some}
+use Rattle.std.specs.Prelude.{◌≡◌, ℕ, ◌+◌, ◌<◌, ◌⊎◌, ◌↔◌, Bool, List, [], ◌∷◌, Option, Some}
 use Rattle.std.specs.Prelude.{None, length, slice_get, slice_set}
 use Rattle.std.specs.Global.{Vec}
 use Rattle.wax_states.specs.declared.table.Next.{Next}

@@ -2,10 +2,12 @@
 //! table that says which state each character leads to.
 #![tactic(auto)]
 
+mod letters;
 mod listed;
 mod listed_sets;
 mod stepper;
 mod table;
 
+pub use letters::Letters;
 pub use stepper::Stepper;
 pub use table::{ALL, DEAD, FIRST, Next, State, StateId, Table, WideCell, cell_of, next_of};

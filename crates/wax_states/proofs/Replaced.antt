@@ -6,7 +6,11 @@ use Rattle.wax_program.specs.declared.instruction.Instruction.TheVariants.{Jump,
 use Rattle.wax_program.specs.Machine.{Moves, AcceptsIn, mark}
 use Rattle.wax_program.specs.Steady.{Alike}
 use Rattle.wax_program.specs.Threads.{AnyAmong}
-use Rattle.wax_compare.specs.Cuts.{AreAlike}
+use Rattle.wax_states.specs.Alike.{AreAlike}
+use Rattle.wax_states.specs.States.{LeadsNext}
+use Rattle.wax_states.specs.declared.table.Next.{Next}
+use Rattle.wax_states.specs.declared.table.Next.TheVariants.{To, Nothing, Everything}
+use Rattle.wax_states.specs.declared.table.State.{State}
 
 flip : (i : Instruction) (c d : ℕ) → Alike i c d → Alike i d c
 flip (Check t) c d h = (h.1, h.0)
@@ -19,6 +23,16 @@ flip (End low high) c d h = λ number. let s = h number in (s.1, s.0)
 
 pub alike_turned : (code : List Instruction) (c d : ℕ) → AreAlike code c d → AreAlike code d c
 alike_turned code c d h k i is = flip i c d (h k i is)
+
+-- an instruction does the same by a character as by itself
+pub same_alike : (code : List Instruction) (c : ℕ) → AreAlike code c c
+same_alike code c k (Check t) is = ((λ h. h), (λ h. h))
+same_alike code c k (Repeat t) is = ((λ h. h), (λ h. h))
+same_alike code c k Components is = ((λ h. h), (λ h. h))
+same_alike code c k (Fork n) is = tt
+same_alike code c k (Jump n) is = tt
+same_alike code c k (Back n) is = tt
+same_alike code c k (End low high) is = λ number. ((λ h. h), (λ h. h))
 
 heads : {a b : ℕ} {s t : List ℕ} → a ∷ s ≡ b ∷ t → (a ≡ b) × (s ≡ t)
 heads e = (cc, cc)
@@ -54,3 +68,18 @@ module _ (code : List Instruction) (c d : ℕ) (like : AreAlike code c d) where
 
   pub replaced : (places s : List ℕ) → AnyAmong code places (c ∷ s) → AnyAmong code places (d ∷ s)
   replaced places s h = (h.0, h.1, (h.2.0, accepts_in h.2.0 h.0 s h.2.1))
+
+-- where a character leads, one that is like it leads, too
+pub leads_alike : (code : List Instruction) (states : List State) (places : List ℕ) (c d : ℕ)
+    → AreAlike code c d → (next : Next) → LeadsNext code states places d next
+    → LeadsNext code states places c next
+leads_alike code states places c d like (To t) h = record {
+  has_state = h.has_state;
+  leads = λ s. (
+    (λ a. (h.leads s).0 (replaced code c d like places s a)),
+    (λ b. replaced code d c (alike_turned code c d like) places s ((h.leads s).1 b)),
+  );
+}
+leads_alike code states places c d like Nothing h = λ s a. h s (replaced code c d like places s a)
+leads_alike code states places c d like Everything h =
+    λ s. replaced code d c (alike_turned code c d like) places s (h s)
