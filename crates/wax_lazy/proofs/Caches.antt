@@ -12,6 +12,7 @@ use Rattle.wax_lazy.specs.inner.Cached.{IsRestarted, IsSameMaker, KeepsCache}
 use Rattle.wax_lazy.specs.inner.Rows.{AreRows}
 use Rattle.wax_lazy.specs.inner.Table.{AreNumbersOf, BeginsTexts, IsFailureState, IsState, IsTable}
 use Rattle.wax_lazy.specs.inner.Table.{AreWideCells, KeepsStates}
+use Rattle.wax_states.specs.Alike.{AreLettersOf}
 use Rattle.wax_states.specs.States.{IsSettled, HasState, IsTransition, IsWrittenWide, AreEmpty, places_at}
 use Rattle.wax_states.specs.States.{places_in}
 use Rattle.wax_lazy.proofs.RowCells.{rows_empty, rows_keep}
@@ -38,6 +39,9 @@ module _ (code : List Instruction) (old new : Cache) (held : IsCacheOf code old)
   start_same : IsSameMaker old new → new.start ≤ length code
   start_same m = subst (λ n. n ≤ length code) (sym m.start) held.start
 
+  letters_same : IsSameMaker old new → IfSome new.letters (AreLettersOf code)
+  letters_same m = subst (λ z. IfSome z (AreLettersOf code)) (sym m.letters) held.letters
+
   pub cache_cleared : IsCleared old new → IsCacheOf code new
   cache_cleared c = record {
     size = size_same c.maker;
@@ -47,6 +51,7 @@ module _ (code : List Instruction) (old new : Cache) (held : IsCacheOf code old)
     wide = wide_empty code new.table.states.items new.table.wide_cells.items c.wide;
     rows = rows_empty code new.table.states.items new.rows.keys.items new.rows.cells.items
         c.row_keys c.row_cells;
+    letters = letters_same c.maker;
     first = no_first code new.table.states.items new.start new.first c.first;
   }
 
@@ -72,6 +77,7 @@ module _ (code : List Instruction) (old new : Cache) (held : IsCacheOf code old)
     wide = wide_empty code new.table.states.items new.table.wide_cells.items c.wide;
     rows = rows_empty code new.table.states.items new.rows.keys.items new.rows.cells.items
         c.row_keys c.row_cells;
+    letters = letters_same c.maker;
     first = no_first code new.table.states.items new.start new.first c.first;
   }
 
@@ -91,6 +97,7 @@ module _ (code : List Instruction) (old new : Cache) (held : IsCacheOf code old)
         (subst (λ z. AreRows code z old.rows.keys.items old.rows.cells.items) (sym a.states)
         (rows_keep code old.table.states.items (old.table.states.items ++ s ∷ []) (keeps_append
         old.table.states.items (s ∷ [])) old.rows.keys.items old.rows.cells.items held.rows));
+    letters = letters_same a.maker;
     first = subst (λ z. IfSome z (BeginsTexts code new.table.states.items new.start)) (sym a.first)
         (subst (λ z. IfSome old.first (BeginsTexts code z new.start)) (sym a.states)
         (subst (λ z. IfSome old.first (BeginsTexts code (old.table.states.items ++ s ∷ []) z))
@@ -147,10 +154,12 @@ pub cache_filled : (code : List Instruction) (old new : Cache) (at c cell : ℕ)
     → (c < 128 → new.table.cells.items ≡ set old.table.cells.items (128 * at + c) cell)
     → (128 ≤ c → new.table.cells.items ≡ old.table.cells.items)
     → IsWrittenWide old.table.wide_cells.items new.table.wide_cells.items at c cell
-    → new.rows ≡ old.rows → IsCacheOf code new
-cache_filled code old new at c cell held p says sized start first states filled unfilled written rows =
+    → new.rows ≡ old.rows → IfSome new.letters (AreLettersOf code) → IsCacheOf code new
+cache_filled code old new at c cell held p says sized start first states filled unfilled written rows
+    letters =
     record {
       size = sized;
+      letters = letters;
       start = subst (λ n. n ≤ length code) (sym start) held.start;
       table = subst (λ z. IsTable code z.items new.table.cells.items) (sym states)
           (table_filled code old.table.states.items old.table.cells.items new.table.cells.items at c cell
@@ -184,10 +193,11 @@ pub cache_settled : (code : List Instruction) (old new : Cache) (t : ℕ) (accep
     → IfSome (numbers settled.0) (λ v. AreNumbersOf code settled.0.places.items v.items)
     → new.stepper ≡ length code → new.start ≡ old.start → new.first ≡ old.first
     → new.table.cells ≡ old.table.cells → new.table.wide_cells ≡ old.table.wide_cells
-    → new.rows ≡ old.rows → IsCacheOf code new
-cache_settled code old new t accepts numbers held settled ends are sized start first cells wide rows =
+    → new.rows ≡ old.rows → IfSome new.letters (AreLettersOf code) → IsCacheOf code new
+cache_settled code old new t accepts numbers held settled ends are sized start first cells wide rows letters =
     record {
       size = sized;
+      letters = letters;
       start = subst (λ n. n ≤ length code) (sym start) held.start;
       table = subst (λ z. IsTable code new.table.states.items z.items) (sym cells)
           (table_settled old.table.states.items new.table.states.items t accepts numbers settled code
@@ -212,7 +222,7 @@ pub cache_accepts : (code : List Instruction) (old new : Cache) (t : ℕ) (b : B
     → (IsTrue b ↔ AnyAmong code (places_at old.table.states.items t) [])
     → new.stepper ≡ length code → new.start ≡ old.start → new.first ≡ old.first
     → new.table.cells ≡ old.table.cells → new.table.wide_cells ≡ old.table.wide_cells
-    → new.rows ≡ old.rows → IsCacheOf code new
+    → new.rows ≡ old.rows → IfSome new.letters (AreLettersOf code) → IsCacheOf code new
 cache_accepts code old new t b held settled ends =
     cache_settled code old new t (λ _. Some b) (λ s. s.numbers) held settled
     (subst (λ z. IsTrue b ↔ AnyAmong code z []) (ap places_in settled.1) ends)
@@ -224,7 +234,7 @@ pub cache_numbers : (code : List Instruction) (old new : Cache) (t : ℕ) (v : V
     → AreNumbersOf code (places_at old.table.states.items t) v.items
     → new.stepper ≡ length code → new.start ≡ old.start → new.first ≡ old.first
     → new.table.cells ≡ old.table.cells → new.table.wide_cells ≡ old.table.wide_cells
-    → new.rows ≡ old.rows → IsCacheOf code new
+    → new.rows ≡ old.rows → IfSome new.letters (AreLettersOf code) → IsCacheOf code new
 cache_numbers code old new t v held settled are =
     cache_settled code old new t (λ s. s.accepts) (λ _. Some v) held settled
     (held.table.rows t settled.0 settled.1).ends
@@ -235,9 +245,10 @@ pub cache_prepared : (code : List Instruction) (old new : Cache) → IsCacheOf c
     → new.stepper ≡ old.stepper → new.start ≡ old.start → new.first ≡ old.first
     → new.table.states ≡ old.table.states → new.table.cells ≡ old.table.cells
     → (new.table.wide_cells ≡ old.table.wide_cells) ⊎ AreEmpty new.table.wide_cells.items
-    → new.rows ≡ old.rows → IsCacheOf code new
-cache_prepared code old new held stepper start first states cells wide rows = record {
+    → new.rows ≡ old.rows → IfSome new.letters (AreLettersOf code) → IsCacheOf code new
+cache_prepared code old new held stepper start first states cells wide rows letters = record {
   size = stepper ∙ held.size;
+  letters = letters;
   start = subst (λ n. n ≤ length code) (sym start) held.start;
   table = subst (λ z. IsTable code z.items new.table.cells.items) (sym states)
       (subst (λ z. IsTable code old.table.states.items z.items) (sym cells) held.table);
@@ -281,6 +292,7 @@ restarted old mid new s taken left number t cleared added is took places failure
     record {
       maker = record {
         stepper = added.maker.stepper ∙ cleared.maker.stepper;
+        letters = added.maker.letters ∙ cleared.maker.letters;
         start = added.maker.start ∙ cleared.maker.start;
         lists = record {
           reached = added.maker.lists.reached ∙ cleared.maker.lists.reached;

@@ -7,7 +7,7 @@ use Rattle.std.proofs.lemmas.Str.{IsCharBoundary-from_drop, IsUtf8-take, chars-a
 use Rattle.std.proofs.lemmas.List.{take-append-drop}
 use Rattle.std.specs.Str.{IsUtf8, chars}
 use Rattle.wax_lazy.specs.Cost.{char_visits, end_visits, fill_visits, list_visits, match_visits}
-use Rattle.wax_lazy.specs.Cost.{first_visits, path_visits, step_visits}
+use Rattle.wax_lazy.specs.Cost.{first_visits, letters_visits, path_visits, step_visits, text_visits}
 use Rattle.wax_program.specs.Visits.{onward_visits, sweeps_visits}
 use Rattle.wax_program.specs.declared.instruction.Instruction.{Instruction}
 use Rattle.wax_program.specs.Last.{IsLastName}
@@ -87,6 +87,14 @@ module _ (code : List Instruction) where
   unfolding end_visits
   end_large large = sym (cond_above (length code) 256 (length code) (3 * length code) _ large refl)
 
+  pub letters_small : length code < 256 → letters_visits code ≡ 0
+  unfolding letters_visits
+  letters_small small = sym (cond_below (length code) 256 0 (length code) small)
+
+  pub letters_large : 256 ≤ length code → letters_visits code ≡ length code
+  unfolding letters_visits
+  letters_large large = sym (cond_above (length code) 256 0 (length code) _ large refl)
+
   -- a run's visits
   pub char_any : length code + 1 ≤ char_visits code
   char_any = elim (cases_lt (length code) 256) [
@@ -100,10 +108,18 @@ module _ (code : List Instruction) where
     | inr large ↦ omega (arith, char_large large, fill_large large)
   ]
 
-  pub end_char : end_visits code ≤ char_visits code
+  -- the end of a text, and the letters
+  end_char : letters_visits code + end_visits code ≤ char_visits code
   end_char = elim (cases_lt (length code) 256) [
-    | inl small ↦ omega (arith, char_small small, end_small small)
-    | inr large ↦ omega (arith, char_large large, end_large large)
+    | inl small ↦ omega (arith, char_small small, letters_small small, end_small small)
+    | inr large ↦ omega (arith, char_large large, letters_large large, end_large large)
+  ]
+
+  -- the numbers at the end of a text, and the letters
+  ends_char : letters_visits code + (2 * length code + 1) ≤ char_visits code + (length code + 1)
+  ends_char = elim (cases_lt (length code) 256) [
+    | inl small ↦ omega (arith, char_small small, letters_small small)
+    | inr large ↦ omega (arith, char_large large, letters_large large)
   ]
 
   -- a step from all places of a state
@@ -124,7 +140,7 @@ module _ (code : List Instruction) where
 
   -- a text and its end
   pub matched_within : (k m old new : ℕ) → k ≤ m
-      → new ≤ old + char_visits code * k + end_visits code → new ≤ old + match_visits code m
+      → new ≤ old + text_visits code k + end_visits code → new ≤ old + match_visits code m
   matched_within k m old new le h =
       let a : char_visits code * k ≤ char_visits code * m =
       mul-le-mul_left (char_visits code) (let e : k ≤ m = le in e) in
@@ -132,11 +148,11 @@ module _ (code : List Instruction) where
 
   -- a text and the numbers of its end
   pub listed_within : (k m old new : ℕ) → k ≤ m
-      → new ≤ old + char_visits code * k + (2 * length code + 1) → new ≤ old + list_visits code m
+      → new ≤ old + text_visits code k + (2 * length code + 1) → new ≤ old + list_visits code m
   listed_within k m old new le h =
       let a : char_visits code * k ≤ char_visits code * m =
       mul-le-mul_left (char_visits code) (let e : k ≤ m = le in e) in
-      omega (arith, a, h, char_any)
+      omega (arith, a, h, ends_char)
 
   -- a text that a run decides
   pub once_within : (m old new : ℕ) → new ≤ old + (length code + 1) * (m + 1)

@@ -8,6 +8,14 @@ use Rattle.wax_program.specs.declared.instruction.Instruction.{Instruction}
 unfoldable pub char_visits : List Instruction → ℕ
 char_visits code = cond (nat_lt (length code) 256) (length code + 1) (9 * (length code + 1))
 
+-- to find the letters of a large program, at its first text past ASCII
+unfoldable pub letters_visits : List Instruction → ℕ
+letters_visits code = cond (nat_lt (length code) 256) 0 (length code)
+
+-- to follow a text of so many characters
+abbrev pub text_visits : List Instruction → ℕ → ℕ
+text_visits code n = char_visits code * n + letters_visits code
+
 -- to match a text of so many characters
 abbrev pub match_visits : List Instruction → ℕ → ℕ
 match_visits code n = char_visits code * (n + 1)

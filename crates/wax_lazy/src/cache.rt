@@ -3,7 +3,8 @@ ghost use Rattle.std.specs.Prelude.{◌≡◌, ◌+◌, ◌*◌, ◌/◌, ◌^�
 ghost use Rattle.std.specs.Prelude.{IfOk, IfSome, IsFalse, IsTrue, OnErr, Some, drop, length, slice_get};
 ghost use Rattle.std.specs.Prelude.{slice_index};
 ghost use Rattle.std.specs.Str.{IsAscii};
-ghost use Rattle.wax_lazy.specs.Cost.{char_visits, end_visits, fill_visits, step_visits};
+ghost use Rattle.wax_lazy.specs.Cost.{char_visits, end_visits, fill_visits, letters_visits};
+ghost use Rattle.wax_lazy.specs.Cost.{step_visits};
 ghost use Rattle.wax_lazy.specs.inner.Cached.{AreNext, AreParted, AreSameLists, AreStepped};
 ghost use Rattle.wax_lazy.specs.inner.Cached.{GrowsBy, IsAdded, KeepsCache, KnowsState};
 ghost use Rattle.wax_lazy.specs.inner.Cached.{DecidesLeft, IsCacheOf, IsCleared, IsInterned, IsChain};
@@ -14,6 +15,7 @@ ghost use Rattle.wax_program.specs.Closed.{IsClosed};
 ghost use Rattle.wax_program.specs.Checks.{IsCheckAt};
 ghost use Rattle.wax_program.specs.declared.instruction.Instruction.{Instruction};
 ghost use Rattle.wax_program.specs.Threads.{AnyAmong};
+ghost use Rattle.wax_states.specs.Alike.{AreAlike};
 ghost use Rattle.wax_states.specs.declared.table.State.{State};
 ghost use Rattle.wax_states.specs.States.{IsDead, HasState, LeadsNext, places_at, places_or_none};
 
@@ -21,7 +23,7 @@ use crate::rows::Rows;
 use std::alloc::{AllocError, Global};
 use std::mem;
 use wax_program::{CompiledProgram, Meter, check_at, has_loop, part_loops, place_of_all};
-use wax_states::{ALL, DEAD, Next, State, StateId, Stepper, Table, cell_of, next_of};
+use wax_states::{ALL, DEAD, Letters, Next, State, StateId, Stepper, Table, cell_of, next_of};
 
 /// The size of a state in bytes, without its places: that of its cells, and about fifty more.
 const STATE_BYTES: usize = 306;
@@ -53,6 +55,8 @@ pub struct Cache {
     pub table: Table,
     /// Rows of the states that texts past ASCII led to often.
     pub rows: Rows,
+    /// The letters of a large program. `None` before the first text past ASCII.
+    letters: Option<Letters>,
     /// The places that the last step reached.
     reached: Vec<usize>,
     /// Those of these places that aren't due to a state that is known.
@@ -103,6 +107,7 @@ impl Cache {
             stepper,
             table,
             rows: Rows::new(alloc),
+            letters: None,
             reached: Vec::new(alloc),
             others: Vec::new(alloc),
             loops: Vec::new(alloc),
@@ -138,8 +143,8 @@ impl Cache {
         Ok(state)
     }
 
-    /// Follows a character from a state. If the state is met often, fills cells of rows for the
-    /// character, unless rows take half of the bytes that the cache may keep.
+    /// Follows a character from a state, by its letter. If the state is met often, fills cells of rows for
+    /// the character itself, as long as there is room for rows.
     #[inline(never)]
     pub(crate) fn advance(
         &mut self,
@@ -155,30 +160,73 @@ impl Cache {
         ensures above { meter.new ≤ meter.old + fill_visits program.now.0 }
         ensures steady { meter.old ≤ meter.new }
     {
-        self.prepare_for(program, c)?;
+        let letter = self.letter(program, c);
         if self.is_full() {
-            return match self.cached_next(state, c) {
+            return match self.cached_next(state, letter) {
                 Some(next) => Ok(next),
-                None => self.fill(program, state, c, meter),
+                None => self.fill(program, state, letter, meter),
             };
         }
-        let next = self.follow_cell(program, state, c, meter)?;
-        if self.rows.is_often_met(state) && self.rows.size() < self.most_bytes / 2 {
+        let next = self.follow_cell(program, state, letter, meter)?;
+        if self.rows.is_often_met(state) && self.has_row_room(letter == c) {
             self.rows.record(program, &self.table, state, c, next)?;
         }
         Ok(next)
     }
 
-    /// Makes room for the cell of a character, if it is past ASCII.
-    fn prepare_for(&mut self, _program: &CompiledProgram, c: char) -> Result<(), AllocError>
-        requires { IsCacheOf _program.now.0 self.old }
-        ensures kept { KeepsCache _program.now.0 self.old self.new }
-        ensures states { self.new.table.states ≡ self.old.table.states }
+    /// Returns whether rows may become more. They take at most half of the bytes that the cache may keep,
+    /// or an eighth if the next one is for a character that shares its letter with others.
+    fn has_row_room(&self, is_letter: bool) -> bool {
+        let parts = if is_letter { 2 } else { 8 };
+        self.rows.size() < self.most_bytes / parts
+    }
+
+    /// Prepares for texts past ASCII: finds the letters of the program, and makes room for the cells of
+    /// such characters, unless that was done. Allocates 272 KiB, and reads each instruction of a large
+    /// program once. In a small one each character is its own letter.
+    pub(crate) fn prepare_wide(
+        &mut self,
+        program: &CompiledProgram,
+        meter: &mut Meter,
+    ) -> Result<(), AllocError>
+        requires { IsCacheOf program.now.0 self.old }
+        ensures kept { KeepsCache program.now.0 self.old self.new }
+        ensures above { meter.new ≤ meter.old + letters_visits program.now.0 }
+        ensures steady { meter.old ≤ meter.new }
     {
-        if c.is_ascii() {
+        self.find_letters(program, meter)?;
+        self.table.prepare_wide(self.alloc)
+    }
+
+    #[tactic(auto, using(crate::proofs::Costs::letters_large))]
+    fn find_letters(
+        &mut self,
+        program: &CompiledProgram,
+        meter: &mut Meter,
+    ) -> Result<(), AllocError>
+        requires { IsCacheOf program.now.0 self.old }
+        ensures kept { KeepsCache program.now.0 self.old self.new }
+        ensures above { meter.new ≤ meter.old + letters_visits program.now.0 }
+        ensures steady { meter.old ≤ meter.new }
+    {
+        if self.letters.is_some() || program.size() < LEAST_PARTED {
             return Ok(());
         }
-        self.table.prepare_wide(self.alloc)
+        let letters = Letters::new(self.alloc, program, meter)?;
+        self.letters = Some(letters);
+        Ok(())
+    }
+
+    /// Returns the letter of a character, or the character itself if no letters were found yet.
+    #[inline]
+    fn letter(&self, _program: &CompiledProgram, c: char) -> char
+        requires { IsCacheOf _program.now.0 self.now }
+        ensures { AreAlike _program.now.0 c result }
+    {
+        match &self.letters {
+            Some(letters) => letters.of(c),
+            None => c,
+        }
     }
 
     /// Returns where a character leads, if its cell is filled.

@@ -2,7 +2,7 @@
 ghost use Rattle.std.specs.Prelude.{◌≡◌, ◌+◌, ◌*◌, ◌≤◌, ◌↔◌, ◌/◌, ℕ, List, IfOk, IfSome, IsTrue, chars};
 ghost use Rattle.std.specs.Prelude.{length};
 ghost use Rattle.wax_states.specs.States.{HasState, state_of};
-ghost use Rattle.wax_lazy.specs.Cost.{char_visits, end_visits};
+ghost use Rattle.wax_lazy.specs.Cost.{end_visits, text_visits};
 ghost use Rattle.wax_lazy.specs.inner.Cached.{AnyAhead, IsAheadVerdict, IsCacheOf, KeepsCache, LeadsText};
 ghost use Rattle.wax_lazy.specs.inner.Cached.{numbers_at};
 ghost use Rattle.wax_lazy.specs.Numbers.{AreNumbersFrom};
@@ -29,7 +29,7 @@ pub(crate) fn accepts(
     ensures kept { KeepsCache program.now.0 cache.old cache.new }
     ensures decides { IfOk result
         (λ b. IsTrue b ↔ Accepts program.now.0 cache.old.start (chars text.now)) }
-    ensures above { let all = char_visits program.now.0 * length (chars text.now) in
+    ensures above { let all = text_visits program.now.0 (length (chars text.now)) in
         meter.new ≤ meter.old + all + end_visits program.now.0 }
     ensures steady { meter.old ≤ meter.new }
 {
@@ -53,7 +53,7 @@ pub(crate) fn find_numbers(
     ensures kept { KeepsCache program.now.0 cache.old cache.new }
     ensures numbers { let text = chars text.now in
         IfOk result (λ at. AreNumbersFrom program.now.0 cache.old.start text (numbers_at cache.new at)) }
-    ensures above { let all = char_visits program.now.0 * length (chars text.now) in
+    ensures above { let all = text_visits program.now.0 (length (chars text.now)) in
         meter.new ≤ meter.old + all + (2 * length program.now.0 + 1) }
     ensures steady { meter.old ≤ meter.new }
 {

@@ -1,7 +1,7 @@
 //! Following a text from state to state.
 ghost use Rattle.std.specs.Prelude.{◌≡◌, ◌+◌, ◌*◌, ◌/◌, ◌<◌, ◌≤◌, [], IfOk, chars, drop, length};
 ghost use Rattle.std.specs.Str.{IsAscii, IsUtf8};
-ghost use Rattle.wax_lazy.specs.Cost.{char_visits};
+ghost use Rattle.wax_lazy.specs.Cost.{char_visits, text_visits};
 ghost use Rattle.wax_lazy.specs.inner.Cached.{DecidesLeft, IsCacheOf, KeepsCache, KnowsState, LeadsText};
 ghost use Rattle.wax_lazy.specs.inner.Rows.{HasRow};
 ghost use Rattle.wax_states.specs.States.{HasState, places_at};
@@ -23,12 +23,13 @@ pub(crate) fn follow_text(
     ensures kept { KeepsCache program.now.0 cache.old cache.new }
     ensures leads { IfOk result
         (LeadsText program.now.0 cache.new.table.states.items cache.old.start (chars text.now)) }
-    ensures above { meter.new ≤ meter.old + char_visits program.now.0 * length (chars text.now) }
+    ensures above { meter.new ≤ meter.old + text_visits program.now.0 (length (chars text.now)) }
     ensures steady { meter.old ≤ meter.new }
 {
     if text.is_ascii() {
         return follow_ascii(program, cache, text.as_bytes(), meter);
     }
+    cache.prepare_wide(program, meter)?;
     follow_chars(program, cache, text, meter)
 }
 

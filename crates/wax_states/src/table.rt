@@ -25,7 +25,7 @@ pub const ALL: u16 = 2;
 pub const FIRST: u16 = 3;
 
 /// The number of cells for characters past ASCII, for all states together.
-const WIDE_CELLS: usize = 4_096;
+const WIDE_CELLS: usize = 16_384;
 
 /// The number of a state.
 pub type StateId = usize;
@@ -249,7 +249,7 @@ impl Table {
         Ok(number)
     }
 
-    /// Makes room for the cells of characters past ASCII, unless there is some. Allocates 64 KiB.
+    /// Makes room for the cells of characters past ASCII, unless there is some. Allocates 256 KiB.
     pub fn prepare_wide(&mut self, alloc: Global) -> Result<(), AllocError>
         ensures states { self.new.states ≡ self.old.states }
         ensures cells { self.new.cells ≡ self.old.cells }
@@ -342,7 +342,7 @@ impl Table {
 #[inline]
 fn wide_slot(state: StateId, c: char) -> usize {
     let key = (state as u64).wrapping_mul(1 << 21) ^ u64::from(c);
-    (key.wrapping_mul(0x9E37_79B9_7F4A_7C15) >> 52) as usize
+    (key.wrapping_mul(0x9E37_79B9_7F4A_7C15) >> 50) as usize
 }
 
 /// Returns the slot that is looked at after `probe` others, or 0 if there are no slots.

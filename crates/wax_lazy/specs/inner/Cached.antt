@@ -17,6 +17,7 @@ use Rattle.wax_program.specs.Onward.{flags_for}
 use Rattle.wax_query.specs.declared.query.verdict.Verdict.{Verdict}
 use Rattle.wax_program.specs.declared.onward.Ahead.{Ahead}
 use Rattle.wax_program.specs.Threads.{AnyAmong}
+use Rattle.wax_states.specs.Alike.{AreLettersOf}
 use Rattle.wax_states.specs.declared.table.Next.{Next}
 use Rattle.wax_states.specs.declared.table.Next.TheVariants.{To, Nothing, Everything}
 use Rattle.wax_states.specs.declared.table.State.{State}
@@ -29,6 +30,7 @@ pub record IsCacheOf (code : List Instruction) (c : Cache) : Type 0 where
   pub table : IsTable code c.table.states.items c.table.cells.items
   pub wide : AreWideCells code c.table.states.items c.table.wide_cells.items
   pub rows : AreRows code c.table.states.items c.rows.keys.items c.rows.cells.items
+  pub letters : IfSome c.letters (AreLettersOf code)
   pub first : IfSome c.first (BeginsTexts code c.table.states.items c.start)
 
 -- and it has a state with this number
@@ -50,6 +52,7 @@ pub record AreSameLists (old new : Cache) : Type 0 where
 -- what doesn't depend on the states is as it was
 pub record IsSameMaker (old new : Cache) : Type 0 where
   pub stepper : new.stepper ≡ old.stepper
+  pub letters : new.letters ≡ old.letters
   pub start : new.start ≡ old.start
   pub lists : AreSameLists old new
 

@@ -24,6 +24,7 @@ follow-follow_known-requires t c =
             table = was.table;
             wide = was.wide;
             rows = was.rows;
+            letters = was.letters;
             first = was.first;
           };
           has_state = held.has_state;
@@ -54,7 +55,7 @@ follow-returns-in-Everything-clause-kept t c =
       cache = cache_filled code c.follow_known.new.self _ c.args.state c.args.c 2 now
           (placed_keeps old new keeps c.args.state c.requires.here.has_state) (inr (inr (inl (refl, here))))
           now.size refl refl c.write.ensures.states c.write.ensures.filled c.write.ensures.unfilled
-          c.write.ensures.wide refl;
+          c.write.ensures.wide refl now.letters;
       start = c.follow_known.ensures.kept.start;
     }
 
@@ -117,7 +118,8 @@ follow-returns-then-not-leads t c =
         cache = cache_filled code c.step_own.new.self _ c.args.state c.args.c c.cell_of.result now
             (placed_keeps old new keeps c.args.state c.requires.here.has_state) written
             now.size refl refl c.write-then-not-leads.ensures.states c.write-then-not-leads.ensures.filled
-            c.write-then-not-leads.ensures.unfilled c.write-then-not-leads.ensures.wide refl;
+            c.write-then-not-leads.ensures.unfilled c.write-then-not-leads.ensures.wide refl
+            now.letters;
         start = c.step_own.ensures.kept.start ∙ c.follow_known.ensures.kept.start;
       };
       leads = rw c.write-then-not-leads.ensures.states leads;

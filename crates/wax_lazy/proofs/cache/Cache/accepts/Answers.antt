@@ -26,6 +26,7 @@ returns-clause-kept c =
             stepper = c.computed-accepts.new.self.stepper;
             table = c.settle.new.self;
             rows = c.computed-accepts.new.self.rows;
+            letters = c.computed-accepts.new.self.letters;
             reached = c.computed-accepts.new.self.reached;
             others = c.computed-accepts.new.self.others;
             loops = c.computed-accepts.new.self.loops;
@@ -41,6 +42,7 @@ returns-clause-kept c =
           c.computed-accepts.ensures.accepts
           c.computed-accepts.ensures.kept.cache.size c.computed-accepts.ensures.kept.start
           c.computed-accepts.ensures.first (c.settle.ensures.cells ∙ ap (λ z. z.cells) same)
-          (c.settle.ensures.wide ∙ ap (λ z. z.wide_cells) same) c.computed-accepts.ensures.rows;
+          (c.settle.ensures.wide ∙ ap (λ z. z.wide_cells) same) c.computed-accepts.ensures.rows
+          c.computed-accepts.ensures.kept.cache.letters;
       start = c.computed-accepts.ensures.kept.start;
     }

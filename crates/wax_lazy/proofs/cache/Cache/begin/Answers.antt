@@ -15,6 +15,7 @@ intern-requires-clause-cache c =
       table = c.requires.table;
       wide = c.requires.wide;
       rows = c.requires.rows;
+      letters = c.requires.letters;
       first = c.requires.first;
     }) c.clear.ensures in
     record {
@@ -23,6 +24,7 @@ intern-requires-clause-cache c =
       table = cleared.table;
       wide = cleared.wide;
       rows = cleared.rows;
+      letters = cleared.letters;
       first = cleared.first;
     }
 
@@ -42,6 +44,7 @@ returns-clause-kept c =
         table = held.table;
         wide = held.wide;
         rows = held.rows;
+        letters = held.letters;
         first = subst (λ n. BeginsTexts code states n c.in_ok-state.state) (sym made.kept.start) first;
       };
       start = made.kept.start ∙ c.clear.ensures.maker.start;

@@ -20,7 +20,7 @@ returns-then-is_empty-clause-kept c =
       cache = cache_filled code c.args.self.now _ c.args.state c.args.c 1 held c.requires.here.has_state
           (inr (inl (refl, dead)))
           held.size refl refl c.write.ensures.states c.write.ensures.filled c.write.ensures.unfilled
-          c.write.ensures.wide refl;
+          c.write.ensures.wide refl held.letters;
       start = refl;
     }
 
@@ -42,7 +42,8 @@ returns-then-takes_all-clause-kept c =
       cache = cache_filled code c.args.self.now _ c.args.state c.args.c 2 held c.requires.here.has_state
           (inr (inr (inl (refl, all))))
           held.size refl refl c.write-then-takes_all.ensures.states c.write-then-takes_all.ensures.filled
-          c.write-then-takes_all.ensures.unfilled c.write-then-takes_all.ensures.wide refl;
+          c.write-then-takes_all.ensures.unfilled c.write-then-takes_all.ensures.wide refl
+          held.letters;
       start = refl;
     }
 
@@ -69,7 +70,7 @@ returns-clause-kept c =
       cache = cache_filled code c.intern_parted.new.self _ c.args.state c.args.c
           c.cell_of.result now has_state says
           now.size refl refl c.write-2.ensures.states c.write-2.ensures.filled c.write-2.ensures.unfilled
-          c.write-2.ensures.wide refl;
+          c.write-2.ensures.wide refl now.letters;
       start = c.intern_parted.ensures.kept.start;
     }
 

@@ -32,6 +32,7 @@ returns-clause-kept c =
             stepper = c.list_ends.new.self;
             table = c.settle_numbers.new.self;
             rows = c.args.self.now.rows;
+            letters = c.args.self.now.letters;
             reached = c.args.self.now.reached;
             others = c.args.self.now.others;
             loops = c.list_ends.new.numbers;
@@ -45,7 +46,7 @@ returns-clause-kept c =
           })
           c.args.state c.in_ok-numbers.numbers c.requires.here.cache c.settle_numbers.ensures.states are
           (c.list_ends.ensures.same ∙ c.requires.here.cache.size) refl refl c.settle_numbers.ensures.cells
-          c.settle_numbers.ensures.wide refl;
+          c.settle_numbers.ensures.wide refl c.requires.here.cache.letters;
       start = refl;
     }
 

@@ -9,6 +9,7 @@ returns-clause-ok c = λ s is.
     (record {
       maker = record {
         stepper = m.stepper;
+        letters = m.letters;
         start = m.start;
         lists = record { reached = m.lists.reached; others = m.lists.others; loops = m.lists.loops };
       };

@@ -5,4 +5,4 @@ use Rattle.wax_states.proofs.table.Table.prepare_wide.Goals as goal
 
 pub returns-in_ok-self-clause-wide : goal.returns-in_ok-self-clause-wide
 returns-in_ok-self-clause-wide c = inr (subst AreEmpty
-    (sym (c.in_ok-self.ensures.items_if_clones_equal (λ y h. h))) (empty_replicate 4096 _ refl))
+    (sym (c.in_ok-self.ensures.items_if_clones_equal (λ y h. h))) (empty_replicate 16384 _ refl))
