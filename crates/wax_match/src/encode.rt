@@ -26,7 +26,7 @@ mod tail;
 
 pub use ends::{Numbered, compile_numbered};
 pub use folding::case_folded_eq;
-pub use wax_program::{CompiledProgram, Meter, last_name, run, run_last};
+pub use wax_program::{CompiledProgram, Meter, last_name, run, run_last, without_marks};
 
 /// Tokens cost more than a program may (error 9).
 #[derive(Clone, Copy, Debug, Error)]

@@ -21,3 +21,4 @@ mod Sweeping
 pub mod Taking
 pub mod Tested
 pub mod Words
+mod WithoutMarks

@@ -24,8 +24,8 @@ nil_cons e = cc
 head_same : {a b : ℕ} {t u : List ℕ} → a ∷ t ≡ b ∷ u → a ≡ b
 head_same e = cc
 
-closed_at : (code : List Instruction) (k : ℕ) (i : Instruction) → IsClosed code → slice_get code k ≡ Some i
-    → LeadsWithin i (length code - k - 1)
+pub closed_at : (code : List Instruction) (k : ℕ) (i : Instruction) → IsClosed code
+    → slice_get code k ≡ Some i → LeadsWithin i (length code - k - 1)
 closed_at [] k i closed is = absurd (omega (arith, slice_get_within [] k i is))
 closed_at (j ∷ js) zero i closed is =
     let e : length js ≡ length (j ∷ js) - 0 - 1 = omega arith in
@@ -47,7 +47,7 @@ module _ (code : List Instruction) (closed : IsClosed code) where
   nil_moves n k (End i j) lt in_code again m = nil_cons m.3
 
   -- no place accepts the empty text
-  never_nil : (n k : ℕ) → k < length code → AcceptsIn code n k [] → ⊥
+  pub never_nil : (n k : ℕ) → k < length code → AcceptsIn code n k [] → ⊥
   never_nil zero k lt h = h
   never_nil (suc n) k lt (inl h) = omega (arith, lt, h.0)
   never_nil (suc n) k lt (inr h) =

@@ -1,9 +1,11 @@
 -- Programs that have no end but those of their patterns.
-use Rattle.std.specs.Prelude.{◌≡◌, ◌↔◌, ℕ, ◌<◌, ◌≤◌, List, [], ◌∷◌, Some, Contains, length, slice_get, ⊤}
+use Rattle.std.specs.Prelude.{◌≡◌, ◌↔◌, ℕ, ◌<◌, ◌≤◌, List, [], ◌++◌, ◌∷◌, Some, Contains, length, slice_get}
+use Rattle.std.specs.Prelude.{⊤}
 use Rattle.wax_program.specs.Places.{HoldsPlace}
 use Rattle.wax_program.specs.declared.instruction.Instruction.{Instruction}
 use Rattle.wax_program.specs.declared.instruction.Instruction.TheVariants.{Check, Repeat, Components, Fork}
 use Rattle.wax_program.specs.declared.instruction.Instruction.TheVariants.{Jump, Back, End}
+use Rattle.wax_program.specs.Machine.{Accepts, mark}
 use Rattle.wax_program.specs.Threads.{Position}
 
 -- wherever the instruction leads, there is one, if so many follow it
@@ -34,3 +36,7 @@ ReadsEnd code p number = (k : ℕ) × HoldsPlace p.read k × IsEndAt code k numb
 abbrev pub AreEndsAt : List Instruction → List ℕ → List ℕ → Type 0
 AreEndsAt code places numbers =
     (number : ℕ) → Contains numbers number ↔ ((k : ℕ) × Contains places k × IsEndAt code k number)
+
+-- the program accepts the text with the mark of some number after it
+abbrev pub AcceptsMarked : List Instruction → List ℕ → Type 0
+AcceptsMarked code text = (number : ℕ) × Accepts code 0 (text ++ mark number ∷ [])

@@ -2,3 +2,4 @@ pub mod Leads
 pub mod Names
 pub mod Ranges
 pub mod Slashes
+pub mod Unmarked

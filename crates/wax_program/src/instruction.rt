@@ -110,6 +110,20 @@ impl Test {
         }
     }
 
+    /// Copies the test, with its class.
+    pub fn copied(&self, alloc: Global) -> Result<Test, AllocError>
+        ensures { IfOk result (λ test. test ≡ self.now) }
+    {
+        match self {
+            Test::Char(d) => Ok(Test::Char(*d)),
+            Test::Folded(d) => Ok(Test::Folded(*d)),
+            Test::Class(class) => Ok(Test::Class(BoxedClass::copied(alloc, class.class())?)),
+            Test::NotSlash => Ok(Test::NotSlash),
+            Test::Any => Ok(Test::Any),
+            Test::Never => Ok(Test::Never),
+        }
+    }
+
     /// Returns whether some character other than `/` passes. Takes time linear in the archetypes of
     /// a class, or what it takes to sort them if the class is negated.
     pub fn takes_other(&self, alloc: Global) -> Result<bool, AllocError>
