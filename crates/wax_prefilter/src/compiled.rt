@@ -4,6 +4,7 @@ ghost use Rattle.std.specs.Prelude.{None, chars, false, length, min};
 ghost use Rattle.std.specs.Str.{IsUtf8};
 ghost use Rattle.wax_lazy.specs.Cost.{match_visits};
 ghost use Rattle.wax_lazy.specs.Verdict.{AcceptsBelow, IsVerdict};
+ghost use Rattle.wax_program.specs.Closed.{AcceptsMarked, IsClosed};
 ghost use Rattle.wax_program.specs.Last.{IsLastName};
 ghost use Rattle.wax_program.specs.Machine.{Accepts};
 ghost use Rattle.wax_program.specs.Meter.{most_ticks};
@@ -12,7 +13,7 @@ ghost use Rattle.wax_query.specs.Outcome.{MatchBuild};
 ghost use Rattle.wax_token.specs.Cost.{costs, program_length};
 ghost use Rattle.wax_token.specs.Meaning.{MeansEach};
 ghost use Rattle.wax_token.specs.Words.{trees};
-ghost use Rattle.wax_prefilter.specs.Compiled.{IsCompiled};
+ghost use Rattle.wax_prefilter.specs.Compiled.{AcceptsAlike, IsCompiled};
 
 use crate::prefilter::Prefilter;
 use std::alloc::Global;
@@ -108,6 +109,36 @@ impl CompiledTokens {
             (λ _. 1048576 < program_length token.now) }
     {
         CompiledTokens::new(alloc, token.concatenation())
+    }
+
+    /// Replaces the program by that of several patterns with numbers, without the numbers, unless it is
+    /// longer. In such a program patterns share their beginnings and their ends.
+    pub fn with_numbered(
+        self,
+        alloc: Global,
+        numbered: &CompiledProgram,
+    ) -> Result<CompiledTokens, NoMemory>
+        requires closed { IsClosed numbered.now.0 }
+        requires same { (s : List ℕ) → AcceptsMarked numbered.now.0 s ↔ Accepts self.0 0 s }
+        ensures { IfOk result (AcceptsAlike self) }
+    {
+        let len = self.program.len();
+        if numbered.size() == 0 || numbered.size() >= len {
+            return Ok(self);
+        }
+        let program = encode::without_marks(alloc, numbered, len)?;
+        let _size = program.size();
+        let dfa = LazyDfa::of(&program);
+        let CompiledTokens {
+            program: _,
+            prefilter,
+            dfa: _,
+        } = self;
+        Ok(CompiledTokens {
+            program,
+            prefilter,
+            dfa,
+        })
     }
 
     /// Returns `false` only if the tokens can't match the text. Doesn't allocate. If only the last

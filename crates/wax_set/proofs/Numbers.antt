@@ -1,14 +1,14 @@
 -- Which of a set's patterns match a text.
-use Rattle.std.proofs.Common.{◌≡◌, ◌<◌, ◌↔◌, ◌++◌, ℕ, zero, suc, false, IsTrue, Option, Some, None, is_some}
+use Rattle.std.proofs.Common.{◌≡◌, ◌<◌, ◌↔◌, ◌++◌, ℕ, zero, suc, false}
 use Rattle.std.proofs.Common.{List, [], ◌∷◌, length, inl, inr, ◌≤◌, arith, ap, sym, subst, refl, ◌∙◌, ◌⊎◌}
 use Rattle.std.proofs.Common.{◌+◌, get_or, take}
-use Rattle.std.proofs.lemmas.Bool.{false≢true}
 use Rattle.std.proofs.lemmas.List.{length-take-le, take_all, take_more}
-use Rattle.wax_lazy.specs.Numbers.{AreNumbers, IsLastNumber}
+use Rattle.wax_lazy.specs.Numbers.{AreNumbers}
 use Rattle.wax_match.proofs.Numbered.{numbered_push}
 use Rattle.wax_match.specs.Numbered.{MeansNumbered}
 use Rattle.wax_match.specs.declared.encode.ends.Numbered.{Numbered}
-use Rattle.wax_program.specs.Closed.{IsClosed}
+use Rattle.wax_prefilter.specs.Compiled.{AcceptsAlike, Instructions, IsCompiled}
+use Rattle.wax_program.specs.Closed.{AcceptsMarked, IsClosed}
 use Rattle.wax_program.specs.Machine.{Accepts, mark}
 use Rattle.wax_program.specs.declared.instruction.Instruction.{Instruction}
 use Rattle.wax_set.specs.Sets.{AreMatches, BranchMeans, IsAlternation, IsNumbered, MeansAt, MeansText}
@@ -64,18 +64,36 @@ pattern_of_match t s alternates m =
     let r = branch_of_some alternates.0 s (subst (λ u. MeansText u s) alternates.1 m) in
     (r.0, subst (λ u. MeansAt u r.0 s) (sym alternates.1) r.1)
 
--- there is a last pattern that matches exactly if the set does
-pub last_decides : (t : Tree Span) (code : List Instruction) (s : List ℕ) (last : Option ℕ)
-    → IsAlternation t → IsNumbered t code
-    → IsLastNumber code s last → IsTrue (is_some last) ↔ MeansText t s
-last_decides t code s None alternates n never = (
-  (λ yes. absurd (false≢true yes)),
-  (λ m. let r = pattern_of_match t s alternates m in absurd (never r.0 ((n.means r.0 s).1 r.1))),
+-- a text is accepted with the mark of some number exactly if the set matches it
+pub marked_means : (t : Tree Span) (code : List Instruction) → IsAlternation t → IsNumbered t code
+    → (s : List ℕ) → AcceptsMarked code s ↔ MeansText t s
+marked_means t code alternates n s = (
+  (λ (number, a). matches_some t number s ((n.means number s).0 a)),
+  (λ m. let r = pattern_of_match t s alternates m in (r.0, (n.means r.0 s).1 r.1)),
 )
-last_decides t code s (Some number) alternates n is = (
-  (λ yes. matches_some t number s ((n.means number s).0 is.0)),
-  (λ m. refl),
-)
+
+-- so it is exactly if the program of the alternation accepts it
+pub marked_compiled : (t : Tree Span) (code : List Instruction) (program : Instructions) → IsAlternation t
+    → IsNumbered t code → IsCompiled t program
+    → (s : List ℕ) → AcceptsMarked code s ↔ Accepts program.0 0 s
+marked_compiled t code program alternates n is s =
+    let means = marked_means t code alternates n s in (
+      (λ a. (is.accepts s).1 (means.0 a)),
+      (λ a. means.1 ((is.accepts s).0 a)),
+    )
+
+-- another program that accepts the same texts
+pub compiled_alike : (t : Tree Span) (old new : Instructions) → IsCompiled t old → AcceptsAlike old new
+    → IsCompiled t new
+compiled_alike t old new is alike = record {
+  accepts = λ s. (
+    (λ a. (is.accepts s).0 ((alike.accepts s).0 a)),
+    (λ m. (alike.accepts s).1 ((is.accepts s).1 m)),
+  );
+  len = alike.len ∙ is.len;
+  fits = is.fits;
+  longer = alike.longer is.longer;
+}
 
 -- ---- branches with their indexes
 -- one more

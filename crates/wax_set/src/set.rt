@@ -17,7 +17,8 @@ ghost use Rattle.wax_query.specs.Variances.{text_of};
 ghost use Rattle.wax_query.specs.declared.query.when.When.TheVariants.{Always};
 ghost use Rattle.wax_token.specs.Cost.{program_length};
 ghost use Rattle.wax_token.specs.Decided.{means_test, means_tested};
-ghost use Rattle.wax_set.specs.Sets.{AreMatches, BranchMeans, IsAlternation, IsWhole, MeansText};
+ghost use Rattle.wax_prefilter.specs.Compiled.{IsCompiled};
+ghost use Rattle.wax_set.specs.Sets.{AreMatches, BranchMeans, IsAlternation, IsNumbered, IsWhole, MeansText};
 ghost use Rattle.wax_token.specs.Syntax.{alternation};
 ghost use Rattle.wax_token.specs.Words.{trees};
 ghost use Rattle.wax_set.specs.Patterns.{LacksMemory};
@@ -42,7 +43,7 @@ pub use walking::SetWalk;
 use wax_compare::{Compared, Criterion, Selector};
 use wax_components::depth;
 use wax_facts::{has_root, is_exhaustive, text};
-use wax_lazy::{HasProgram, Matcher, list_numbers};
+use wax_lazy::{HasProgram, LazyDfa, Matcher, list_numbers};
 use wax_match::encode;
 use wax_match::encode::{CompileError, CompiledProgram, Meter, Numbered};
 use wax_prefilter::CompiledTokens;
@@ -52,9 +53,8 @@ use wax_query::query::{DepthVariance, TextVariance, Variance, When};
 use wax_rule::rule::Checked;
 use wax_token::token::{BranchKind, ExpressionMetadata, Token};
 
-/// The greatest number of patterns with which the program of their alternation decides whether one of
-/// them matches. With more, its states are large and many, so the other program decides it, whose
-/// patterns share their beginnings and their ends.
+/// The greatest number of patterns whose alternation is compiled as it is. With more, the states of its
+/// program are large and many, since each pattern has its own beginning and its own end.
 const MOST_ALTERNATED: usize = 32;
 
 /// A set of patterns, which matches a path if one of its patterns does. `any` builds it. Contracts
@@ -106,13 +106,42 @@ pub(crate) fn compiled<'t>(
     ensures fits { MatchBuild result (λ any. program_length any ≤ 1048576)
         (λ _. 1048576 < program_length token.entry) }
 {
-    let compiled = CompiledTokens::of_token(alloc, token.as_ref())?;
+    let alternation = CompiledTokens::of_token(alloc, token.as_ref())?;
     let numbered = numbered_of(alloc, branches_of(token.as_ref()))?;
+    let compiled = shared(alloc, token.as_ref(), alternation, &numbered)?;
     Ok(Any {
         token,
         compiled,
         numbered: Matcher::with_most(alloc, numbered, MOST_NUMBERED),
     })
+}
+
+/// Replaces the program of an alternation by that which numbers its patterns, without the numbers, if that
+/// takes less time.
+fn shared<'t>(
+    alloc: Global,
+    token: &Token<'t, ExpressionMetadata>,
+    compiled: CompiledTokens,
+    numbered: &CompiledProgram,
+) -> Result<CompiledTokens, NoMemory>
+    requires alternates { IsAlternation token.now }
+    requires compiled { IsCompiled token.now compiled }
+    requires numbers { IsNumbered token.now numbered.now.0 }
+    ensures { IfOk result (IsCompiled token.now) }
+{
+    if !gains_by_sharing(token, numbered) {
+        return Ok(compiled);
+    }
+    compiled.with_numbered(alloc, numbered)
+}
+
+/// Returns whether the program that numbers the patterns of an alternation, which share their beginnings and
+/// their ends in it, takes less time than that of the alternation: there are many patterns, or it reads only
+/// the last component of a path.
+fn gains_by_sharing<'t>(token: &Token<'t, ExpressionMetadata>, numbered: &CompiledProgram) -> bool
+    requires { IsAlternation token.now }
+{
+    branches_of(token).len() > MOST_ALTERNATED || LazyDfa::of(numbered).reads_last()
 }
 
 /// Compiles branches to a program that says which of them match, by their indexes.
@@ -208,12 +237,6 @@ impl Any<'_> {
         ensures { MeansText self.now path.now → IsTrue result }
     {
         self.compiled.may_accept(path.as_str())
-    }
-
-    /// Returns whether the set has so many patterns that the program that says which of them match
-    /// decides whether one matches, too.
-    fn has_many(&self) -> bool {
-        branches_of(self.token.as_ref()).len() > MOST_ALTERNATED
     }
 
     /// Returns how many bytes at the beginning of a text can be passed over in a search for lines

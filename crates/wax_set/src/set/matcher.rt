@@ -25,8 +25,6 @@ pub struct AnyMatcher<'a, 't> {
     matcher: Matcher<&'a CompiledTokens>,
     /// The matcher of the program that says which of the patterns match.
     numbered: Matcher<&'a CompiledProgram>,
-    /// True if that program decides whether one of the patterns matches, too.
-    has_many: bool,
 }
 
 impl Drop for AnyMatcher<'_, '_> {
@@ -36,7 +34,6 @@ impl Drop for AnyMatcher<'_, '_> {
             any: _,
             matcher: _,
             numbered: _,
-            has_many: _,
         } = self;
     }
 }
@@ -60,7 +57,7 @@ impl<'a, 't> Model for AnyMatcher<'a, 't> {
 impl<'t> Any<'t> {
     /// Builds a matcher, which is faster than the set for many paths if its patterns have many
     /// branches. It keeps about 2 MiB at most, or up to 16 MiB if the set is large; and up to 16 MiB
-    /// more once it was asked which patterns match, or whether one of more than 32 does.
+    /// more once it was asked which patterns match.
     pub fn matcher<'a>(&'a self, alloc: Global) -> Result<AnyMatcher<'a, 't>, NoMemory>
         ensures { IfOk result (λ m. m ≡ self.now) }
     {
@@ -70,7 +67,6 @@ impl<'t> Any<'t> {
             any: self,
             matcher,
             numbered: Matcher::with_most(alloc, self.numbered.holder(), MOST_NUMBERED),
-            has_many: self.has_many(),
         })
     }
 }
@@ -88,22 +84,7 @@ impl AnyMatcher<'_, '_> {
         ensures decides { IfOk result (λ answer. answer ≡ means_test self.old false false path.now) }
         ensures same { self.new ≡ self.old }
     {
-        if self.has_many {
-            return self.is_match_by_numbers(path);
-        }
         self.matcher.is_match(path.as_str())
-    }
-
-    // Returns what `is_match` does, by the program that says which of the patterns match.
-    fn is_match_by_numbers(&mut self, path: &CandidatePath<'_>) -> Result<bool, NoMemory>
-        ensures means { IfOk result (λ answer. IsTrue answer ↔ MeansText self.old path.now) }
-        ensures same { self.new ≡ self.old }
-    {
-        if !self.any.may_match_at_once(path) {
-            return Ok(false);
-        }
-        let last = self.numbered.last_number(path.as_str())?;
-        Ok(last.is_some())
     }
 
     /// Returns the indexes of all patterns that match the whole path, ascending. The first pattern of

@@ -17,17 +17,11 @@ use wax_query::query::Verdict;
 pub struct OwnedAnyMatcher<'t> {
     alloc: Global,
     any: Any<'t>,
-    /// True if the program that says which of the patterns match decides whether one does, too.
-    has_many: bool,
 }
 
 impl Drop for OwnedAnyMatcher<'_> {
     fn drop(self) {
-        let OwnedAnyMatcher {
-            alloc: _,
-            any: _,
-            has_many: _,
-        } = self;
+        let OwnedAnyMatcher { alloc: _, any: _ } = self;
     }
 }
 
@@ -59,12 +53,7 @@ impl<'t> Any<'t> {
     pub fn into_matcher(self, alloc: Global) -> OwnedAnyMatcher<'t>
         ensures { result ≡ self.entry }
     {
-        let has_many = self.has_many();
-        OwnedAnyMatcher {
-            alloc,
-            any: self,
-            has_many,
-        }
+        OwnedAnyMatcher { alloc, any: self }
     }
 
     /// Returns whether one of the patterns matches the whole path, with the help of what is kept of
@@ -74,18 +63,6 @@ impl<'t> Any<'t> {
         ensures same { self.new ≡ self.old }
     {
         self.compiled.is_match_cached(alloc, path.as_str())
-    }
-
-    /// Returns what `is_match_cached` does, by the program that says which of the patterns match.
-    fn is_match_by_numbers(&mut self, path: &CandidatePath<'_>) -> Result<bool, NoMemory>
-        ensures means { IfOk result (λ answer. IsTrue answer ↔ MeansText self.old path.now) }
-        ensures same { self.new ≡ self.old }
-    {
-        if !self.may_match_at_once(path) {
-            return Ok(false);
-        }
-        let last = self.numbered.last_number(path.as_str())?;
-        Ok(last.is_some())
     }
 
     /// Writes the indexes of all patterns that match the whole path into a list, ascending, in place of
@@ -136,11 +113,7 @@ impl<'t> OwnedAnyMatcher<'t> {
     pub fn into_any(self) -> Any<'t>
         ensures { result ≡ self.entry }
     {
-        let OwnedAnyMatcher {
-            alloc: _,
-            any,
-            has_many: _,
-        } = self;
+        let OwnedAnyMatcher { alloc: _, any } = self;
         any
     }
 
@@ -156,9 +129,6 @@ impl<'t> OwnedAnyMatcher<'t> {
         ensures decides { IfOk result (λ answer. answer ≡ means_test self.old false false path.now) }
         ensures same { self.new ≡ self.old }
     {
-        if self.has_many {
-            return self.any.is_match_by_numbers(path);
-        }
         self.any.is_match_cached(self.alloc, path)
     }
 

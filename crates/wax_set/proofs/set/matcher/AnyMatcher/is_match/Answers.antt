@@ -24,8 +24,3 @@ pub returns-clause-decides : goal.returns-clause-decides
 returns-clause-decides c =
     decided_alike c.is_match.result _ (means_tested c.args.self.now false false c.args.path.now)
     (returns-clause-means c)
-
-pub returns-then-self-clause-decides : goal.returns-then-self-clause-decides
-returns-then-self-clause-decides c =
-    decided_alike c.is_match_by_numbers.result _ (means_tested c.args.self.now false false c.args.path.now)
-    c.is_match_by_numbers.ensures.means

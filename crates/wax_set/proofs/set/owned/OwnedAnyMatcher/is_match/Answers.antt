@@ -4,16 +4,6 @@ use Rattle.wax_set.specs.Sets.{MeansText}
 use Rattle.wax_set.proofs.Matchers.{decided_alike}
 use Rattle.wax_set.proofs.set.owned.OwnedAnyMatcher.is_match.Goals as goal
 
-pub returns-then-self-clause-means : goal.returns-then-self-clause-means
-returns-then-self-clause-means c =
-    subst (λ t. IfOk c.is_match_by_numbers.result (λ b. IsTrue b ↔ MeansText t c.args.path.now))
-    c.self.view_is c.is_match_by_numbers.ensures.means
-
-pub returns-then-self-clause-decides : goal.returns-then-self-clause-decides
-returns-then-self-clause-decides c =
-    decided_alike c.is_match_by_numbers.result _ (means_tested c.args.self.now false false c.args.path.now)
-    (returns-then-self-clause-means c)
-
 pub returns-clause-means : goal.returns-clause-means
 returns-clause-means c =
     subst (λ t. IfOk c.is_match_cached.result (λ b. IsTrue b ↔ MeansText t c.args.path.now)) c.self.view_is
