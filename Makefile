@@ -50,6 +50,7 @@ bench: globs explain library
 	bench/python
 	bench/rust
 	bench/folders
+	bench/walk
 	bench/shards
 
 install:
