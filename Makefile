@@ -51,6 +51,7 @@ bench: globs explain library
 	bench/rust
 	bench/folders
 	bench/walk
+	bench/filters
 	bench/shards
 
 install:
