@@ -52,6 +52,7 @@ bench: globs explain library
 	bench/folders
 	bench/walk
 	bench/filters
+	bench/hostile
 	bench/shards
 
 install:
