@@ -53,6 +53,7 @@ bench: globs explain library
 	bench/walk
 	bench/filters
 	bench/hostile
+	bench/sets
 	bench/shards
 
 install:
