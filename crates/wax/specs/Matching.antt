@@ -7,6 +7,7 @@ pub use Rattle.wax_capture.specs.Captures.{Captured, First}
 pub use Rattle.wax_capture.specs.Matched.{AreOnly, IsMatched, square_visits}
 pub use Rattle.wax_capture.specs.Pieces.{ArePieces}
 pub use Rattle.wax_prefilter.specs.Below.{MeansBelow, MeansWithin, goes_test, goes_tested}
+pub use Rattle.wax_lazy.specs.Cost.{first_visits, list_visits, match_visits, most_kept, path_visits}
 pub use Rattle.wax_lazy.specs.Numbers.{AreNumbers, AreNumbersFrom}
 pub use Rattle.wax_lazy.specs.Numbers.{IsLastNumber, IsLastNumberFrom, IsLastWhere}
 pub use Rattle.wax_lazy.specs.Verdict.{AcceptsBelow, IsVerdict}
@@ -18,6 +19,7 @@ pub use Rattle.wax_lines.specs.Written.{WritesPart}
 pub use Rattle.wax_program.specs.Closed.{IsClosed, LeadsWithin}
 pub use Rattle.wax_program.specs.Machine.{Accepts, mark}
 pub use Rattle.wax_program.specs.Meter.{most_ticks}
+pub use Rattle.wax_program.specs.Visits.{onward_visits}
 pub use Rattle.wax_program.specs.declared.instruction.Instruction.{Instruction}
 pub use Rattle.wax_query.specs.Below.{AreNames, IsBelow, IsBelowWithin, IsPathWithin, IsPlainPath}
 pub use Rattle.wax_query.specs.Below.{folder_text}

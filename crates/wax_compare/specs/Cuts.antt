@@ -1,6 +1,5 @@
--- Characters by which each instruction of a program does the same.
-use Rattle.std.specs.Prelude.{◌≡◌, ◌↔◌, ◌<◌, ◌≤◌, ℕ, true, List, Some, Contains, length, slice_get}
-use Rattle.std.specs.Prelude.{slice_index}
+-- Characters that stand for others, by which each instruction of two programs does the same.
+use Rattle.std.specs.Prelude.{◌≡◌, ◌↔◌, ◌<◌, ◌≤◌, ℕ, true, List, Contains, length, slice_index}
 use Rattle.std.specs.Char.{IsScalar}
 use Rattle.std.specs.Str.{all_scalars}
 use Rattle.wax_program.specs.declared.instruction.Instruction.{Instruction}

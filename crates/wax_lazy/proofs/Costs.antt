@@ -1,5 +1,6 @@
 -- Visits, counted for each character.
-use Rattle.std.proofs.Common.{◌≡◌, ◌≤◌, ◌+◌, ◌*◌, ◌∷◌, ℕ, List, arith, inl, inr, drop, length, take, ap, subst, sym, ◌∙◌, length-append}
+use Rattle.std.proofs.Common.{◌≡◌, ◌≤◌, ◌+◌, ◌*◌, ◌∷◌, ℕ, List, arith, inl}
+use Rattle.std.proofs.Common.{inr, drop, length, take, ap, subst, sym, ◌∙◌, length-append}
 use Rattle.std.proofs.Common.{◌<◌, None, Option, Some, cond, nat_lt, refl}
 use Rattle.std.proofs.Math.Nat.{mul-le-mul_left, mul-le-mul_right}
 use Rattle.std.proofs.lemmas.Bool.{cases_lt, cond_above, cond_below}
@@ -168,7 +169,8 @@ module _ (code : List Instruction) (len : ℕ) (longer : length code < len) wher
   char_len = elim (cases_lt (length code) 256) [
     | inl small ↦ elim (cases_lt 256 len) [
       | inl wide ↦ omega (arith, longer, char_small code small, cond_below 256 len (9 * len) len wide)
-      | inr narrow ↦ omega (arith, longer, char_small code small, cond_above 256 len (9 * len) len _ narrow refl)
+      | inr narrow ↦ omega
+          (arith, longer, char_small code small, cond_above 256 len (9 * len) len _ narrow refl)
     ]
     | inr large ↦
         let wide : 256 < len = omega (arith, longer, large) in

@@ -1,6 +1,7 @@
 //! The sets of places of a step, which takes time in proportion to the places that it reaches, and
 //! not to the length of the program.
-ghost use Rattle.std.specs.Prelude.{◌≡◌, ◌+◌, ◌<◌, ◌≤◌, ◌↔◌, ℕ, [], Contains, IfOk, IsTrue, MatchOption, length};
+ghost use Rattle.std.specs.Prelude.{◌≡◌, ◌+◌, ◌<◌, ◌≤◌, ◌↔◌, ℕ};
+ghost use Rattle.std.specs.Prelude.{[], Contains, IfOk, IsTrue, MatchOption, length};
 ghost use Rattle.wax_states.specs.inner.Listed.{AreRead, IsNextUnread, IsJoined, IsLoaded, Lists};
 ghost use Rattle.wax_program.specs.Closed.{ReadsEnd};
 ghost use Rattle.wax_program.specs.Threads.{IsDone};

@@ -42,6 +42,7 @@ fn of_glob(
         GlobFact::Matcher => add_answers(alloc, glob, row.input(1), made),
         GlobFact::Visits => add_visits(alloc, glob, row, made),
         GlobFact::Metered => add_metered(alloc, glob, row, made),
+        GlobFact::MeteredMatcher => add_metered_matcher(alloc, glob, row, made),
         GlobFact::GoesOn => add_goes_on(alloc, glob, row.input(1), made),
         GlobFact::Verdicts => add_verdicts(alloc, glob, row.input(1), made),
         GlobFact::Captures => add_captures(alloc, glob, made),
@@ -212,6 +213,37 @@ fn add_metered(
     let is_match = glob.is_match_metered(alloc, &path, &mut meter)?;
     add_visited(is_match, meter.ticks(), row.input(2), made);
     Ok(())
+}
+
+/// Adds what a matcher says of a path, and then of the same path again: whether the path matches, by
+/// `is_match` and by `verdict`, and whether the visits are within bounds.
+fn add_metered_matcher(
+    alloc: Global,
+    glob: &Glob<'_>,
+    row: &DataRow,
+    made: &mut Answer,
+) -> Result<(), NoMemory> {
+    let mut matcher = glob.matcher(alloc)?;
+    let path = CandidatePath::from(row.input(1));
+    for bounds in [row.input(2), "0..0"] {
+        let mut meter = Meter::new();
+        let is_match = matcher.is_match_metered(&path, &mut meter)?;
+        add_moved(is_match, &meter, bounds, made);
+    }
+    for bounds in [row.input(3), "0..0"] {
+        let mut meter = Meter::new();
+        let verdict = matcher.verdict_metered(&path, &mut meter)?;
+        add_moved(verdict.is_match, &meter, bounds, made);
+    }
+    Ok(())
+}
+
+/// Adds whether a path matched, and whether the meter moved within bounds.
+pub fn add_moved(is_match: bool, meter: &Meter, bounds: &str, made: &mut Answer) {
+    made.digit(is_match);
+    made.add(" ");
+    made.within(meter.ticks(), bounds);
+    made.add(";");
 }
 
 /// Adds whether a path matched, and whether the number of visits is within bounds.

@@ -70,6 +70,7 @@ pub enum GlobFact {
     MatchTwice,
     Visits,
     Metered,
+    MeteredMatcher,
     GoesOn,
     Verdicts,
     Captures,
@@ -110,6 +111,7 @@ pub enum PartFact {
     Rest,
     Again,
     Owned,
+    MeteredOwned,
 }
 
 /// All kinds: the name, the number of inputs, and the fact.
@@ -128,6 +130,7 @@ static KINDS: &[(&str, usize, Kind)] = &[
     ("match_twice", 2, Kind::Glob(GlobFact::MatchTwice)),
     ("visits", 3, Kind::Glob(GlobFact::Visits)),
     ("metered", 3, Kind::Glob(GlobFact::Metered)),
+    ("metered_matcher", 4, Kind::Glob(GlobFact::MeteredMatcher)),
     ("goes_on", 2, Kind::Glob(GlobFact::GoesOn)),
     ("verdicts", 2, Kind::Glob(GlobFact::Verdicts)),
     ("captures", 1, Kind::Glob(GlobFact::Captures)),
@@ -150,6 +153,7 @@ static KINDS: &[(&str, usize, Kind)] = &[
     ("rest", 2, Kind::Glob(Part(PartFact::Rest))),
     ("again", 1, Kind::Glob(Part(PartFact::Again))),
     ("owned_glob", 2, Kind::Glob(Part(PartFact::Owned))),
+    ("metered_owned", 4, Kind::Glob(Part(PartFact::MeteredOwned))),
     ("diagnosed", 1, Kind::Diagnosed),
     ("set", 1, Kind::Set(SetFact::Patterns)),
     ("sets", 1, Kind::Set(SetFact::Sets)),

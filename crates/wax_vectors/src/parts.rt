@@ -1,10 +1,11 @@
 //! Facts of globs that are partitioned or owned.
 
-use crate::globs::add_is_match;
+use crate::globs::{add_is_match, add_moved};
 use crate::kinds::{GlobFact, PartFact};
 use crate::refusals;
 use std::alloc::Global;
-use wax::{Glob, NoMemory};
+use wax::encode::Meter;
+use wax::{CandidatePath, Glob, NoMemory};
 use wax_test_kit::answer::Answer;
 use wax_test_kit::rows::DataRow;
 
@@ -19,6 +20,7 @@ pub fn answer(
     match fact {
         PartFact::Partition | PartFact::Prefix => add_partition(alloc, fact, glob, made),
         PartFact::Owned => add_owned(alloc, row, glob, made),
+        PartFact::MeteredOwned => add_metered_owned(alloc, row, glob, made),
         _ => match parts_of(alloc, fact, glob) {
             Ok((prefix, rest)) => add_parts(alloc, fact, row, prefix.as_str(), &rest, made),
             Err(error) => Err(error),
@@ -126,4 +128,27 @@ pub fn add_plain(
     made.digit(glob.is_empty());
     made.tab();
     add_is_match(alloc, &glob, path, made)
+}
+
+/// Adds what a matcher that owns the glob says of a path, and then of the same path again: whether the
+/// path matches, by `is_match` and by `verdict`, and whether the visits are within bounds.
+fn add_metered_owned(
+    alloc: Global,
+    row: &DataRow,
+    glob: Glob<'_>,
+    made: &mut Answer,
+) -> Result<(), NoMemory> {
+    let mut matcher = glob.into_matcher(alloc);
+    let path = CandidatePath::from(row.input(1));
+    for bounds in [row.input(2), "0..0"] {
+        let mut meter = Meter::new();
+        let is_match = matcher.is_match_metered(&path, &mut meter)?;
+        add_moved(is_match, &meter, bounds, made);
+    }
+    for bounds in [row.input(3), "0..0"] {
+        let mut meter = Meter::new();
+        let verdict = matcher.verdict_metered(&path, &mut meter)?;
+        add_moved(verdict.is_match, &meter, bounds, made);
+    }
+    Ok(())
 }

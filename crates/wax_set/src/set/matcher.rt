@@ -1,14 +1,16 @@
 //! A matcher of one set of patterns for many paths.
-ghost use Rattle.std.specs.Prelude.{◌≡◌, ◌↔◌, None, IfOk, IsTrue, false};
+ghost use Rattle.std.specs.Prelude.{◌≡◌, ◌+◌, ◌≤◌, ◌↔◌, None, IfOk, IsTrue, false, length};
 ghost use Rattle.wax_set.specs.Sets.{AreMatches, MeansText};
+ghost use Rattle.wax_lazy.specs.Cost.{first_visits, path_visits};
 ghost use Rattle.wax_prefilter.specs.Below.{MeansBelow, goes_test, goes_tested};
+ghost use Rattle.wax_token.specs.Cost.{program_length};
 ghost use Rattle.wax_token.specs.Decided.{means_test, means_tested};
 
 use crate::set::Any;
 use std::alloc::Global;
 use std::marker::Model;
 use wax_lazy::Matcher;
-use wax_match::encode::CompiledProgram;
+use wax_match::encode::{CompiledProgram, Meter};
 use wax_prefilter::CompiledTokens;
 use wax_query::diagnostics::NoMemory;
 use wax_query::matching::{BuildMatcher, CandidatePath, PathMatcher};
@@ -40,7 +42,9 @@ impl Drop for AnyMatcher<'_, '_> {
 
 impl<'a, 't> Model for AnyMatcher<'a, 't> {
     ghost use Rattle.wax_set.specs.Sets.{any_code};
+    ghost use Rattle.std.specs.Prelude.{◌<◌, length};
     ghost use Rattle.wax_set.specs.Sets.{AcceptsText, IsAlternation, IsNumbered};
+    ghost use Rattle.wax_token.specs.Cost.{program_length};
     ghost use Rattle.wax_token.specs.Reads.{Span};
     ghost use Rattle.wax_token.specs.Syntax.{Tree};
 
@@ -51,7 +55,7 @@ impl<'a, 't> Model for AnyMatcher<'a, 't> {
     ghost view = { λ m. m.any.now };
 
     ghost invariant = { λ m. AcceptsText m.matcher m.any.now × IsNumbered m.any.now m.numbered
-        × IsAlternation m.any.now };
+        × IsAlternation m.any.now × (length m.matcher < program_length m.any.now) };
 }
 
 impl<'t> Any<'t> {
@@ -84,7 +88,32 @@ impl AnyMatcher<'_, '_> {
         ensures decides { IfOk result (λ answer. answer ≡ means_test self.old false false path.now) }
         ensures same { self.new ≡ self.old }
     {
-        self.matcher.is_match(path.as_str())
+        let mut meter = Meter::new();
+        self.is_match_metered(path, &mut meter)
+    }
+
+    /// Returns what `is_match` does, and moves the meter by the number of instructions that the set's
+    /// program visits, whatever earlier paths led to: at most its length for each character and once more
+    /// at the end; or nine times that, if its length exceeds 256. Paths that lead only to what earlier ones
+    /// led to move it by nothing.
+    ///
+    /// # Errors
+    ///
+    /// Returns `NoMemory` if allocation fails. The matcher can be used for further paths after
+    /// that.
+    pub fn is_match_metered(
+        &mut self,
+        path: &CandidatePath<'_>,
+        meter: &mut Meter,
+    ) -> Result<bool, NoMemory>
+        ensures means { IfOk result (λ answer. IsTrue answer ↔ MeansText self.old path.now) }
+        ensures decides { IfOk result (λ answer. answer ≡ means_test self.old false false path.now) }
+        ensures same { self.new ≡ self.old }
+        ensures above { let size = program_length self.old in
+            meter.new ≤ meter.old + path_visits size (length path.now) }
+        ensures steady { meter.old ≤ meter.new }
+    {
+        self.matcher.is_match_metered(path.as_str(), meter)
     }
 
     /// Returns the indexes of all patterns that match the whole path, ascending. The first pattern of
@@ -157,17 +186,51 @@ impl AnyMatcher<'_, '_> {
         ensures onward { IfOk result (λ verdict. verdict.goes_on ≡ goes_test self.old None path.now) }
         ensures same { self.new ≡ self.old }
     {
-        self.judge(path, None)
+        let mut meter = Meter::new();
+        self.verdict_metered(path, &mut meter)
+    }
+
+    /// Returns what `verdict` does. The meter counts as in `is_match_metered`, and also what the first
+    /// verdict visits to find what leads on.
+    ///
+    /// # Errors
+    ///
+    /// Returns `NoMemory` if allocation fails. The matcher can be used for further paths after
+    /// that.
+    pub fn verdict_metered(
+        &mut self,
+        path: &CandidatePath<'_>,
+        meter: &mut Meter,
+    ) -> Result<Verdict, NoMemory>
+        ensures means { IfOk result (λ verdict. IsTrue verdict.is_match ↔ MeansText self.old path.now) }
+        ensures below { IfOk result (λ verdict. IsTrue verdict.goes_on ↔ MeansBelow self.old path.now) }
+        ensures decides { IfOk result
+            (λ verdict. verdict.is_match ≡ means_test self.old false false path.now) }
+        ensures onward { IfOk result (λ verdict. verdict.goes_on ≡ goes_test self.old None path.now) }
+        ensures same { self.new ≡ self.old }
+        ensures above { let size = program_length self.old in
+            meter.new ≤ meter.old + first_visits size None + path_visits size (length path.now) }
+        ensures steady { meter.old ≤ meter.new }
+    {
+        self.judge(path, None, meter)
     }
 
     // Returns what `verdict` does, for at most `most` names below the folder, if that is some number.
-    fn judge(&mut self, path: &CandidatePath<'_>, most: Option<usize>) -> Result<Verdict, NoMemory>
+    fn judge(
+        &mut self,
+        path: &CandidatePath<'_>,
+        most: Option<usize>,
+        meter: &mut Meter,
+    ) -> Result<Verdict, NoMemory>
         ensures decides { IfOk result
             (λ verdict. verdict.is_match ≡ means_test self.old false false path.now) }
         ensures onward { IfOk result (λ verdict. verdict.goes_on ≡ goes_test self.old most path.now) }
         ensures same { self.new ≡ self.old }
+        ensures above { let size = program_length self.old in
+            meter.new ≤ meter.old + first_visits size most + path_visits size (length path.now) }
+        ensures steady { meter.old ≤ meter.new }
     {
-        self.matcher.verdict(path.as_str(), most)
+        self.matcher.verdict_metered(path.as_str(), most, meter)
     }
 }
 
@@ -192,7 +255,8 @@ impl PathMatcher for AnyMatcher<'_, '_> {
         path: &CandidatePath<'_>,
         most: usize,
     ) -> Result<Verdict, NoMemory> {
-        self.judge(path, Some(most))
+        let mut meter = Meter::new();
+        self.judge(path, Some(most), &mut meter)
     }
 
     fn earliest_end(&self, text: &str) -> usize {

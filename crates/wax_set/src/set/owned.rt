@@ -1,13 +1,16 @@
 //! A matcher that owns its set of patterns.
-ghost use Rattle.std.specs.Prelude.{◌≡◌, ◌↔◌, None, IfOk, IsTrue, false};
+ghost use Rattle.std.specs.Prelude.{◌≡◌, ◌+◌, ◌≤◌, ◌↔◌, None, IfOk, IsTrue, false, length};
 ghost use Rattle.wax_set.specs.Sets.{AreMatches, MeansText};
 ghost use Rattle.wax_query.specs.Parts.{NoLineEndsBefore};
+ghost use Rattle.wax_lazy.specs.Cost.{first_visits, path_visits};
 ghost use Rattle.wax_prefilter.specs.Below.{MeansBelow, goes_test, goes_tested};
+ghost use Rattle.wax_token.specs.Cost.{program_length};
 ghost use Rattle.wax_token.specs.Decided.{means_test, means_tested};
 
 use crate::set::Any;
 use std::alloc::Global;
 use std::marker::Model;
+use wax_match::encode::Meter;
 use wax_query::diagnostics::NoMemory;
 use wax_query::matching::{CandidatePath, PathMatcher};
 use wax_query::query::Verdict;
@@ -58,11 +61,20 @@ impl<'t> Any<'t> {
 
     /// Returns whether one of the patterns matches the whole path, with the help of what is kept of
     /// earlier paths.
-    fn is_match_cached(&mut self, alloc: Global, path: &CandidatePath<'_>) -> Result<bool, NoMemory>
+    fn is_match_cached(
+        &mut self,
+        alloc: Global,
+        path: &CandidatePath<'_>,
+        meter: &mut Meter,
+    ) -> Result<bool, NoMemory>
         ensures means { IfOk result (λ answer. IsTrue answer ↔ MeansText self.old path.now) }
         ensures same { self.new ≡ self.old }
+        ensures above { let size = program_length self.old in
+            meter.new ≤ meter.old + path_visits size (length path.now) }
+        ensures steady { meter.old ≤ meter.new }
     {
-        self.compiled.is_match_cached(alloc, path.as_str())
+        self.compiled
+            .is_match_cached_metered(alloc, path.as_str(), meter)
     }
 
     /// Writes the indexes of all patterns that match the whole path into a list, ascending, in place of
@@ -90,14 +102,19 @@ impl<'t> Any<'t> {
         alloc: Global,
         path: &CandidatePath<'_>,
         most: Option<usize>,
+        meter: &mut Meter,
     ) -> Result<Verdict, NoMemory>
         ensures decides { IfOk result
             (λ verdict. verdict.is_match ≡ means_test self.old false false path.now) }
         ensures onward { IfOk result
             (λ verdict. verdict.goes_on ≡ goes_test self.old most path.now) }
         ensures same { self.new ≡ self.old }
+        ensures above { let size = program_length self.old in
+            meter.new ≤ meter.old + first_visits size most + path_visits size (length path.now) }
+        ensures steady { meter.old ≤ meter.new }
     {
-        self.compiled.verdict_cached(alloc, path.as_str(), most)
+        self.compiled
+            .verdict_cached_metered(alloc, path.as_str(), most, meter)
     }
 }
 
@@ -129,7 +146,29 @@ impl<'t> OwnedAnyMatcher<'t> {
         ensures decides { IfOk result (λ answer. answer ≡ means_test self.old false false path.now) }
         ensures same { self.new ≡ self.old }
     {
-        self.any.is_match_cached(self.alloc, path)
+        let mut meter = Meter::new();
+        self.is_match_metered(path, &mut meter)
+    }
+
+    /// Returns what `is_match` does, and moves the meter as `AnyMatcher::is_match_metered` does.
+    ///
+    /// # Errors
+    ///
+    /// Returns `NoMemory` if allocation fails. The matcher can be used for further paths after
+    /// that.
+    pub fn is_match_metered(
+        &mut self,
+        path: &CandidatePath<'_>,
+        meter: &mut Meter,
+    ) -> Result<bool, NoMemory>
+        ensures means { IfOk result (λ answer. IsTrue answer ↔ MeansText self.old path.now) }
+        ensures decides { IfOk result (λ answer. answer ≡ means_test self.old false false path.now) }
+        ensures same { self.new ≡ self.old }
+        ensures above { let size = program_length self.old in
+            meter.new ≤ meter.old + path_visits size (length path.now) }
+        ensures steady { meter.old ≤ meter.new }
+    {
+        self.any.is_match_cached(self.alloc, path, meter)
     }
 
     /// Returns the indexes of all patterns that match the whole path, ascending. The first pattern of
@@ -198,18 +237,51 @@ impl<'t> OwnedAnyMatcher<'t> {
         ensures onward { IfOk result (λ verdict. verdict.goes_on ≡ goes_test self.old None path.now) }
         ensures same { self.new ≡ self.old }
     {
-        self.judge(path, None)
+        let mut meter = Meter::new();
+        self.verdict_metered(path, &mut meter)
+    }
+
+    /// Returns what `verdict` does. The meter counts as in `is_match_metered`, and also what the first
+    /// verdict visits to find what leads on.
+    ///
+    /// # Errors
+    ///
+    /// Returns `NoMemory` if allocation fails. The matcher can be used for further paths after
+    /// that.
+    pub fn verdict_metered(
+        &mut self,
+        path: &CandidatePath<'_>,
+        meter: &mut Meter,
+    ) -> Result<Verdict, NoMemory>
+        ensures means { IfOk result (λ verdict. IsTrue verdict.is_match ↔ MeansText self.old path.now) }
+        ensures below { IfOk result (λ verdict. IsTrue verdict.goes_on ↔ MeansBelow self.old path.now) }
+        ensures decides { IfOk result
+            (λ verdict. verdict.is_match ≡ means_test self.old false false path.now) }
+        ensures onward { IfOk result (λ verdict. verdict.goes_on ≡ goes_test self.old None path.now) }
+        ensures same { self.new ≡ self.old }
+        ensures above { let size = program_length self.old in
+            meter.new ≤ meter.old + first_visits size None + path_visits size (length path.now) }
+        ensures steady { meter.old ≤ meter.new }
+    {
+        self.judge(path, None, meter)
     }
 
     // Returns what `verdict` does, for at most `most` names below the folder, if that is some number.
-    fn judge(&mut self, path: &CandidatePath<'_>, most: Option<usize>) -> Result<Verdict, NoMemory>
+    fn judge(
+        &mut self,
+        path: &CandidatePath<'_>,
+        most: Option<usize>,
+        meter: &mut Meter,
+    ) -> Result<Verdict, NoMemory>
         ensures decides { IfOk result
             (λ verdict. verdict.is_match ≡ means_test self.old false false path.now) }
-        ensures onward { IfOk result
-            (λ verdict. verdict.goes_on ≡ goes_test self.old most path.now) }
+        ensures onward { IfOk result (λ verdict. verdict.goes_on ≡ goes_test self.old most path.now) }
         ensures same { self.new ≡ self.old }
+        ensures above { let size = program_length self.old in
+            meter.new ≤ meter.old + first_visits size most + path_visits size (length path.now) }
+        ensures steady { meter.old ≤ meter.new }
     {
-        self.any.verdict_cached(self.alloc, path, most)
+        self.any.verdict_cached(self.alloc, path, most, meter)
     }
 }
 
@@ -234,7 +306,8 @@ impl PathMatcher for OwnedAnyMatcher<'_> {
         path: &CandidatePath<'_>,
         most: usize,
     ) -> Result<Verdict, NoMemory> {
-        self.judge(path, Some(most))
+        let mut meter = Meter::new();
+        self.judge(path, Some(most), &mut meter)
     }
 
     fn earliest_end(&self, text: &str) -> usize {

@@ -65,3 +65,8 @@ returns-in_err-is_match-clause-above c = matched_within c.args.program.now.0
     c.accepts.new.meter
     (name_shorter (chars c.args.text.now) (chars c.last_name.result.now) c.last_name.ensures.name)
     c.accepts.ensures.above
+
+pub returns-in_err-next-clause-above : goal.returns-in_err-next-clause-above
+returns-in_err-next-clause-above c = matched_within c.args.program.now.0
+    (length (chars c.args.text.now)) (length (chars c.args.text.now)) c.args.meter.now
+    c.follow_text.new.meter (omega arith) (omega (arith, c.follow_text.ensures.above))

@@ -1,4 +1,5 @@
-use Rattle.std.proofs.Common.{◌≡◌, ◌≤◌, ℕ, ◌+◌, List, ◌++◌, drop, encode_utf8, length, sym, ◌∙◌, ap, subst, arith}
+use Rattle.std.proofs.Common.{◌≡◌, ◌≤◌, ℕ, ◌+◌, List, ◌++◌, drop}
+use Rattle.std.proofs.Common.{encode_utf8, length, sym, ◌∙◌, ap, subst, arith}
 use Rattle.std.proofs.lemmas.Str.{IsUtf8-past_char, chars_past_char, drop_past_char}
 use Rattle.std.specs.Char.{len_utf8}
 use Rattle.std.specs.Str.{IsUtf8, chars}

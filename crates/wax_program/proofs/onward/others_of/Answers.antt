@@ -39,7 +39,8 @@ loop-at-preserved c =
         steady = omega (arith, held.steady, c.takes_other_at.ensures.steady);
         room = omega (arith, held.room, ap length w.others-is);
         first = subst (λ z. AreFirst code z (at + 1)) (sym w.others-is)
-            (first_left code flags at held.first answer w.if-branch.false c.in_ok-takes_other_at.ensures.answer);
+            (first_left code flags at held.first answer w.if-branch.false
+            c.in_ok-takes_other_at.ensures.answer);
       }
     ]
 

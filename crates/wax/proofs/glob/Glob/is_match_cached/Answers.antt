@@ -19,13 +19,15 @@ returns-clause-means c =
     let compiled = subst (λ t. IsCompiled t c.self.inside.compiled) (ap (λ g. g.tree) c.self.view_is)
     c.self.invariant.compiled in
     let here =
-    same_answer c.is_match_cached_metered.result _ _ (compiled.accepts text) c.is_match_cached_metered.ensures.decides in
+    same_answer c.is_match_cached_metered.result _ _ (compiled.accepts text)
+    c.is_match_cached_metered.ensures.decides in
     subst (λ z. IfOk c.is_match_cached_metered.result (λ b. IsTrue b ↔ IsMeant c.args.self.now z))
     c.as_str.ensures here
 
 pub returns-clause-decides : goal.returns-clause-decides
 returns-clause-decides c =
-    decided_alike c.is_match_cached_metered.result _ (means_tested c.args.self.now.tree false false c.args.path.now)
+    decided_alike c.is_match_cached_metered.result _
+    (means_tested c.args.self.now.tree false false c.args.path.now)
     (returns-clause-means c)
 
 pub returns-clause-above : goal.returns-clause-above
@@ -37,5 +39,6 @@ returns-clause-above c =
     c.self.invariant.compiled in
     let within = path_within program.0 program.1 compiled.longer (length (chars c.as_str.result.now)) old
     m.new.meter m.ensures.above in
-    let there = subst (λ n. m.new.meter ≤ old + path_visits program.1 n) (ap length c.as_str.ensures) within in
+    let there =
+    subst (λ n. m.new.meter ≤ old + path_visits program.1 n) (ap length c.as_str.ensures) within in
     subst (λ n. m.new.meter ≤ old + path_visits n (length c.args.path.now)) compiled.len there

@@ -6,7 +6,8 @@ use Rattle.wax_prefilter.specs.Compiled.{IsCompiled}
 use Rattle.wax_set.proofs.Matchers.{verdict_decides, verdict_onward}
 use Rattle.wax.proofs.glob.Glob.verdict_cached.Goals as goal
 
-abbrev compiled : (c : goal.After-verdict_cached_metered) → IsCompiled c.args.self.now.tree c.self.inside.compiled
+abbrev compiled : (c : goal.After-verdict_cached_metered)
+    → IsCompiled c.args.self.now.tree c.self.inside.compiled
 compiled c = subst (λ t. IsCompiled t c.self.inside.compiled) (ap (λ g. g.tree) c.self.view_is)
     c.self.invariant.compiled
 
@@ -17,12 +18,14 @@ invariant_of-self c =
 
 pub returns-clause-decides : goal.returns-clause-decides
 returns-clause-decides c =
-    verdict_decides c.args.self.now.tree c.self.inside.compiled.0 (compiled c).accepts c.verdict_cached_metered.result
+    verdict_decides c.args.self.now.tree c.self.inside.compiled.0 (compiled c).accepts
+    c.verdict_cached_metered.result
     c.args.most _ c.args.path.now c.as_str.ensures c.verdict_cached_metered.ensures.decides
 
 pub returns-clause-onward : goal.returns-clause-onward
 returns-clause-onward c =
-    verdict_onward c.args.self.now.tree c.self.inside.compiled.0 (compiled c).accepts c.verdict_cached_metered.result
+    verdict_onward c.args.self.now.tree c.self.inside.compiled.0 (compiled c).accepts
+    c.verdict_cached_metered.result
     c.args.most _ c.args.path.now c.as_str.ensures c.verdict_cached_metered.ensures.decides
 
 pub returns-clause-above : goal.returns-clause-above

@@ -168,7 +168,13 @@ follow-enter-requires t c =
         has_state = placed_keeps old new keeps c.args.state c.requires.here.has_state;
       };
       few =
-          omega (arith, ap length same, c.in_ok-found.ensures.grows.few, c.requires.few, c.if-depth-eq0.false);
+          omega (
+            arith,
+            ap length same,
+            c.in_ok-found.ensures.grows.few,
+            c.requires.few,
+            c.if-depth-eq0.false,
+          );
       next = subst (λ z. LeadOn code c.args.c z c.step_own.new.self.reached.items)
           (sym (keeps c.args.state c.requires.here.has_state).1) next;
       target = target_parted code new part c.args.c own c.step_own.new.self.reached.items

@@ -31,5 +31,6 @@ returns-then-is_full-clause-leads c =
     let (s, is) = state_at c.args.self.now.table.states.items c.args.state c.requires.here.has_state in
     let same = restarted_places c.args.self.now c.restart.new.self s
     (c.in_ok-restart.ensures.ok s is) c.args.state is in
-    subst (λ z. IfOk c.follow_within.result (LeadsNext c.args.program.now.0 c.follow_within.new.self.table.states.items z
+    subst (λ z. IfOk c.follow_within.result
+    (LeadsNext c.args.program.now.0 c.follow_within.new.self.table.states.items z
     c.args.c)) same c.follow_within.ensures.leads

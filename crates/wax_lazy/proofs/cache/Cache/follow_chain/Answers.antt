@@ -1,4 +1,5 @@
-use Rattle.std.proofs.Common.{◌≡◌, ◌+◌, ◌*◌, ◌↔◌, ◌⊎◌, ◌∷◌, ◌++◌, ◌<◌, ◌≤◌, ℕ, List, IfSome, true, drop, length}
+use Rattle.std.proofs.Common.{◌≡◌, ◌+◌, ◌*◌, ◌↔◌, ◌⊎◌, ◌∷◌, ◌++◌}
+use Rattle.std.proofs.Common.{◌<◌, ◌≤◌, ℕ, List, IfSome, true, drop, length}
 use Rattle.std.proofs.Common.{refl, sym, ◌∙◌, ap, subst, arith}
 use Rattle.wax_lazy.specs.Cost.{char_visits, fill_visits}
 use Rattle.wax_lazy.specs.inner.Cached.{DecidesLeft}

@@ -1,4 +1,5 @@
-use Rattle.std.proofs.Common.{◌≡◌, ◌↔◌, ◌⊎◌, ◌<◌, ◌≤◌, ◌+◌, ◌*◌, ◌-◌, ◌++◌, ℕ, List, IfSome, drop, get_or, length, true}
+use Rattle.std.proofs.Common.{◌≡◌, ◌↔◌, ◌⊎◌, ◌<◌, ◌≤◌, ◌+◌, ◌*◌, ◌-◌}
+use Rattle.std.proofs.Common.{◌++◌, ℕ, List, IfSome, drop, get_or, length, true}
 use Rattle.wax_lazy.specs.Cost.{char_visits}
 use Rattle.wax_lazy.specs.inner.Cached.{IsCacheOf, IsChain}
 use Rattle.wax_states.specs.States.{HasState, places_or_none}

@@ -25,18 +25,21 @@ returns-then-self-clause-decides c =
 
 pub invariant_of-self : goal.invariant_of-self
 invariant_of-self c = (
-  subst (λ code. AcceptsMeant code c.self.inside.glob.now) (sym c.is_match_metered.ensures.same) c.self.invariant.0,
+  subst (λ code. AcceptsMeant code c.self.inside.glob.now) (sym c.is_match_metered.ensures.same)
+      c.self.invariant.0,
   c.self.invariant.1,
-  c.self.invariant.2.0,
+  c.self.invariant.2,
   subst (λ (code : List Instruction). length code < program_length c.self.inside.glob.now.tree)
-      (sym c.is_match_metered.ensures.same) c.self.invariant.2.1,
+      (sym c.is_match_metered.ensures.same) c.self.invariant.3,
 )
 
 pub returns-clause-means : goal.returns-clause-means
 returns-clause-means c =
     let text = chars c.as_str-text.result.now in
-    let here = same_answer c.is_match_metered.result _ _ (c.self.invariant.0 text) c.is_match_metered.ensures.decides in
-    let there = subst (λ g. IfOk c.is_match_metered.result (λ b. IsTrue b ↔ IsMeant g text)) c.self.view_is here in
+    let here = same_answer c.is_match_metered.result _ _ (c.self.invariant.0 text)
+    c.is_match_metered.ensures.decides in
+    let there =
+    subst (λ g. IfOk c.is_match_metered.result (λ b. IsTrue b ↔ IsMeant g text)) c.self.view_is here in
     subst (λ z. IfOk c.is_match_metered.result (λ b. IsTrue b ↔ IsMeant c.args.self.now z))
     c.as_str-text.ensures there
 
@@ -49,7 +52,7 @@ pub returns-clause-above : goal.returns-clause-above
 returns-clause-above c =
     let m = c.is_match_metered in
     let size = program_length c.self.inside.glob.now.tree in
-    let within = path_within c.self.inside.matcher size c.self.invariant.2.1
+    let within = path_within c.self.inside.matcher size c.self.invariant.3
     (length (chars c.as_str-text.result.now)) c.args.meter.now m.new.meter m.ensures.above in
     let there = subst (λ n. m.new.meter ≤ c.args.meter.now + path_visits size n)
     (ap length c.as_str-text.ensures) within in

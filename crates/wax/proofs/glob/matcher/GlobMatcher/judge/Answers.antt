@@ -12,21 +12,24 @@ accepts c = subst (AcceptsMeant c.self.inside.matcher) c.self.view_is c.self.inv
 
 pub invariant_of-self : goal.invariant_of-self
 invariant_of-self c = (
-  subst (λ code. AcceptsMeant code c.self.inside.glob.now) (sym c.verdict_metered.ensures.same) c.self.invariant.0,
+  subst (λ code. AcceptsMeant code c.self.inside.glob.now) (sym c.verdict_metered.ensures.same)
+      c.self.invariant.0,
   c.self.invariant.1,
-  c.self.invariant.2.0,
+  c.self.invariant.2,
   subst (λ (code : List Instruction). length code < program_length c.self.inside.glob.now.tree)
-      (sym c.verdict_metered.ensures.same) c.self.invariant.2.1,
+      (sym c.verdict_metered.ensures.same) c.self.invariant.3,
 )
 
 pub returns-clause-decides : goal.returns-clause-decides
 returns-clause-decides c =
-    verdict_decides c.args.self.now.tree c.self.inside.matcher (accepts c) c.verdict_metered.result c.args.most _
+    verdict_decides c.args.self.now.tree c.self.inside.matcher (accepts c) c.verdict_metered.result
+    c.args.most _
     c.args.path.now c.as_str.ensures c.verdict_metered.ensures.decides
 
 pub returns-clause-onward : goal.returns-clause-onward
 returns-clause-onward c =
-    verdict_onward c.args.self.now.tree c.self.inside.matcher (accepts c) c.verdict_metered.result c.args.most _
+    verdict_onward c.args.self.now.tree c.self.inside.matcher (accepts c) c.verdict_metered.result
+    c.args.most _
     c.args.path.now c.as_str.ensures c.verdict_metered.ensures.decides
 
 pub returns-clause-above : goal.returns-clause-above
@@ -34,7 +37,7 @@ returns-clause-above c =
     let m = c.verdict_metered in
     let size = program_length c.self.inside.glob.now.tree in
     let most = c.args.most in
-    let within = verdict_within c.self.inside.matcher size c.self.invariant.2.1 most
+    let within = verdict_within c.self.inside.matcher size c.self.invariant.3 most
     (length (chars c.as_str.result.now)) c.args.meter.now m.new.meter m.ensures.above in
     let there = subst (λ n. m.new.meter ≤ c.args.meter.now + first_visits size most + path_visits size n)
     (ap length c.as_str.ensures) within in

@@ -17,6 +17,7 @@ returns-clause-onward c =
 
 pub returns-clause-above : goal.returns-clause-above
 returns-clause-above c =
-    subst (λ g. c.verdict_cached.new.meter ≤ c.args.meter.now + first_visits (program_length g.tree) c.args.most
+    subst (λ g. c.verdict_cached.new.meter ≤ c.args.meter.now + first_visits (program_length g.tree)
+    c.args.most
     + path_visits (program_length g.tree) (length c.args.path.now)) c.self.view_is
     c.verdict_cached.ensures.above

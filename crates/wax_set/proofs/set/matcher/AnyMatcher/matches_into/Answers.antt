@@ -17,6 +17,7 @@ invariant_of-self c = (
   c.self.invariant.0,
   subst (IsNumbered c.self.inside.any.now) (sym c.list_numbers.ensures.same) c.self.invariant.1,
   c.self.invariant.2,
+  c.self.invariant.3,
 )
 
 pub returns-clause-matches : goal.returns-clause-matches

@@ -1,8 +1,10 @@
-use Rattle.std.proofs.Common.{◌↔◌, IfOk, IsTrue, false, subst}
+use Rattle.std.proofs.Common.{◌↔◌, ◌+◌, ◌≤◌, IfOk, IsTrue, false, length, subst}
+use Rattle.wax_lazy.specs.Cost.{path_visits}
+use Rattle.wax_token.specs.Cost.{program_length}
 use Rattle.wax_token.specs.Decided.{means_tested}
 use Rattle.wax_set.specs.Sets.{MeansText}
 use Rattle.wax_set.proofs.Matchers.{decided_alike}
-use Rattle.wax_set.proofs.set.owned.OwnedAnyMatcher.is_match.Goals as goal
+use Rattle.wax_set.proofs.set.owned.OwnedAnyMatcher.is_match_metered.Goals as goal
 
 pub returns-clause-means : goal.returns-clause-means
 returns-clause-means c =
@@ -13,3 +15,9 @@ pub returns-clause-decides : goal.returns-clause-decides
 returns-clause-decides c =
     decided_alike c.is_match_cached.result _ (means_tested c.args.self.now false false c.args.path.now)
     (returns-clause-means c)
+
+pub returns-clause-above : goal.returns-clause-above
+returns-clause-above c =
+    subst (λ t. c.is_match_cached.new.meter
+    ≤ c.args.meter.now + path_visits (program_length t) (length c.args.path.now)) c.self.view_is
+    c.is_match_cached.ensures.above
