@@ -8,8 +8,9 @@ use Rattle.std.proofs.lemmas.Str.{IsCharBoundary-from_drop, IsUtf8-take, chars-a
 use Rattle.std.proofs.lemmas.List.{take-append-drop}
 use Rattle.std.specs.Str.{IsUtf8, chars}
 use Rattle.wax_lazy.specs.Cost.{char_visits, end_visits, fill_visits, list_visits, match_visits}
-use Rattle.wax_lazy.specs.Cost.{first_visits, letters_visits, path_visits, step_visits, text_visits}
-use Rattle.wax_program.specs.Visits.{onward_visits, sweeps_visits}
+use Rattle.wax_lazy.specs.Cost.{first_visits, letters_visits, numbers_visits, path_visits}
+use Rattle.wax_lazy.specs.Cost.{step_visits, text_visits}
+use Rattle.wax_program.specs.Visits.{flags_visits, onward_visits}
 use Rattle.wax_program.specs.declared.instruction.Instruction.{Instruction}
 use Rattle.wax_program.specs.Last.{IsLastName}
 
@@ -88,6 +89,15 @@ module _ (code : List Instruction) where
   unfolding end_visits
   end_large large = sym (cond_above (length code) 256 (length code) (3 * length code) _ large refl)
 
+  pub numbers_small : length code < 256 → numbers_visits code ≡ 2 * length code + 1
+  unfolding numbers_visits
+  numbers_small small = sym (cond_below (length code) 256 (2 * length code + 1) (5 * length code + 2) small)
+
+  pub numbers_large : 256 ≤ length code → numbers_visits code ≡ 5 * length code + 2
+  unfolding numbers_visits
+  numbers_large large =
+      sym (cond_above (length code) 256 (2 * length code + 1) (5 * length code + 2) _ large refl)
+
   pub letters_small : length code < 256 → letters_visits code ≡ 0
   unfolding letters_visits
   letters_small small = sym (cond_below (length code) 256 0 (length code) small)
@@ -117,10 +127,10 @@ module _ (code : List Instruction) where
   ]
 
   -- the numbers at the end of a text, and the letters
-  ends_char : letters_visits code + (2 * length code + 1) ≤ char_visits code + (length code + 1)
+  ends_char : letters_visits code + numbers_visits code ≤ char_visits code + (length code + 1)
   ends_char = elim (cases_lt (length code) 256) [
-    | inl small ↦ omega (arith, char_small small, letters_small small)
-    | inr large ↦ omega (arith, char_large large, letters_large large)
+    | inl small ↦ omega (arith, char_small small, letters_small small, numbers_small small)
+    | inr large ↦ omega (arith, char_large large, letters_large large, numbers_large large)
   ]
 
   -- a step from all places of a state
@@ -149,7 +159,7 @@ module _ (code : List Instruction) where
 
   -- a text and the numbers of its end
   pub listed_within : (k m old new : ℕ) → k ≤ m
-      → new ≤ old + text_visits code k + (2 * length code + 1) → new ≤ old + list_visits code m
+      → new ≤ old + text_visits code k + numbers_visits code → new ≤ old + list_visits code m
   listed_within k m old new le h =
       let a : char_visits code * k ≤ char_visits code * m =
       mul-le-mul_left (char_visits code) (let e : k ≤ m = le in e) in
@@ -185,24 +195,18 @@ module _ (code : List Instruction) (len : ℕ) (longer : length code < len) wher
       mul-le-mul_right (m + 1) (let e : char_visits code ≤ all = char_len in e) in
       omega (arith, a, h)
 
-  sweeps_len : sweeps_visits code ≤ 3 * len * (3 * len + 1)
-  unfolding sweeps_visits
-  sweeps_len =
-      let a : 3 * length code * (3 * (length code + 1) + 1) ≤ 3 * len * (3 * (length code + 1) + 1) =
-      mul-le-mul_right (3 * (length code + 1) + 1)
-      (let e : 3 * length code ≤ 3 * len = omega (arith, longer) in e) in
-      let b : 3 * len * (3 * (length code + 1) + 1) ≤ 3 * len * (3 * len + 1) =
-      mul-le-mul_left (3 * len)
-      (let e : 3 * (length code + 1) + 1 ≤ 3 * len + 1 = omega (arith, longer) in e) in
-      omega (arith, a, b)
+  flags_len : flags_visits code ≤ 11 * len
+  unfolding flags_visits
+  flags_len = omega (arith, longer)
 
   first_len : (most : Option ℕ) → onward_visits code most ≤ first_visits len most
   unfolding first_visits
-  first_len None = omega (arith, longer, sweeps_len)
+  first_len None = omega (arith, longer, flags_len)
   first_len (Some most) =
-      let a : sweeps_visits code * (most + 1) ≤ 3 * len * (3 * len + 1) * (most + 1) =
-      mul-le-mul_right (most + 1) (let e : sweeps_visits code ≤ 3 * len * (3 * len + 1) = sweeps_len in e) in
-      omega (arith, a, longer)
+      let all : flags_visits code * (most + 1) ≤ 11 * len * (most + 1) =
+      mul-le-mul_right (most + 1) (let e : flags_visits code ≤ 11 * len = flags_len in e) in
+      let once : len * 1 ≤ len * (most + 1) = mul-le-mul_left len (let e : 1 ≤ most + 1 = omega arith in e) in
+      grind (arith, all, once, longer)
 
   pub verdict_within : (most : Option ℕ) (m old new : ℕ)
       → new ≤ old + onward_visits code most + match_visits code m

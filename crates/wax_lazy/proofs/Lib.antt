@@ -2,6 +2,8 @@ pub mod Ahead
 pub mod Caches
 pub mod Chains
 pub mod Costs
+pub mod Joining
+pub mod Merging
 pub mod Numbering
 pub mod RowCells
 pub mod Tables

@@ -36,6 +36,10 @@ fill_visits code = cond (nat_lt (length code) 256) (length code + 1) (7 * length
 unfoldable pub end_visits : List Instruction → ℕ
 end_visits code = cond (nat_lt (length code) 256) (length code) (3 * length code)
 
+-- to find the numbers of the patterns as which a text may end in a state
+unfoldable pub numbers_visits : List Instruction → ℕ
+numbers_visits code = cond (nat_lt (length code) 256) (2 * length code + 1) (5 * length code + 2)
+
 -- a matcher keeps at most so many states
 abbrev pub most_kept : ℕ
 most_kept = 65533
@@ -47,5 +51,5 @@ path_visits len n = cond (nat_lt 256 len) (9 * len) len * (n + 1)
 
 -- to find first what leads on, with any number of names, or for each limit up to the greatest one
 unfoldable pub first_visits : ℕ → Option ℕ → ℕ
-first_visits len None = len + 3 * len * (3 * len + 1)
-first_visits len (Some most) = len + 3 * len * (3 * len + 1) * (most + 1)
+first_visits len None = 12 * len
+first_visits len (Some most) = 12 * len * (most + 1)

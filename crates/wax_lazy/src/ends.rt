@@ -2,7 +2,7 @@
 ghost use Rattle.std.specs.Prelude.{◌≡◌, ◌+◌, ◌*◌, ◌≤◌, ◌↔◌, ◌/◌, ℕ, List, IfOk, IfSome, IsTrue, chars};
 ghost use Rattle.std.specs.Prelude.{length};
 ghost use Rattle.wax_states.specs.States.{HasState, state_of};
-ghost use Rattle.wax_lazy.specs.Cost.{end_visits, text_visits};
+ghost use Rattle.wax_lazy.specs.Cost.{end_visits, numbers_visits, text_visits};
 ghost use Rattle.wax_lazy.specs.inner.Cached.{AnyAhead, IsAheadVerdict, IsCacheOf, KeepsCache, LeadsText};
 ghost use Rattle.wax_lazy.specs.inner.Cached.{numbers_at};
 ghost use Rattle.wax_lazy.specs.Numbers.{AreNumbersFrom};
@@ -54,7 +54,7 @@ pub(crate) fn find_numbers(
     ensures numbers { let text = chars text.now in
         IfOk result (λ at. AreNumbersFrom program.now.0 cache.old.start text (numbers_at cache.new at)) }
     ensures above { let all = text_visits program.now.0 (length (chars text.now)) in
-        meter.new ≤ meter.old + all + (2 * length program.now.0 + 1) }
+        meter.new ≤ meter.old + all + numbers_visits program.now.0 }
     ensures steady { meter.old ≤ meter.new }
 {
     match follow_text(program, cache, text, meter)? {

@@ -7,6 +7,7 @@ mod dfa;
 mod ends;
 mod following;
 mod matcher;
+mod numbers;
 mod once;
 mod rows;
 

@@ -3,6 +3,7 @@ pub mod BitFlags
 pub mod Deciding
 pub mod Finding
 pub mod Folded
+pub mod Jumping
 pub mod LastNames
 pub mod Leading
 mod Limits
@@ -14,6 +15,7 @@ pub mod Opens
 pub mod Others
 pub mod Reading
 pub mod Scalars
+pub mod Settling
 mod Slashes
 pub mod Staying
 pub mod Steps

@@ -1,7 +1,7 @@
 -- Flags of the places whose test a character other than `/` passes.
-use Rattle.std.proofs.Common.{◌≡◌, ◌↔◌, ◌⊎◌, ℕ, ◌+◌, ◌<◌, ◌≤◌, Bool, true, false, IsTrue, List, Option, Some}
-use Rattle.std.proofs.Common.{length, set, slice_get, inl, inr, subst, sym, ◌∙◌, arith, length-set}
-use Rattle.std.proofs.lemmas.Bool.{cases_eq, cases_lt}
+use Rattle.std.proofs.Common.{◌≡◌, ◌↔◌, ℕ, ◌+◌, ◌<◌, ◌≤◌, Bool, true, false, IsTrue, List, Some}
+use Rattle.std.proofs.Common.{length, set, slice_get, inl, inr, subst, sym, ◌∙◌, arith}
+use Rattle.std.proofs.lemmas.Bool.{cases_eq}
 use Rattle.std.proofs.lemmas.Option.{slice_get_within}
 use Rattle.wax_program.specs.Onward.{AreOthers, TakesOther}
 use Rattle.wax_program.specs.Places.{HoldsPlace}

@@ -1,5 +1,5 @@
 -- Which tests a character passes, as decided facts.
-use Rattle.std.proofs.Common.{◌≡◌, ◌≢◌, ◌↔◌, ◌<◌, ℕ, zero, suc, inl, inr, subst, arith}
+use Rattle.std.proofs.Common.{◌↔◌, ◌<◌, ℕ, zero, suc, inl, inr, subst, arith}
 use Rattle.std.proofs.lemmas.Bool.{cases_eq}
 use Rattle.unicode.specs.CaseFolding.{simple_fold}
 use Rattle.wax_token.specs.Decided.{Decided, both, is_true}

@@ -2,7 +2,7 @@
 ghost use Rattle.std.specs.Prelude.{◌≡◌, ◌+◌, ◌*◌, ◌<◌, ◌≤◌, ◌↔◌, ℕ, IfOk, IsTrue, List, Some, length};
 ghost use Rattle.wax_program.specs.declared.instruction.Instruction.{Instruction};
 ghost use Rattle.wax_program.specs.Onward.{AreFlagsOf, AreLevelsOf, AreOthers, HasLevel};
-ghost use Rattle.wax_program.specs.Visits.{onward_visits, sweeps_visits};
+ghost use Rattle.wax_program.specs.Visits.{onward_visits, flags_visits};
 ghost use Rattle.wax_program.specs.inner.Leads.{HoldLast, IsNextLevel};
 
 use crate::bits::Set;
@@ -105,7 +105,7 @@ impl Levels {
         requires others { AreOthers program.now.0 others.now }
         ensures levels { AreLevelsOf program.now.0 self.new }
         ensures found { IfOk result (λ _. HasLevel self.new most) }
-        ensures above { meter.new ≤ meter.old + sweeps_visits program.now.0 * (most + 1) }
+        ensures above { meter.new ≤ meter.old + flags_visits program.now.0 * (most + 1) }
         ensures steady { meter.old ≤ meter.new }
     {
         while !self.has(most) {
@@ -126,7 +126,7 @@ impl Levels {
         requires others { AreOthers program.now.0 others.now }
         ensures levels { AreLevelsOf program.now.0 self.new }
         ensures more { IfOk result (λ _. length self.new.levels ≡ length self.old.levels + 1) }
-        ensures above { meter.new ≤ meter.old + sweeps_visits program.now.0 }
+        ensures above { meter.new ≤ meter.old + flags_visits program.now.0 }
         ensures steady { meter.old ≤ meter.new }
     {
         let next = self.next(alloc, program, others, meter)?;
@@ -148,7 +148,7 @@ impl Levels {
         requires room { length program.now.0 < length others.now }
         requires others { AreOthers program.now.0 others.now }
         ensures level { IfOk result (IsNextLevel program.now.0 self.now.levels) }
-        ensures above { meter.new ≤ meter.old + sweeps_visits program.now.0 }
+        ensures above { meter.new ≤ meter.old + flags_visits program.now.0 }
         ensures steady { meter.old ≤ meter.new }
     {
         match self.levels.last() {

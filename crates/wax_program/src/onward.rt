@@ -1,24 +1,27 @@
 //! Which places of a program lead on to an accepted text.
-ghost use Rattle.std.specs.Prelude.{◌≡◌, ◌+◌, ◌*◌, ◌<◌, ◌≤◌, ◌↔◌, ℕ, IfOk, IsFalse, IsTrue, None, Some};
+ghost use Rattle.std.specs.Prelude.{◌≡◌, ◌+◌, ◌*◌, ◌<◌, ◌≤◌, ◌↔◌, ◌⊎◌, ℕ, IfOk, IsFalse, IsTrue, None, Some};
 ghost use Rattle.std.specs.Prelude.{chars, length, option_copied, slice_get};
 ghost use Rattle.wax_program.specs.Machine.{PassesTest};
 ghost use Rattle.wax_program.specs.Onward.{AreFlagsOf, AreOthers, TakesOther, ahead_of, flags_for};
 ghost use Rattle.wax_program.specs.Places.{HoldsPlace};
 ghost use Rattle.wax_program.specs.Tests.{test_of};
-ghost use Rattle.wax_program.specs.Visits.{onward_visits, sweep_visits, sweeps_visits};
+ghost use Rattle.wax_program.specs.Visits.{flags_visits, onward_visits};
 ghost use Rattle.wax_program.specs.declared.instruction.Test.{Test};
 ghost use Rattle.wax_program.specs.declared.instruction.Instruction.{Instruction};
 ghost use Rattle.wax_program.specs.declared.instruction.Instruction.TheVariants.{Components};
 ghost use Rattle.wax_program.specs.inner.Leads.{AreFlagsAfter, Gains, HaveRoom, Holds, HoldsAfter};
-ghost use Rattle.wax_program.specs.inner.Leads.{HoldsByOther, IsClosedAt, IsClosedFor, LeadsBy, LeadsOn};
+ghost use Rattle.wax_program.specs.inner.Leads.{HoldsByOther, LeadsBy, LeadsOn};
+ghost use Rattle.wax_program.specs.inner.Spreads.{HasFlagOf, HasReached};
 ghost use Rattle.wax_program.specs.inner.Leads.{Marks, earlier_flags, flag_count, onward_by_slash};
-ghost use Rattle.wax_program.specs.declared.onward.Ahead.TheVariants.{Rest};
+ghost use Rattle.wax_program.specs.declared.onward.Ahead.TheVariants.{Below, Path, Rest};
 
 use crate::bits::Set;
 use crate::instruction::{Instruction, Test};
+use crate::jumps::Jumps;
 use crate::last::last_name;
 use crate::loops::test_at;
-use crate::machine::{CompiledProgram, Meter, Visits};
+use crate::machine::{CompiledProgram, Meter};
+use crate::spreading::Spreading;
 use std::alloc::{AllocError, Global};
 use std::marker::Model;
 
@@ -60,12 +63,12 @@ impl Ahead {
 
 /// What the flags of a program's places are found from.
 #[derive(Clone, Copy)]
-struct Basis<'a> {
-    program: &'a CompiledProgram,
+pub(crate) struct Basis<'a> {
+    pub(crate) program: &'a CompiledProgram,
     /// The places whose instruction has a test that a character other than `/` passes.
-    others: &'a Set,
+    pub(crate) others: &'a Set,
     /// The flags for one name fewer, if there is a limit.
-    earlier: Option<&'a Onward>,
+    pub(crate) earlier: Option<&'a Onward>,
 }
 
 /// The places of a program from which some text of each of these kinds is accepted, with any number
@@ -115,7 +118,7 @@ impl Onward {
         requires room { length program.now.0 < length others.now }
         requires others { AreOthers program.now.0 others.now }
         ensures flags { IfOk result (AreFlagsOf program.now.0 None) }
-        ensures above { meter.new ≤ meter.old + sweeps_visits program.now.0 }
+        ensures above { meter.new ≤ meter.old + flags_visits program.now.0 }
         ensures steady { meter.old ≤ meter.new }
     {
         let basis = Basis {
@@ -137,7 +140,7 @@ impl Onward {
         requires room { length program.now.0 < length others.now }
         requires others { AreOthers program.now.0 others.now }
         ensures flags { IfOk result (AreFlagsAfter program.now.0 (Some earlier.now)) }
-        ensures above { meter.new ≤ meter.old + sweeps_visits program.now.0 }
+        ensures above { meter.new ≤ meter.old + flags_visits program.now.0 }
         ensures steady { meter.old ≤ meter.new }
     {
         let basis = Basis {
@@ -148,21 +151,26 @@ impl Onward {
         Onward::find(alloc, &basis, meter)
     }
 
-    /// Finds them: goes through the program from its end until no place is added. That reads each
-    /// instruction at most three times for each loop that lies within another. What is proved is
-    /// quadratic: each time but the last adds one of three flags of a place.
+    /// Finds them: settles each place from the last one on, and then the places that lead to those
+    /// whose flags are new, until none is. Reads each instruction at most eleven times, however the
+    /// loops of the program lie within each other.
     fn find(alloc: Global, basis: &Basis<'_>, meter: &mut Meter) -> Result<Onward, AllocError>
         requires room { length basis.now.program.now.0 < length basis.now.others.now }
         requires others { AreOthers basis.now.program.now.0 basis.now.others.now }
         ensures flags { IfOk result
             (AreFlagsAfter basis.now.program.now.0 (option_copied basis.now.earlier)) }
-        ensures above { meter.new ≤ meter.old + sweeps_visits basis.now.program.now.0 }
+        ensures above { meter.new ≤ meter.old + flags_visits basis.now.program.now.0 }
         ensures steady { meter.old ≤ meter.new }
     {
         let mut onward = Onward::empty(alloc, basis.program)?;
         onward.insert(Ahead::Rest, basis.program.size());
-        while onward.sweep(basis, meter) {}
-        Ok(onward)
+        let jumps = Jumps::new(alloc, basis.program, meter)?;
+        let mut spreading = Spreading::new(alloc, onward);
+        spreading.spread_to_all(basis, meter)?;
+        while let Some(at) = spreading.due.pop() {
+            spreading.spread_from(basis, &jumps, at, meter)?;
+        }
+        Ok(spreading.onward)
     }
 
     /// Returns whether each place that goes on in a name does so by the other flags, too.
@@ -316,9 +324,38 @@ impl Onward {
             || self.holds_after(m.onward_by_slash(), at + 1)
     }
 
-    /// Adds a flag to a place if it is missing and the instruction leads to one that has it. Returns
+    /// Adds a flag to a place if it is missing and its instruction leads to one that has it. Returns
     /// whether it was added.
-    fn mark(&mut self, basis: &Basis<'_>, m: Ahead, at: usize, meter: &mut Meter) -> bool
+    fn mark(
+        &mut self,
+        basis: &Basis<'_>,
+        instruction: &Instruction,
+        takes_other: bool,
+        m: Ahead,
+        at: usize,
+    ) -> bool
+        requires size { self.old.size ≡ length basis.now.program.now.0 }
+        requires is { slice_get basis.now.program.now.0 at ≡ Some instruction.now }
+        requires other { (t : Test) → test_of instruction.now ≡ Some t
+            → IsTrue takes_other ↔ TakesOther t }
+        ensures gains { Gains basis.now.program.now.0 (option_copied basis.now.earlier) self.old self.new }
+        ensures more { IsTrue result → flag_count self.old < flag_count self.new }
+        ensures few { IsTrue result → flag_count self.new ≤ 3 * (self.new.size + 1) }
+        ensures same { IsFalse result → self.new ≡ self.old }
+        ensures reached { LeadsOn instruction.now (option_copied basis.now.earlier) self.old m at
+            → Holds self.new m at }
+        ensures here { (n : Ahead) → (k : ℕ) → Holds self.new n k → Holds self.old n k ⊎ (k ≡ at) }
+    {
+        if self.holds(m, at) || !self.leads(basis, instruction, takes_other, m, at) {
+            return false;
+        }
+        self.insert(m, at);
+        true
+    }
+
+    /// Adds each flag to a place that is missing, where its instruction leads to one that has it.
+    /// Reads that instruction. Returns whether a flag was added.
+    pub(crate) fn settle(&mut self, basis: &Basis<'_>, at: usize, meter: &mut Meter) -> bool
         requires size { self.old.size ≡ length basis.now.program.now.0 }
         requires room { length basis.now.program.now.0 < length basis.now.others.now }
         requires others { AreOthers basis.now.program.now.0 basis.now.others.now }
@@ -327,76 +364,34 @@ impl Onward {
         ensures more { IsTrue result → flag_count self.old < flag_count self.new }
         ensures few { IsTrue result → flag_count self.new ≤ 3 * (self.new.size + 1) }
         ensures same { IsFalse result → self.new ≡ self.old }
-        ensures closed { IsFalse result
-            → IsClosedFor basis.now.program.now.0 (option_copied basis.now.earlier) self.old m at }
+        ensures reached { let earlier = option_copied basis.now.earlier in
+            HasReached basis.now.program.now.0 earlier self.old self.new at }
+        ensures here { (n : Ahead) → (k : ℕ) → Holds self.new n k → Holds self.old n k ⊎ (k ≡ at) }
         ensures above { meter.new ≤ meter.old + 1 }
         ensures steady { meter.old ≤ meter.new }
     {
-        if self.holds(m, at) {
-            return false;
-        }
-        let mut visits = Visits::new();
-        let instruction = basis.program.fetch(at, &mut visits);
-        let takes_other = basis.others.contains(at);
-        let leads = self.leads(basis, instruction, takes_other, m, at);
-        meter.add(visits);
-        if leads {
-            self.insert(m, at);
-        }
-        leads
+        let instruction = basis.program.read(at, meter);
+        let other = basis.others.contains(at);
+        let rest = self.mark(basis, instruction, other, Ahead::Rest, at);
+        let path = self.mark(basis, instruction, other, Ahead::Path, at);
+        let below = self.mark(basis, instruction, other, Ahead::Below, at);
+        rest || path || below
     }
 
-    /// Adds each flag to a place that is missing, where the instruction leads to one that has it.
-    /// Returns whether one was added.
-    fn settle(&mut self, basis: &Basis<'_>, at: usize, meter: &mut Meter) -> bool
-        requires size { self.old.size ≡ length basis.now.program.now.0 }
-        requires room { length basis.now.program.now.0 < length basis.now.others.now }
-        requires others { AreOthers basis.now.program.now.0 basis.now.others.now }
-        requires below { at < length basis.now.program.now.0 }
-        ensures gains { Gains basis.now.program.now.0 (option_copied basis.now.earlier) self.old self.new }
-        ensures more { IsTrue result → flag_count self.old < flag_count self.new }
-        ensures few { IsTrue result → flag_count self.new ≤ 3 * (self.new.size + 1) }
-        ensures same { IsFalse result → self.new ≡ self.old }
-        ensures closed { IsFalse result
-            → IsClosedAt basis.now.program.now.0 (option_copied basis.now.earlier) self.old at }
-        ensures above { meter.new ≤ meter.old + 3 }
-        ensures steady { meter.old ≤ meter.new }
+    /// Returns whether a place has each flag of another one.
+    pub(crate) fn has_flags_of(&self, at: usize, other: usize) -> bool
+        ensures { let HasEach = λ (m : Ahead). HasFlagOf self.now m at other in
+            IsTrue result ↔ (HasEach Rest × (HasEach Path × HasEach Below)) }
     {
-        if self.mark(basis, Ahead::Rest, at, meter) {
-            self.mark(basis, Ahead::Path, at, meter);
-            self.mark(basis, Ahead::Below, at, meter);
-            return true;
-        }
-        if self.mark(basis, Ahead::Path, at, meter) {
-            self.mark(basis, Ahead::Below, at, meter);
-            return true;
-        }
-        self.mark(basis, Ahead::Below, at, meter)
+        self.has_flag_of(Ahead::Rest, at, other)
+            && self.has_flag_of(Ahead::Path, at, other)
+            && self.has_flag_of(Ahead::Below, at, other)
     }
 
-    /// Does this for each place, from the last one on. Returns whether a flag was added.
-    fn sweep(&mut self, basis: &Basis<'_>, meter: &mut Meter) -> bool
-        requires size { self.old.size ≡ length basis.now.program.now.0 }
-        requires room { length basis.now.program.now.0 < length basis.now.others.now }
-        requires others { AreOthers basis.now.program.now.0 basis.now.others.now }
-        ensures gains { Gains basis.now.program.now.0 (option_copied basis.now.earlier) self.old self.new }
-        ensures more { IsTrue result → flag_count self.old < flag_count self.new }
-        ensures few { IsTrue result → flag_count self.new ≤ 3 * (self.new.size + 1) }
-        ensures same { IsFalse result → self.new ≡ self.old }
-        ensures closed { IsFalse result → (k : ℕ) → k < length basis.now.program.now.0
-            → IsClosedAt basis.now.program.now.0 (option_copied basis.now.earlier) self.old k }
-        ensures above { meter.new ≤ meter.old + sweep_visits basis.now.program.now.0 }
-        ensures steady { meter.old ≤ meter.new }
+    fn has_flag_of(&self, m: Ahead, at: usize, other: usize) -> bool
+        ensures { IsTrue result ↔ HasFlagOf self.now m at other }
     {
-        let mut added = false;
-        let mut at = basis.program.size();
-        while at > 0 {
-            at -= 1;
-            if self.settle(basis, at, meter) {
-                added = true;
-            }
-        }
-        added
+        self.holds(m, at) || !self.holds(m, other)
     }
 }
 

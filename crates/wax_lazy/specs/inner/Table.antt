@@ -1,10 +1,10 @@
 -- What a table of states says of a program.
-use Rattle.std.specs.Prelude.{◌≡◌, ℕ, ◌+◌, ◌*◌, ◌<◌, ◌≤◌, ◌⊎◌, ◌↔◌, List, [], Option, Some, None, IfSome}
-use Rattle.std.specs.Prelude.{IsTrue, length, slice_get, slice_index}
+use Rattle.std.specs.Prelude.{◌≡◌, ℕ, ◌+◌, ◌*◌, ◌<◌, ◌≤◌, ◌⊎◌, ◌↔◌, ◌∷◌, List, [], Option, Some, None, IfSome}
+use Rattle.std.specs.Prelude.{Contains, IsTrue, length, slice_get, slice_index}
 use Rattle.std.specs.Global.{Vec}
 use Rattle.wax_lazy.specs.Cost.{most_kept}
 use Rattle.wax_program.specs.declared.instruction.Instruction.{Instruction}
-use Rattle.wax_program.specs.Machine.{Accepts}
+use Rattle.wax_program.specs.Machine.{Accepts, mark}
 use Rattle.wax_program.specs.Threads.{AnyAmong}
 use Rattle.std.specs.List.Sorted.{IsStrictlyIncreasing}
 use Rattle.wax_states.specs.Reached.{AreEndsMarked}
@@ -50,6 +50,11 @@ pub record IsFailureState (code : List Instruction) (states : List State) (place
 -- these are the numbers whose marks are accepted from one of the places on, ascending
 abbrev pub AreNumbersOf : List Instruction → List ℕ → List ℕ → Type 0
 AreNumbersOf code places numbers = AreEndsMarked code places numbers × IsStrictlyIncreasing numbers
+
+-- the numbers of the state `at` are those of the state `rest` and these
+abbrev pub AreJoined : List Instruction → List State → ℕ → List ℕ → ℕ → Type 0
+AreJoined code states at numbers rest = (number : ℕ) → AnyAmong code (places_at states at) (mark number ∷ [])
+    ↔ (Contains numbers number ⊎ AnyAmong code (places_at states rest) (mark number ∷ []))
 
 -- what the state says of texts that end there is right; and if it has a failure state, its places are those
 -- of that state and its own

@@ -1,8 +1,9 @@
-use Rattle.std.proofs.Common.{◌≡◌, Some, refl, sym, ◌∙◌, subst}
-use Rattle.wax_states.specs.States.{places_at, places_in}
-use Rattle.wax_lazy.proofs.Caches.{cache_numbers}
-use Rattle.wax_lazy.proofs.Tables.{known_are, settled_numbers}
-use Rattle.wax_lazy.specs.inner.Table.{AreNumbersOf, numbers_in}
+use Rattle.std.proofs.Common.{IfOk, Some, subst, sym, ◌∙◌}
+use Rattle.wax_lazy.proofs.Joining.{joined_keeps}
+use Rattle.wax_lazy.proofs.Tables.{known_are, placed_keeps, places_keep}
+use Rattle.wax_lazy.specs.inner.Cached.{numbers_at}
+use Rattle.wax_lazy.specs.inner.Table.{AreNumbersOf, KeepsStates, numbers_in}
+use Rattle.wax_states.specs.States.{HasState, places_at, places_in}
 use Rattle.wax_lazy.proofs.cache.Cache.find_numbers.Goals as goal
 
 pub returns-then-is_some-clause-numbers : goal.returns-then-is_some-clause-numbers
@@ -13,52 +14,56 @@ returns-then-is_some-clause-numbers c =
     (c.requires.here.cache.table.rows c.args.state s c.state.ensures).numbers in
     subst (λ o. AreNumbersOf code (places_in o) (numbers_in o)) (sym c.state.ensures) are
 
-pub returns-clause-kept : goal.returns-clause-kept
-returns-clause-kept c =
+pub returns-then-rest-state-clause-numbers : goal.returns-then-rest-state-clause-numbers
+returns-then-rest-state-clause-numbers c =
     let code = c.args.program.now.0 in
-    let ends = c.in_ok-list_ends.ensures in
-    let copied : c.in_ok-numbers.numbers.items ≡ c.list_ends.new.numbers.items =
-    c.in_ok-numbers.ensures.items ∙ c.deref.ensures.value in
-    let are : AreNumbersOf code
-    (places_at c.args.self.now.table.states.items c.args.state) c.in_ok-numbers.numbers.items =
-    subst (AreNumbersOf code (places_at c.args.self.now.table.states.items c.args.state)) (sym copied)
-    (subst (λ z. AreNumbersOf code z c.list_ends.new.numbers.items) (sym c.places-places.ensures)
-    (ends.ends, ends.ascending)) in
+    let found = c.find_all_numbers-2.new.self in
+    let known = subst (λ z. AreNumbersOf code (places_at z.states.items c.in_ok-rest.rest)
+    (numbers_at found (Some c.in_ok-rest.rest))) c.list_own_numbers.ensures.table
+    c.in_ok-find_all_numbers.ensures.numbers in
+    let old = c.args.self.now.table.states.items in
+    subst (λ t. AreNumbersOf code (places_at old t) (numbers_at found (Some t))) c.if-rest-state.true known
+
+pub join_numbers-requires-clause-here : goal.join_numbers-requires-clause-here
+join_numbers-requires-clause-here c =
+    let old = c.args.self.now.table.states.items in
+    let new = c.find_all_numbers-2.new.self.table.states.items in
+    let keeps = subst (λ z. KeepsStates z.states.items new) c.list_own_numbers.ensures.table
+    c.find_all_numbers-2.ensures.states in
     record {
-      cache =
-          cache_numbers code c.args.self.now
-          (record {
-            alloc = c.args.self.now.alloc;
-            stepper = c.list_ends.new.self;
-            table = c.settle_numbers.new.self;
-            rows = c.args.self.now.rows;
-            letters = c.args.self.now.letters;
-            reached = c.args.self.now.reached;
-            others = c.args.self.now.others;
-            loops = c.list_ends.new.numbers;
-            start = c.args.self.now.start;
-            first = c.args.self.now.first;
-            most_bytes = c.args.self.now.most_bytes;
-            bytes = c.saturating_add-self.result;
-            least_read = c.args.self.now.least_read;
-            read = c.args.self.now.read;
-            gives_up = c.args.self.now.gives_up;
-          })
-          c.args.state c.in_ok-numbers.numbers c.requires.here.cache c.settle_numbers.ensures.states are
-          (c.list_ends.ensures.same ∙ c.requires.here.cache.size) refl refl c.settle_numbers.ensures.cells
-          c.settle_numbers.ensures.wide refl c.requires.here.cache.letters;
-      start = refl;
+      cache = c.find_all_numbers-2.ensures.kept.cache;
+      has_state = placed_keeps old new keeps c.args.state c.requires.here.has_state;
     }
+
+pub join_numbers-requires-clause-joined : goal.join_numbers-requires-clause-joined
+join_numbers-requires-clause-joined c =
+    let old = c.args.self.now.table.states.items in
+    let new = c.find_all_numbers-2.new.self.table.states.items in
+    let keeps = subst (λ z. KeepsStates z.states.items new) c.list_own_numbers.ensures.table
+    c.find_all_numbers-2.ensures.states in
+    joined_keeps c.args.program.now.0 old new keeps c.args.state c.in_ok-rest.rest
+    c.list_own_numbers.new.own.items c.requires.here.has_state c.in_ok-rest.ensures.has_state
+    c.in_ok-rest.ensures.joined
+
+pub join_numbers-requires-clause-known : goal.join_numbers-requires-clause-known
+join_numbers-requires-clause-known c =
+    let code = c.args.program.now.0 in
+    let mid = c.list_own_numbers.new.self.table.states.items in
+    let found = c.find_all_numbers-2.new.self in
+    let rest = c.in_ok-rest.rest in
+    let has = subst (λ z. HasState z.states.items rest) (sym c.list_own_numbers.ensures.table)
+    c.in_ok-rest.ensures.has_state in
+    subst (λ z. AreNumbersOf code z (numbers_at found (Some rest)))
+    (sym (places_keep mid found.table.states.items c.find_all_numbers-2.ensures.states rest has))
+    c.in_ok-find_all_numbers.ensures.numbers
 
 pub returns-clause-numbers : goal.returns-clause-numbers
 returns-clause-numbers c =
     let code = c.args.program.now.0 in
-    let places = places_at c.args.self.now.table.states.items c.args.state in
-    let ends = c.in_ok-list_ends.ensures in
-    let copied : c.in_ok-numbers.numbers.items ≡ c.list_ends.new.numbers.items =
-    c.in_ok-numbers.ensures.items ∙ c.deref.ensures.value in
-    let kept = settled_numbers c.args.self.now.table.states.items c.settle_numbers.new.self.states.items
-    c.args.state (λ s. s.accepts) (λ _. Some c.in_ok-numbers.numbers) c.settle_numbers.ensures.states in
-    subst (AreNumbersOf code places) (sym (kept ∙ copied))
-    (subst (λ z. AreNumbersOf code z c.list_ends.new.numbers.items) (sym c.places-places.ensures)
-    (ends.ends, ends.ascending))
+    let old = c.args.self.now.table.states.items in
+    let new = c.find_all_numbers-2.new.self.table.states.items in
+    let keeps = subst (λ z. KeepsStates z.states.items new) c.list_own_numbers.ensures.table
+    c.find_all_numbers-2.ensures.states in
+    subst (λ z. IfOk c.join_numbers.result
+    (λ _. AreNumbersOf code z (numbers_at c.join_numbers.new.self (Some c.args.state))))
+    (places_keep old new keeps c.args.state c.requires.here.has_state) c.join_numbers.ensures.numbers

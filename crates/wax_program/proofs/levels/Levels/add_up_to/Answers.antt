@@ -1,6 +1,6 @@
-use Rattle.std.proofs.Common.{◌+◌, ◌*◌, ◌≤◌, arith, length, rules}
+use Rattle.std.proofs.Common.{◌+◌, ◌≤◌, arith, length, rules}
 use Rattle.wax_program.proofs.Advancing.{spent_within}
-use Rattle.wax_program.specs.Visits.{sweeps_visits}
+use Rattle.wax_program.specs.Visits.{flags_visits}
 use Rattle.wax_program.proofs.levels.Levels.add_up_to.Goals as goal
 
 pub loop-alloc-preserved : goal.loop-alloc-preserved
@@ -23,5 +23,5 @@ loop-alloc-preserved c =
 pub returns-clause-above : goal.returns-clause-above
 returns-clause-above c =
     let (added, held) = c.loop-alloc.invariant in
-    spent_within (sweeps_visits c.args.program.now.0) added (c.args.most + 1) c.args.meter.now
+    spent_within (flags_visits c.args.program.now.0) added (c.args.most + 1) c.args.meter.now
     c.loop-alloc.meter held.few held.above
