@@ -88,6 +88,82 @@ static void texts(void) {
   CHECK(memcmp(output, picture, written) == 0 && output[written] == '#');
 }
 
+typedef int32_t comparison(const char *, size_t, const char *, size_t, size_t, char *, size_t, size_t *, size_t *, wax_span *);
+
+// (the rows are also in crates/wax_vectors/data/worked_compare.tsv, or follow from them)
+static void comparisons(void) {
+  static const struct {
+    comparison *call;
+    const char *first, *second;
+    size_t most_states;
+    int32_t status;
+    const char *path;
+  } rows[] = {
+      {wax_overlap, "**", "**", 100000, 1, "a"},
+      {wax_overlap, "src/**/*.{go,rs}", "**/test_*", 100000, 1, "src/test_.go"},
+      {wax_overlap, "a/**", "a?*", 100000, 0, ""},
+      {wax_overlap, "/usr/**", "**", 100000, 0, ""}, // no path of a walk begins with `/`
+      {wax_overlap, "\xc3\xa9", "*", 100000, 1, "\xc3\xa9"},
+      {wax_overlap, "a", "a", 0, 2, ""},
+      {wax_overlap, "aa", "?a", 2, 2, ""},
+      {wax_difference, "**/a", "a/**", 100000, 1, "b/a"},
+      {wax_difference, "a/**", "**/a", 100000, 1, "a/b"},
+      {wax_difference, "src/*.go", "src/**/*.{go,rs}", 100000, 0, ""},
+      {wax_difference, "**", "{a,b}/**", 100000, 1, "c"},
+      {wax_difference, "aa", "?b", 2, 2, ""},
+      {wax_compare, "{src,tests}/**/*.rs", "{src,tests,benches}/**/*.rs", 100000, 1, "benches/.rs"},
+      {wax_compare, "{src,tests,benches}/**/*.rs", "{src,tests}/**/*.rs", 100000, 1, "benches/.rs"},
+      {wax_compare, "<**/a:1,>", "**/a", 100000, 0, ""},
+      {wax_compare, "aa", "?b", 2, 2, ""},
+  };
+  for (size_t at = 0; at < sizeof rows / sizeof *rows; at++) {
+    char output[40];
+    size_t written = 77, which = 7, length = strlen(rows[at].path);
+    wax_span span = {7, 7};
+    for (size_t room = length ? length - 1 : 0; room <= length + 1; room++) {
+      memset(output, '#', sizeof output);
+      int32_t expected = room < length ? -21 : rows[at].status;
+      int32_t status = rows[at].call(TEXT(rows[at].first), TEXT(rows[at].second), rows[at].most_states, output, room,
+                                     &written, &which, &span);
+      if (status != expected || written != length) {
+        failures++;
+        printf("%s, %s: %d with %zu bytes, and not %d with %zu\n", rows[at].first, rows[at].second, status, written,
+               expected, length);
+        continue;
+      }
+      CHECK(status == 1 ? memcmp(output, rows[at].path, length) == 0 && output[length] == '#' : output[0] == '#');
+      CHECK(which == 2 && span.start == 0 && span.length == 0);
+    }
+  }
+}
+
+// the first expression that has an error is named, with its number and the place
+static void comparison_errors(void) {
+  static comparison *const calls[] = {wax_overlap, wax_difference, wax_compare};
+  static const struct {
+    const char *first, *second;
+    int32_t number;
+    size_t which;
+    wax_span span;
+  } rows[] = {
+      {"a//b", "{a/,b}/c", 2, 0, {1, 2}}, {"a", "a//b", 2, 1, {1, 2}},      {"\xff", "a//b", 20, 0, {0, 0}},
+      {"a", "\xff", 20, 1, {0, 0}},       {"<a*:1000000>", "a", 9, 0, {0, 0}}, {"a/{b,c", "a", 1, 0, {2, 4}},
+  };
+  for (size_t at = 0; at < 3 * sizeof rows / sizeof *rows; at++) {
+    size_t row = at / 3, written = 77, which = 7;
+    wax_span span = {7, 7};
+    char output[1] = "#";
+    int32_t status = calls[at % 3](TEXT(rows[row].first), TEXT(rows[row].second), 100, output, 1, &written, &which, &span);
+    CHECK(status == -rows[row].number && which == rows[row].which && written == 0 && output[0] == '#');
+    if (rows[row].number != 1) CHECK(span.start == rows[row].span.start && span.length == rows[row].span.length);
+    wax_glob *glob;
+    wax_span place;
+    const char *named = which ? rows[row].second : rows[row].first;
+    CHECK(wax_glob_new(TEXT(named), &glob, &place) == status);
+    CHECK(place.start == span.start && place.length == span.length);
+  }
+}
+
 static void globs(void) {
   char output[100];
   size_t written;
@@ -206,6 +282,58 @@ static void sets(void) {
   wax_set_free(set);
 }
 
+/* Looks for a path that two sets of two expressions of 4 bytes each match, with a room of so many bytes. */
+static int32_t common_path(const char *first, const char *second, size_t most_states, size_t room, char *output,
+                           size_t *written) {
+  static const size_t lengths[] = {4, 4};
+  wax_set *one, *other;
+  size_t which;
+  wax_span span;
+  CHECK(wax_set_new(first, 8, lengths, 2, &one, &which, &span) == 0);
+  CHECK(wax_set_new(second, 8, lengths, 2, &other, &which, &span) == 0);
+  int32_t status = wax_set_overlap(one, other, most_states, output, room, written);
+  CHECK(wax_set_is_match(one, TEXT("a/bc")) == !memcmp(first, "a/b*", 4));
+  wax_set_free(one);
+  wax_set_free(other);
+  return status;
+}
+
+static void globs_in_common(void) {
+  char output[9] = "########";
+  size_t written = 77;
+  wax_span span;
+  wax_glob *one, *other;
+  CHECK(wax_glob_new(TEXT("src/**/*.{go,rs}"), &one, &span) == 0);
+  CHECK(wax_glob_new(TEXT("**/a*"), &other, &span) == 0);
+  CHECK(wax_glob_overlap(one, other, 100000, output, 7, &written) == -21 && written == 8);
+  CHECK(!memcmp(output, "########", 8));
+  CHECK(wax_glob_overlap(one, other, 100000, output, 8, &written) == 1 && written == 8);
+  CHECK(!memcmp(output, "src/a.go", 8));
+  CHECK(wax_glob_overlap(one, other, 1, output, 8, &written) == 2 && written == 0);
+  CHECK(wax_glob_is_match(one, TEXT("src/a.go")) == 1);
+  wax_glob_free(other);
+  CHECK(wax_glob_new(TEXT("*.go"), &other, &span) == 0);
+  CHECK(wax_glob_overlap(other, one, 100000, output, 8, &written) == 0 && written == 0);
+  CHECK(!memcmp(output, "src/a.go", 8));
+  wax_glob_free(one);
+  wax_glob_free(other);
+}
+
+static void sets_in_common(void) {
+  char output[9] = "########";
+  size_t written = 77;
+  CHECK(common_path("a/b*c/d*", "*/xyc/dd", 100000, 8, output, &written) == 1);
+  CHECK(written == 4 && !memcmp(output, "c/dd####", 8));
+  memset(output, '#', 8);
+  CHECK(common_path("a/b*c/d*", "*/xyc/dd", 100000, 3, output, &written) == -21);
+  CHECK(written == 4 && !memcmp(output, "########", 8));
+  CHECK(common_path("a/b*c/d*", "x/b*y/d*", 100000, 8, output, &written) == 0);
+  CHECK(written == 0 && !memcmp(output, "########", 8));
+  written = 77;
+  CHECK(common_path("a/b*c/d*", "*/xyc/dd", 1, 8, output, &written) == 2);
+  CHECK(written == 0 && !memcmp(output, "########", 8));
+}
+
 /* A set of so many patterns decides by the program that numbers them. */
 static void large_set(void) {
   enum { MANY = 40 };
@@ -242,7 +370,13 @@ static void lists(void) {
     CHECK(wax_ignore_excludes_below(list, TEXT("built/a")) == 1);
     CHECK(wax_ignore_excludes_below(list, TEXT("x")) == 0);
     CHECK(wax_ignore_excludes_below(list, "", 0) == 0);
+    CHECK(wax_ignore_deciding_line(list, TEXT("y/b.log"), &line) == 1 && line == 0);
+    CHECK(wax_ignore_deciding_line(list, TEXT("x/a.log"), &line) == 1 && line == 1);
+    CHECK(wax_ignore_deciding_line(list, TEXT("built/a.log"), &line) == 1 && line == 2);
+    CHECK(wax_ignore_deciding_line(list, TEXT("a"), &line) == 0 && line == 0);
   }
+  line = 7;
+  CHECK(wax_ignore_deciding_line(list, "\xff", 1, &line) == -20 && line == 0);
   CHECK(wax_ignore_is_ignored(list, "\xff", 1) == -20);
   static const char input[] = "a.log\nx/a.log\n\xff\nb", kept[] = "x/a.log\nb\n";
   char output[20];
@@ -252,6 +386,13 @@ static void lists(void) {
   CHECK(wax_ignore_filter(list, TEXT(input), output, sizeof output, &written) == 0 && written == 10);
   CHECK(memcmp(output, kept, written) == 0 && output[written] == '#');
   CHECK(wax_ignore_excludes_below(list, "\xff", 1) == -20);
+  wax_ignore_free(list);
+  CHECK(wax_ignore_new(TEXT("docs/*.o\n# none\n!keep.c\n**/*.o\na\n"), &list, &line) == 0);
+  size_t found[3] = {7, 7, 7}, count = 7;
+  CHECK(wax_ignore_idle_lines(list, 100000, found, 1, &count) == -21 && count == 2 && found[0] == 7);
+  CHECK(wax_ignore_idle_lines(list, 100000, found, 3, &count) == 0 && count == 2);
+  CHECK(found[0] == 0 && found[1] == 1 && found[2] == 7);
+  CHECK(wax_ignore_idle_lines(list, 0, found, 3, &count) == 2 && count == 0 && found[0] == 0);
   wax_ignore_free(list);
   wax_ignore_free(NULL);
   CHECK(wax_ignore_new(TEXT("a\n\n{b\n{c\n"), &list, &line) == -1 && list == NULL && line == 3);
@@ -305,6 +446,15 @@ static int calls(void) {
   status = wax_picture(TEXT("a//b"), output, sizeof output, &written);
   none += status == -10;
   CHECK(status == 0 ? written > 5 : status == -10 && written == 0);
+  status = wax_overlap(TEXT("a/*"), TEXT("*/b"), 1000, output, sizeof output, &written, &line, &span);
+  none += status == -10;
+  CHECK(status == 1 ? written == 3 : status == -10 && written == 0);
+  status = wax_difference(TEXT("a/*"), TEXT("*/b"), 1000, output, sizeof output, &written, &line, &span);
+  none += status == -10;
+  CHECK(status == 1 ? written == 3 : status == -10 && written == 0);
+  status = wax_compare(TEXT("a/*"), TEXT("a/**"), 1000, output, sizeof output, &written, &line, &span);
+  none += status == -10;
+  CHECK(status == 1 ? written == 1 : status == -10 && written == 0);
   status = wax_set_new(TEXT("*.ca/**"), (size_t[]){3, 4}, 2, &set, &line, &span);
   none += status == -10;
   CHECK(status == 0 ? set != NULL && line == 2 : status == -10 && set == NULL);
@@ -318,6 +468,16 @@ static int calls(void) {
     status = wax_set_goes_on(set, TEXT("b"));
     none += status == -10;
     CHECK(status == 0 || status == -10);
+    wax_set *other;
+    status = wax_set_new(TEXT("a/b"), (size_t[]){3}, 1, &other, &line, &span);
+    none += status == -10;
+    CHECK(status == 0 ? other != NULL : status == -10 && other == NULL);
+    if (other) {
+      status = wax_set_overlap(set, other, 1000, output, sizeof output, &written);
+      none += status == -10;
+      CHECK(status == 1 ? written == 3 : status == -10 && written == 0);
+    }
+    wax_set_free(other);
   }
   wax_set_free(set);
   status = wax_ignore_new(TEXT("**/*.log\n!x/**\n"), &list, &line);
@@ -333,6 +493,12 @@ static int calls(void) {
     status = wax_ignore_excludes_below(list, TEXT("x"));
     none += status == -10;
     CHECK(status == 0 || status == -10);
+    status = wax_ignore_deciding_line(list, TEXT("x/b.log"), &line);
+    none += status == -10;
+    CHECK(status == 1 ? line == 1 : status == -10 && line == 0);
+    status = wax_ignore_idle_lines(list, 1000, lengths, 4, &count);
+    none += status == -10;
+    CHECK((status == 0 || status == -10) && count == 0);
   }
   wax_ignore_free(list);
   return none;
@@ -360,7 +526,7 @@ int main(int count, char **words) {
   if (count > 1 && !strcmp(words[1], "fail")) {
     failing();
   } else {
-    expressions(), errors(), filters(), texts(), globs(), captures(), parts(), sets(), large_set(), lists();
+    expressions(), errors(), filters(), texts(), comparisons(), comparison_errors(), globs(), captures(), parts(), sets(), globs_in_common(), sets_in_common(), large_set(), lists();
     CHECK(wax_blocks() == 0);
   }
   printf("%ld checks failed\n", failures);

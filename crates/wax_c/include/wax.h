@@ -8,7 +8,8 @@
  *
  * Each text is passed as a pointer and a length in bytes. It has to be UTF-8, and needs no zero byte at its end.
  *
- * A function that returns an int32_t returns 1 or 0 for yes or no, 0 for success, or minus the number of an error:
+ * A function that returns an int32_t returns 1 or 0 for yes or no, 0 for success, or minus the number of an error (and
+ * those that compare expressions or lines return 2 if they don't decide):
  *
  *     1       the expression can't be parsed
  *     2 to 8  it breaks a rule
@@ -58,13 +59,38 @@ int32_t wax_escape(const char *text, size_t text_length, char *output, size_t ou
 int32_t wax_picture(const char *expression, size_t expression_length, char *output, size_t output_length,
                     size_t *written);
 
-/* A handle of a glob: build it once to match many paths. */
-typedef struct wax_glob wax_glob;
-
 /* A part of an expression, in bytes. */
 typedef struct {
     size_t start, length;
 } wax_span;
+
+/* Looks for a path that both expressions match, among the paths as walks have them: one or more names, with a `/` between
+ * each two. Returns 1 if there is one; a shortest one is then at the beginning of the output, and the number of its bytes
+ * in `written`. Returns 0 if there is none, and 2 if it takes more than `most_states` states to decide, or more than 384
+ * bytes for each of so many; 100000 is a usual limit.
+ *
+ * If an expression has an error, `which` is the index of the first one that has, 0 or 1, and `span` is as for
+ * wax_glob_new; otherwise `which` is 2. After the error 10 it may be any. After the error 21, `written` is the number of
+ * bytes that are needed. In all other cases but 1 it is 0. The output is unchanged in all cases but 1. An output of
+ * 4 * most_states bytes is always large enough, though most paths have only a few. */
+int32_t wax_overlap(const char *first, size_t first_length, const char *second, size_t second_length,
+                    size_t most_states, char *output, size_t output_length, size_t *written, size_t *which,
+                    wax_span *span);
+
+/* Looks for a path that the first expression matches and the second one doesn't, as wax_overlap does. If there is none,
+ * the second one matches all paths of walks that the first one matches. */
+int32_t wax_difference(const char *first, size_t first_length, const char *second, size_t second_length,
+                       size_t most_states, char *output, size_t output_length, size_t *written, size_t *which,
+                       wax_span *span);
+
+/* Looks for a path that exactly one of the expressions matches, as wax_overlap does. If there is none, both match the
+ * same paths of walks. */
+int32_t wax_compare(const char *first, size_t first_length, const char *second, size_t second_length,
+                    size_t most_states, char *output, size_t output_length, size_t *written, size_t *which,
+                    wax_span *span);
+
+/* A handle of a glob: build it once to match many paths. */
+typedef struct wax_glob wax_glob;
 
 /* Builds a glob from an expression, and writes its handle to `out`. After an error the handle is null. After the
  * errors 1 to 8, `span` is the place of the error in the expression; otherwise it is 0 bytes at 0. */
@@ -116,6 +142,11 @@ int32_t wax_glob_text(const wax_glob *glob, char *output, size_t output_length, 
  * is. After an error the new handle is null, and `prefix` and `written` are left as for wax_filter. */
 int32_t wax_glob_partition(const wax_glob *glob, char *prefix, size_t prefix_length, size_t *written, wax_glob **rest);
 
+/* Looks for a path that both globs match, as wax_overlap does for two expressions: it returns 1, 0 or 2, and writes and counts
+ * what that does. It has only the errors 10 and 21. The two handles have to be different ones. */
+int32_t wax_glob_overlap(const wax_glob *first, const wax_glob *second, size_t most_states, char *output,
+                         size_t output_length, size_t *written);
+
 /* Frees a handle. Does nothing if it is null. */
 void wax_glob_free(wax_glob *glob);
 
@@ -141,6 +172,10 @@ int32_t wax_set_matches(wax_set *set, const char *path, size_t path_length, size
 /* Returns 1 if one of the expressions matches the path of something below the folder with this path, 0 if not. */
 int32_t wax_set_goes_on(wax_set *set, const char *folder, size_t folder_length);
 
+/* Looks for a path that both sets match, as wax_glob_overlap does for two globs. */
+int32_t wax_set_overlap(const wax_set *first, const wax_set *second, size_t most_states, char *output,
+                        size_t output_length, size_t *written);
+
 /* Frees a handle. Does nothing if it is null. */
 void wax_set_free(wax_set *set);
 
@@ -162,6 +197,21 @@ int32_t wax_ignore_filter(wax_ignore *list, const char *input, size_t input_leng
 /* Returns 1 if the list ignores everything below the folder with this path, so that a walk needn't open it; 0 if
  * something below it might not be ignored. If a `/` follows the last name of the path, 1 promises nothing. */
 int32_t wax_ignore_excludes_below(const wax_ignore *list, const char *folder, size_t folder_length);
+
+/* If a line of the list matches the path, returns 1, and writes the index of the last such line, which decides whether the
+ * path is ignored, to `line`: from 0, without the lines that are skipped. Returns 0 if no line matches; `line` is 0 then, and
+ * after an error. Each call reads all lines anew, so it takes longer than wax_ignore_is_ignored. */
+int32_t wax_ignore_deciding_line(const wax_ignore *list, const char *path, size_t path_length, size_t *line);
+
+/* Writes the indexes of the lines that decide nothing to the beginning of `lines`, ascending, counted as for
+ * wax_ignore_deciding_line, and their number to `count`. Without these lines, the list ignores the same paths, among the
+ * paths as walks have them: one or more names, with a `/` between each two. Returns 0 if each other line decides some such
+ * path, and 2 if it takes more than `most_states` states to find that out of some line, or more than 384 bytes for each of so
+ * many, or too large a program; 100000 is a usual limit. It has only the errors 10 and 21. After the error 21, `count` is how
+ * many such lines there are; after the error 10 it is 0. `lines` is unchanged after any error. As many elements as the list
+ * has lines are always enough. */
+int32_t wax_ignore_idle_lines(const wax_ignore *list, size_t most_states, size_t *lines, size_t lines_length,
+                              size_t *count);
 
 /* Frees a handle. Does nothing if it is null. */
 void wax_ignore_free(wax_ignore *list);

@@ -1,13 +1,11 @@
 -- Captures that are collected one after another.
 use Rattle.std.proofs.Common.{◌≡◌, ◌≤◌, ℕ, suc, ◌+◌, List, [], ◌∷◌, ◌++◌, Some, None, slice_get, take, length}
 use Rattle.std.proofs.Common.{encode_utf8_all, sym, ◌∙◌, ap, ap₂, append-nil, length-append, take_all, ⊎_elim}
-use Rattle.std.proofs.Common.{arith}
-use Rattle.std.specs.List.{flat_map}
-use Rattle.std.proofs.lemmas.List.{take_more, map-append}
-use Rattle.std.proofs.lemmas.List.Concat.{flat_map-append}
+use Rattle.std.proofs.Common.{arith, IsUtf8, chars}
 use Rattle.std.proofs.lemmas.Option.{none-some, slice_get_within, get_or_from_slice_get, slice_get_cases}
-use Rattle.std.proofs.lemmas.Str.{encodes-chars}
-use Rattle.std.proofs.Common.{IsUtf8, chars}
+use Rattle.std.proofs.{lemmas.List.take_more, lemmas.List.map-append, lemmas.List.Concat.flat_map-append}
+use Rattle.std.proofs.{lemmas.Str.encodes-chars}
+use Rattle.std.specs.List.{flat_map}
 use Rattle.wax_c.specs.Captures.{Texts, texts_of}
 
 take_one_more : {X : Type 0} (xs : List X) (k : ℕ) (x : X) → slice_get xs k ≡ Some x

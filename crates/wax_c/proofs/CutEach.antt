@@ -1,8 +1,8 @@
 -- Bytes that are cut into parts, one after another.
 use Rattle.std.proofs.Common.{◌≡◌, ◌<◌, ℕ, zero, suc, ◌+◌, List, [], ◌∷◌, ◌++◌, Some, slice_get, get_or, take}
 use Rattle.std.proofs.Common.{drop, length, min, refl, sym, ◌∙◌, ap, subst, subst₂, arith}
-use Rattle.std.specs.List.{AllZip}
 use Rattle.std.proofs.lemmas.List.{drop_more, drop_min, take_min}
+use Rattle.std.specs.List.{AllZip}
 use Rattle.wax_c.specs.Sets.{cut_each}
 
 pub length-cut_each : (bytes ns : List ℕ) → length (cut_each bytes ns) ≡ length ns

@@ -1,5 +1,5 @@
 -- How calls that capture end.
-use Rattle.std.specs.Prelude.{◌≡◌, ◌<◌, ◌⊎◌, ℕ, ℤ, Bool, true, false, Result, Ok, Err}
+use Rattle.std.specs.Prelude.{◌≡◌, ◌<◌, ◌≤◌, ◌⊎◌, ℕ, ℤ, pos, neg_ℤ, Bool, true, false, Result, Ok, Err}
 use Rattle.std.specs.Prelude.{List, length, map, IsUtf8, chars, encode_utf8_all}
 use Rattle.std.specs.List.{flat_map}
 use Rattle.wax.specs.GlobView.{GlobView, HasCaptures, IsMeant}
@@ -48,8 +48,10 @@ Captures g path before after count (Err NoRoom) =
 Captures g path before after count (Err NotText) = (IsUtf8 path → ⊥) × (after ≡ before) × (count ≡ 0)
 Captures g path before after count (Err (Build error)) = (error ≡ Memory) × (after ≡ before) × (count ≡ 0)
 
--- the number is that of such an outcome
+-- The number is that of such an outcome. As many bytes as the path has are enough for the texts: if there are
+-- no more captures than lengths, the outputs aren't too small.
 abbrev pub CapturesAs : GlobView → List ℕ → Texts → Texts → ℕ → ℤ → Type 0
 CapturesAs g path before after count number =
     (outcome : Result Bool CallError) × Captures g path before after count outcome
     × (number ≡ answer_number outcome)
+    × (length path ≤ length before.bytes → count ≤ length before.lengths → number ≡ neg_ℤ (pos 21) → ⊥)

@@ -1,11 +1,14 @@
 pub mod Captures
+pub mod Comparing
 pub mod Facts
 pub mod GlobHandles
 pub mod GlobOwned
+pub mod Lines
 pub mod ListHandles
 pub mod ListOwned
 pub mod Numbers
 pub mod Outcomes
+pub mod Overlaps
 pub mod SetOwned
 pub mod Sets
 pub mod Texts

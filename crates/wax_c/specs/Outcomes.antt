@@ -1,6 +1,6 @@
 -- How calls end.
-use Rattle.std.specs.Prelude.{◌≡◌, ◌↔◌, ◌<◌, ◌≤◌, ◌++◌, ℕ, ℤ, Bool, IsTrue, List, length, drop, take}
-use Rattle.std.specs.Prelude.{IsUtf8, chars}
+use Rattle.std.specs.Prelude.{◌≡◌, ◌↔◌, ◌<◌, ◌≤◌, ◌++◌, ℕ, ℤ, pos, neg_ℤ, Bool, IsTrue, List, length}
+use Rattle.std.specs.Prelude.{drop, take, IsUtf8, chars}
 use Rattle.std.specs.Prelude.{Result, Ok, Err}
 use Rattle.std.specs.Prelude.{IfErr, OnErr}
 use Rattle.wax.specs.Headline.{IsGlob, MatchGlob}
@@ -92,6 +92,11 @@ abbrev pub FillsAs : (List ℕ → Type 0) → List ℕ → Output → ℤ → T
 FillsAs Wanted before output number =
     (outcome : Result (Unit {0}) CallError) × Fills Wanted before output outcome
     × KeepsAfterError before output outcome × (number ≡ status_number outcome)
+
+-- so it is, and an output of so many bytes is large enough
+abbrev pub FillsWithin : ℕ → (List ℕ → Type 0) → List ℕ → Output → ℤ → Type 0
+FillsWithin most Wanted before output number =
+    FillsAs Wanted before output number × (most ≤ length before → number ≡ neg_ℤ (pos 21) → ⊥)
 
 -- what a call returns of the characters of these bytes, or that they aren't text
 pub data OfText {A : Type 0} (bytes : List ℕ) (OfCharacters : List ℕ → Result A CallError → Type 0)

@@ -1,5 +1,5 @@
 //! What calls do, with `Result`s in place of numbers.
-ghost use Rattle.std.specs.Prelude.{◌≡◌, IfErr, IfOk, IfSome, MatchResult, OnErr};
+ghost use Rattle.std.specs.Prelude.{◌≡◌, ◌≤◌, ◌+◌, IfErr, IfOk, IfSome, MatchResult, OnErr, length};
 ghost use Rattle.wax_c.specs.Outcomes.{AreLines, Decides, Fills, IsGlobOf, IsNoGlob, SaysGoesOn, SaysMatch};
 ghost use Rattle.wax_c.specs.inner.Spelled.{SpellsOnly};
 
@@ -125,6 +125,8 @@ pub(crate) fn fill(
         (record { bytes = output.new; written = written.new }) result }
     ensures unchanged { OnErr result (output.new ≡ output.old) }
     ensures nothing { IfErr result (λ error. (error ≡ CallError.NoRoom → ⊥) → written.new ≡ 0) }
+    ensures room { length input.now + 1 ≤ length output.old
+        → IfErr result (λ error. error ≡ CallError.NoRoom → ⊥) }
 {
     *written = 0;
     let lines = lines_of(alloc, glob, input)?;

@@ -36,7 +36,8 @@ pub(crate) fn status_of(outcome: &Result<(), CallError>) -> i32
     }
 }
 
-fn number_of(error: &CallError) -> i32
+/// Returns the number of an error.
+pub(crate) fn number_of(error: &CallError) -> i32
     ensures { result ≡ error_number error.now }
 {
     match error {

@@ -1,9 +1,9 @@
 //! Calls that build, use and free handles of globs.
-ghost use Rattle.std.specs.Prelude.{◌≡◌, MatchResult, Option};
+ghost use Rattle.std.specs.Prelude.{◌≡◌, ◌+◌, MatchResult, Option, length};
 ghost use Rattle.wax.specs.GlobView.{GlobView};
 ghost use Rattle.wax_c.specs.GlobHandles.{HasGlob, IsGlobHandle, span_of};
 ghost use Rattle.wax_c.specs.GlobOwned.{glob_at, maybe_glob_at};
-ghost use Rattle.wax_c.specs.Outcomes.{AreLines, DecidesAs, FillsAs, IsGlobOf, IsNoGlob};
+ghost use Rattle.wax_c.specs.Outcomes.{AreLines, DecidesAs, FillsWithin, IsGlobOf, IsNoGlob};
 ghost use Rattle.wax_c.specs.Outcomes.{SaysGoesOn, SaysMatch};
 ghost use types.Logic.{sem};
 
@@ -101,7 +101,7 @@ pub unsafe extern "C" fn wax_glob_filter(
     ghost held: { GlobView }
     requires* { sem 𝓛 (glob_at alloc glob held) }
     ensures* back { sem 𝓛 (glob_at alloc glob held) }
-    ensures fills { FillsAs (AreLines held input.now) output.old
+    ensures fills { FillsWithin (length input.now + 1) (AreLines held input.now) output.old
         (record { bytes = output.new; written = written.new }) result }
 {
     fill_held(alloc, &*(glob as *const HeldGlob), input, output, written)
@@ -186,7 +186,7 @@ fn fill_held(
     output: &mut [u8],
     written: &mut usize,
 ) -> i32
-    ensures { FillsAs (AreLines held.now.matcher input.now) output.old
+    ensures { FillsWithin (length input.now + 1) (AreLines held.now.matcher input.now) output.old
         (record { bytes = output.new; written = written.new }) result }
 {
     status_of(&fill(alloc, held.matcher.glob(), input, output, written))

@@ -1,5 +1,5 @@
 //! Calls that take an expression.
-ghost use Rattle.std.specs.Prelude.{◌≡◌, IfErr, OnErr, neg_ℤ, pos};
+ghost use Rattle.std.specs.Prelude.{◌≡◌, ◌≤◌, ◌+◌, IfErr, OnErr, length, neg_ℤ, pos};
 ghost use Rattle.wax_c.specs.Outcomes.{AnswersAs, AreLines, Decides, Ends, Fills, OfExpression};
 ghost use Rattle.wax_c.specs.Outcomes.{SaysMatch};
 
@@ -41,6 +41,7 @@ pub extern "C" fn wax_filter(
         (record { bytes = output.new; written = written.new })) result }
     ensures unchanged { (result ≡ pos 0 → ⊥) → output.new ≡ output.old }
     ensures nothing { (result ≡ pos 0 → ⊥) → (result ≡ neg_ℤ (pos 21) → ⊥) → written.new ≡ 0 }
+    ensures room { length input.now + 1 ≤ length output.old → result ≡ neg_ℤ (pos 21) → ⊥ }
 {
     status_of(&filter(alloc, expression, input, output, written))
 }
@@ -65,6 +66,8 @@ fn filter(
         (record { bytes = output.new; written = written.new })) result }
     ensures unchanged { OnErr result (output.new ≡ output.old) }
     ensures nothing { IfErr result (λ error. (error ≡ CallError.NoRoom → ⊥) → written.new ≡ 0) }
+    ensures room { length input.now + 1 ≤ length output.old
+        → IfErr result (λ error. error ≡ CallError.NoRoom → ⊥) }
 {
     *written = 0;
     match build(alloc, expression) {

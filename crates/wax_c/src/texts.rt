@@ -1,5 +1,5 @@
 //! Calls that write a text: an escaped one, and the picture of an error.
-ghost use Rattle.std.specs.Prelude.{◌≡◌, IfErr, IfOk, chars, string_bytes};
+ghost use Rattle.std.specs.Prelude.{◌≡◌, ◌≤◌, ◌*◌, IfErr, IfOk, chars, length, neg_ℤ, pos, string_bytes};
 ghost use Rattle.wax.specs.Language.{error_labels, picture};
 ghost use Rattle.wax_c.specs.Outcomes.{Fills, FillsOfText, KeepsAfterError, OfText};
 ghost use Rattle.wax_c.specs.Texts.{IsEscaped, IsPicture};
@@ -26,8 +26,9 @@ pub extern "C" fn wax_escape(
     output: &mut [u8],
     written: &mut usize,
 ) -> i32
-    ensures { FillsOfText text.now IsEscaped output.old
+    ensures fills { FillsOfText text.now IsEscaped output.old
         (record { bytes = output.new; written = written.new }) result }
+    ensures room { 2 * length text.now ≤ length output.old → result ≡ neg_ℤ (pos 21) → ⊥ }
 {
     status_of(&write_escaped(alloc, text, output, written))
 }
@@ -61,6 +62,8 @@ fn write_escaped(
     ensures fills { OfText text.now (λ text. Fills (IsEscaped text) output.old
         (record { bytes = output.new; written = written.new })) result }
     ensures kept { KeepsAfterError output.old (record { bytes = output.new; written = written.new }) result }
+    ensures room { 2 * length text.now ≤ length output.old
+        → IfErr result (λ error. error ≡ CallError.NoRoom → ⊥) }
 {
     *written = 0;
     let Ok(text) = str::from_utf8(text) else {

@@ -1,7 +1,6 @@
 use Rattle.std.proofs.Common.{◌≡◌, ◌≤◌, ◌-◌, length, take, drop}
 use Rattle.std.specs.List.{AllZip}
-use Rattle.wax_c.specs.Outcomes.{IsGlobOf}
-use Rattle.wax_c.specs.Sets.{cut_each}
+use Rattle.wax_c.specs.{Outcomes.IsGlobOf, Sets.cut_each}
 use Rattle.wax_c.proofs.sets.globs_of.Given as goal
 
 -- a glob was built of each pattern before this one, and the others are in the rest

@@ -1,8 +1,7 @@
-use Rattle.std.proofs.Common.{◌≡◌, ◌<◌, ◌≤◌, ◌+◌, ◌∷◌, ◌++◌, [], get_or, take, drop, length, min}
-use Rattle.std.proofs.Common.{ap, sym, ◌∙◌, subst, length-append, take_all, arith}
+use Rattle.std.proofs.Common.{◌≡◌, ◌<◌, ◌≤◌, ◌+◌, ◌∷◌, ◌++◌, [], get_or, take, drop, length, min, ap, sym}
+use Rattle.std.proofs.Common.{◌∙◌, subst, length-append, take_all, arith}
 use Rattle.std.specs.List.{AllZip}
-use Rattle.wax_c.specs.inner.Spelled.{SpellsOnly}
-use Rattle.wax_c.specs.Sets.{cut_each}
+use Rattle.wax_c.specs.{inner.Spelled.SpellsOnly, Sets.cut_each}
 use Rattle.wax_c.proofs.CutEach.{AllZip-more, length-cut_each, part_next}
 use Rattle.wax_c.proofs.sets.read_each.Goals as goal
 

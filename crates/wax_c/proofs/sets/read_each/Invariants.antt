@@ -1,7 +1,6 @@
 use Rattle.std.proofs.Common.{◌≡◌, ◌≤◌, ◌-◌, length, take, drop}
 use Rattle.std.specs.List.{AllZip}
-use Rattle.wax_c.specs.Sets.{cut_each}
-use Rattle.wax_c.specs.inner.Spelled.{SpellsOnly}
+use Rattle.wax_c.specs.{Sets.cut_each, inner.Spelled.SpellsOnly}
 use Rattle.wax_c.proofs.sets.read_each.Given as goal
 
 -- each pattern before this one was read, and the others are in the rest

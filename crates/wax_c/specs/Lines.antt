@@ -1,0 +1,84 @@
+-- What the lines of an ignore list decide.
+use Rattle.std.specs.Prelude.{◌≡◌, ℕ, ℤ, pos, neg_ℤ, List, Option, Some, None, Result, Ok, Err, IsUtf8, chars}
+use Rattle.std.specs.Prelude.{◌<◌, ◌==◌, Bool, true, false, filter, length, map}
+use Rattle.wax.specs.Comparing.{AreIdle, AreUndecided}
+use Rattle.wax.specs.Ignoring.{IsDecidingLine}
+use Rattle.wax.specs.Language.{Memory}
+use Rattle.wax.specs.declared.ignoring.IgnoreList.{IgnoreList}
+use Rattle.wax.specs.declared.walk.IdleLine.{IdleLine}
+use Rattle.wax.specs.declared.walk.IdleReason.{IdleReason}
+use Rattle.wax.specs.declared.walk.IdleReason.TheVariants.{Covered, TakesNothingBack, Unknown}
+use Rattle.wax_c.specs.Numbers.{error_number}
+use Rattle.wax_c.specs.Outcomes.{HoldsFirst}
+use Rattle.wax_c.specs.declared.error.CallError.{CallError}
+use Rattle.wax_c.specs.declared.error.CallError.TheVariants.{Build, NotText, NoRoom}
+
+-- the index of the line that decides about the path, or none if no line does; nothing is said if memory runs
+-- out
+abbrev pub FindsLine : IgnoreList → List ℕ → Result (Option ℕ) CallError → Type 0
+FindsLine list path (Ok found) = IsUtf8 path × IsDecidingLine list (chars path) found
+FindsLine list path (Err (Build error)) = error ≡ Memory
+FindsLine list path (Err NotText) = IsUtf8 path → ⊥
+FindsLine list path (Err NoRoom) = ⊥
+
+-- the index that is found, or 0
+abbrev pub index_or_zero : Result (Option ℕ) CallError → ℕ
+index_or_zero (Ok (Some index)) = index
+index_or_zero (Ok None) = 0
+index_or_zero (Err error) = 0
+
+-- 1 if there is an index, 0 if there is none, or minus the number of an error
+abbrev pub index_number : Result (Option ℕ) CallError → ℤ
+index_number (Ok (Some index)) = pos 1
+index_number (Ok None) = pos 0
+index_number (Err error) = neg_ℤ (error_number error)
+
+-- the number is that of such an outcome, and so is the line
+abbrev pub FindsLineAs : IgnoreList → List ℕ → ℕ → ℤ → Type 0
+FindsLineAs list path line number =
+    (outcome : Result (Option ℕ) CallError) × FindsLine list path outcome × (line ≡ index_or_zero outcome)
+    × (number ≡ index_number outcome)
+
+-- whether it is known why a line decides nothing
+abbrev pub is_sure : IdleReason → Bool
+is_sure (Covered covers) = true
+is_sure TakesNothingBack = true
+is_sure Unknown = false
+
+-- the indexes of those of these lines of which it is known why they decide nothing
+abbrev pub sure_indexes : List IdleLine → List ℕ
+sure_indexes idle = map (λ x. x.index) (filter (λ x. is_sure x.reason) idle)
+
+-- These lines decide nothing about plain paths, and whether each of the others is known to decide. It isn't
+-- only if a comparison of the line with others takes more states than the limit, or too large a program.
+pub record AreSure (list : IgnoreList) (most : ℕ) (indexes : List ℕ) (others_decide : Bool) : Type 0 where
+  pub idle : List IdleLine
+  pub are_idle : AreIdle list idle
+  pub undecided : AreUndecided list most idle
+  pub indexes_are : indexes ≡ sure_indexes idle
+  pub others : others_decide ≡ (length indexes == length idle)
+
+-- The list begins with the indexes of the lines that decide nothing, and the count is their number; or it is
+-- as before.
+abbrev pub ListsIdle : IgnoreList → ℕ → List ℕ → List ℕ → ℕ → Result Bool CallError → Type 0
+ListsIdle list most before after count (Ok others_decide) =
+    (indexes : List ℕ) × AreSure list most indexes others_decide × HoldsFirst indexes before after
+    × (count ≡ length indexes)
+ListsIdle list most before after count (Err NoRoom) =
+    (indexes : List ℕ) × (others_decide : Bool) × AreSure list most indexes others_decide
+    × (length before < length indexes) × (after ≡ before) × (count ≡ length indexes)
+ListsIdle list most before after count (Err NotText) = ⊥
+ListsIdle list most before after count (Err (Build error)) =
+    (error ≡ Memory) × (after ≡ before) × (count ≡ 0)
+
+-- 0 if all other lines decide, 2 if that isn't known, or minus the number of an error
+abbrev pub idle_number : Result Bool CallError → ℤ
+idle_number (Ok true) = pos 0
+idle_number (Ok false) = pos 2
+idle_number (Err error) = neg_ℤ (error_number error)
+
+-- the number is that of such an outcome
+abbrev pub ListsIdleAs : IgnoreList → ℕ → List ℕ → List ℕ → ℕ → ℤ → Type 0
+ListsIdleAs list most before after count number =
+    (outcome : Result Bool CallError) × ListsIdle list most before after count outcome
+    × (number ≡ idle_number outcome)
