@@ -52,7 +52,7 @@ class Matching(unittest.TestCase):
     def test_errors_of_calls(self):
         glob, patterns, ignored = wax.Glob("*"), wax.GlobSet(["*"]), wax.IgnoreList("*")
         calls = [glob.goes_on, glob.matched, patterns.is_match, patterns.matches, patterns.goes_on]
-        calls += [ignored.is_ignored, ignored.excludes_below, wax.escape]
+        calls += [ignored.is_ignored, ignored.excludes_below, ignored.deciding_line, wax.escape]
         for call in calls:
             with self.subTest(call), self.assertRaises(wax.Error) as raised:
                 call("\ud800")
@@ -237,6 +237,224 @@ class Sets(unittest.TestCase):
         self.assertEqual(raised.exception.number, 9)
 
 
+class Comparing(unittest.TestCase):
+    def test_rows(self):
+        """Rows of data/worked_compare.tsv of the crate wax_vectors."""
+        for call, first, second, answer in [
+            (wax.overlap, "**", "**", "a"),
+            (wax.difference, "**", "**/a", "b"),
+            (wax.difference, "**/a", "a/**", "b/a"),
+            (wax.difference, "a/**", "**/a", "a/b"),
+            (wax.difference, "a/**", "a/*", "a"),
+            (wax.difference, "a/**", "{a,a/*}", "a/a/a"),
+            (wax.difference, "a/**/b", "{a/b,a/*/b}", "a/a/a/b"),
+            (wax.difference, "**/a/**", "{**/a,a/**}", "b/a/b"),
+            (wax.difference, "**", "{a,b}/**", "c"),
+            (wax.overlap, "/**", "**/a", None),
+            (wax.overlap, "/usr/**", "**", None),
+            (wax.difference, "/usr/**", "a", None),
+            (wax.overlap, "<a/:2>", "**", None),
+            (wax.difference, "**/b", "<a/:0,>b", "b/b"),
+            (wax.difference, "<a:0,>", "a*", None),
+            (wax.difference, "a*", "<a:0,>", "ab"),
+            (wax.difference, "<[ab]/:1,2>c", "*/c", "a/a/c"),
+            (wax.overlap, "<[z-a]:0,>", "**", None),
+            (wax.overlap, "", "*", None),
+            (wax.difference, "**", "*", "a/a"),
+            (wax.difference, "**", "?", "aa"),
+            (wax.difference, "*/a", "?*/a", None),
+            (wax.overlap, "a/", "a/**", None),
+            (wax.overlap, "a\n*", "**/?\nb", "a\nb"),
+            (wax.difference, "**", "[!\n]", "\n"),
+            (wax.overlap, "src/**/*.{go,rs}", "**/test_*", "src/test_.go"),
+            (wax.overlap, "**/test_*", "src/**/*.{go,rs}", "src/test_.go"),
+            (wax.overlap, "target/**", "**/*.o", "target/.o"),
+            (wax.overlap, "**/*.o", "target/**", "target/.o"),
+            (wax.overlap, "src/**/*.{go,rs}", "src/**/*.{go,rs}", "src/.go"),
+            (wax.difference, "src/**/*.{go,rs}", "src/**/*.{go,rs}", None),
+            (wax.compare, "**/a", "a/**", "a/b"),
+            (wax.compare, "a/**", "**/a", "a/b"),
+            (wax.compare, "a/*", "a/**", "a"),
+            (wax.compare, "{a,a/*}", "a/**", "a/a/a"),
+            (wax.compare, "/**", "/a", None),
+            (wax.compare, "**/*a<?:20>", "**/*b<?:20>", wax.Unknown),
+            (wax.overlap, "**/*a<?:20>", "**/*b<?:20>", wax.Unknown),
+            (wax.difference, "**/*a<?:20>", "**/*b<?:20>", wax.Unknown),
+            (wax.overlap, "**/*a<?:6>", "**/*b<?:6>", None),
+            (wax.overlap, "**/*a<?:3>", "**/*b<?:2>", "abaa"),
+        ]:
+            one, other = wax.Glob(first), wax.Glob(second)
+            method = getattr(one, call.__name__)
+            for compared in [
+                lambda: call(first, second),
+                lambda: call(one, other, most_states=wax.MOST_STATES),
+                lambda: method(second),
+                lambda: method(other, most_states=100_000),
+            ]:
+                with self.subTest((call, first, second)):
+                    self.check(compared, answer)
+            if call is wax.overlap:
+                self.check_sets(([first], [second], answer))
+
+    def check(self, compared, answer):
+        if answer is wax.Unknown:
+            with self.assertRaises(wax.Unknown):
+                compared()
+        else:
+            self.assertEqual(compared(), answer)
+
+    def check_sets(self, *rows):
+        for first, second, answer in rows:
+            one, other = wax.GlobSet(first), wax.GlobSet(second)
+            calls = [lambda: wax.overlap(one, other), lambda: one.overlap(other, most_states=wax.MOST_STATES)]
+            if len(second) == 1:
+                calls += [lambda: one.overlap(*second), lambda: one.overlap(wax.Glob(*second))]
+            if len(first) == 1:
+                calls += [lambda: wax.overlap(*first, other), lambda: wax.Glob(*first).overlap(other)]
+            for number, compared in enumerate(calls):
+                with self.subTest((number, first, second)):
+                    self.check(compared, answer)
+
+    def test_sets(self):
+        """Rows of data/worked_compare.tsv of the crate wax_vectors, and others."""
+        names = [f"n{number:02}" for number in range(100)]
+        others = [f"m{number:02}" for number in range(100)]
+        self.check_sets(
+            (["a", "b"], ["b", "c"], "b"),
+            (["a", "b"], ["c", "d"], None),
+            (names, others, None),
+            (names, [*others[:-1], "n57"], "n57"),
+            ([], ["**"], None),
+            ([], [], None),
+            (["**"], ["a/b/c", "é"], "é"),
+            (["?/*", "*.md", "/**"], ["/a", "**/Rea*", "b*"], "b.md"),
+            (["src/**", "a\n*"], ["a\nb", "[!a-z]"], "a\nb"),
+            (["a", "**/*a<?:20>"], ["**/*b<?:20>"], wax.Unknown),
+            (["é" * 3000, "b"], ["c", "é*"], "é" * 3000),
+        )
+
+    def test_overlap_with_itself(self):
+        rest = wax.Glob("(?i)1/*.rs").partition()[1]
+        none = wax.Glob("src/<[z-a]:1,2>").partition()[1]
+        for it, answer in [
+            (wax.Glob("src/**/*.rs"), "src/.rs"),
+            (wax.GlobSet(["src/**/*.rs", "*.go"]), ".go"),
+            (wax.GlobSet([]), None),
+            (wax.GlobSet(["/**", ""]), None),
+            (rest, ".rs"),
+            (none, None),
+        ]:
+            for other in (it, *(copied(it) for copied in COPIES)):
+                with self.subTest(it):
+                    found = it.overlap(other)
+                    self.assertEqual(found and found.lower(), answer)
+                    self.assertEqual(wax.overlap(other, it), found)
+            if not isinstance(it, wax.GlobSet):
+                continue
+            with self.assertRaises(wax.Unknown) as raised:
+                it.overlap(it, most_states=0)
+            self.assertEqual(raised.exception.most_states, 0)
+
+    def test_rests(self):
+        """A rest matches what its glob matches after the prefix."""
+        for expression, other, far, answer in [
+            ("src/*/mod.rs", "net/**", "far/n?t/**", "net/mod.rs"),
+            ("src/**/*.rs", "**/test_*", "far/**/test_*", "test_.rs"),
+            ("src/{a,b}/*", "b/c", "far/{b,c}/c", "b/c"),
+            ("src/{a,b}/*", "c/**", "far/[c-e]/**", None),
+            ("(?i)1/x*.RS", "(?i)*.rs", "far/*.[rR]s", "x.rs"),
+            ("a/**/*a<?:20>", "**/*b<?:20>", "b/**/*b<?:20>", wax.Unknown),
+        ]:
+            rest, beside = wax.Glob(expression).partition()[1], wax.Glob(far).partition()[1]
+            glob = wax.Glob(other)
+            for one, two in [(rest, other), (rest, glob), (glob, rest), (other, rest), (rest, beside), (beside, rest)]:
+                with self.subTest((one, two)):
+                    if answer in (None, wax.Unknown):
+                        self.check(lambda: wax.overlap(one, two), answer)
+                        continue
+                    path = wax.overlap(one, two)
+                    self.assertEqual(len(path), len(answer))
+                    for it in (one, two):
+                        self.assertTrue(wax.is_match(it, path) if isinstance(it, str) else it.is_match(path), path)
+        self.assertEqual(wax.Glob("src/*/mod.rs").partition()[1].overlap("net/**", most_states=1_000), "net/mod.rs")
+
+    def test_witnesses(self):
+        """What is found matches as it should."""
+        for first, second in [("src/**", "**/*.rs"), ("é?", "?è*"), ("a*", "*b"), ("[a-c]/x", "[b-d]/x"), ("(?i)ab", "Ab")]:
+            one, other = wax.Glob(first), wax.Glob(second)
+            both, left = one.overlap(other), one.difference(other)
+            right, lone = other.difference(one), one.compare(other)
+            for path, matches, matches_other in [(both, True, True), (left, True, False), (right, False, True)]:
+                if path is not None:
+                    self.assertEqual((one.is_match(path), other.is_match(path)), (matches, matches_other), path)
+            self.assertIsNotNone(both)
+            self.assertNotEqual(one.is_match(lone), other.is_match(lone))
+            self.assertEqual(len(lone), min(len(path) for path in (left, right) if path is not None))
+
+    def test_errors(self):
+        for call in (wax.overlap, wax.difference, wax.compare):
+            for arguments, number, expression, span in [
+                (("é//b", "{"), 2, "é//b", (1, 3)),
+                (("a", "é//b"), 2, "é//b", (1, 3)),
+                (("a", "<a*:1000000>"), 9, "<a*:1000000>", None),
+            ]:
+                with self.subTest(arguments), self.assertRaises(wax.BuildError) as raised:
+                    call(*arguments)
+                error = raised.exception
+                self.assertEqual((error.number, error.expression, error.span), (number, expression, span))
+            with self.assertRaises(wax.Error) as raised:
+                call("a", "\ud800")
+            self.assertEqual(raised.exception.number, 20)
+            with self.assertRaisesRegex(ValueError, "negative"):
+                call("a", "a", most_states=-1)
+            with self.assertRaises(TypeError):
+                call("a", None)
+        rest, patterns = wax.Glob("(?i)src/*.rs").partition()[1], wax.GlobSet(["src/**"])
+        refused = [(wax.difference, rest, "a"), (wax.difference, "a", rest), (wax.compare, rest, rest)]
+        for call, *arguments in [*refused, (wax.overlap, rest, patterns), (wax.GlobSet.overlap, patterns, rest)]:
+            with self.assertRaisesRegex(ValueError, "the rest of a partition has only an overlap with globs"):
+                call(*arguments)
+        for call in (wax.difference, wax.compare):
+            with self.assertRaises(TypeError):
+                call(patterns, "a")
+        for one in (patterns, rest):
+            for other, number in [("é//b", 2), ("{", 1), ("<a*:1000000>", 9)]:
+                for arguments in [(one, other), (other, one)]:
+                    with self.subTest(arguments), self.assertRaises(wax.Error) as raised:
+                        wax.overlap(*arguments)
+                    self.assertEqual(raised.exception.number, number)
+            with self.assertRaises(wax.Error) as raised:
+                one.overlap("\ud800")
+            self.assertEqual(raised.exception.number, 20)
+            for wrong in (None, b"a", ["a"], wax.IgnoreList("a")):
+                with self.subTest(wrong), self.assertRaises(TypeError):
+                    one.overlap(wrong)
+            with self.assertRaisesRegex(ValueError, "negative"):
+                one.overlap("a", most_states=-1)
+
+    def test_limits(self):
+        with self.assertRaises(wax.Unknown) as raised:
+            wax.overlap("a", "a", most_states=0)
+        self.assertEqual(raised.exception.most_states, 0)
+        self.assertNotIsInstance(raised.exception, wax.Error)
+        self.assertEqual(wax.overlap("a", "a", most_states=2**100), "a")
+        self.assertEqual(wax.GlobSet(["a"]).overlap("a", most_states=2**100), "a")
+        with self.assertRaises(wax.Unknown) as raised:
+            wax.GlobSet(["a", "aa"]).overlap("?a", most_states=2)
+        self.assertEqual(raised.exception.most_states, 2)
+        with self.assertRaises(wax.Unknown) as raised:
+            wax.Glob("**/*a<?:20>").compare("**/*b<?:20>", most_states=100)
+        for copied in COPIES:
+            other = copied(raised.exception)
+            self.assertEqual((str(other), other.most_states), (str(raised.exception), 100))
+
+    def test_long_path(self):
+        """A path that needs more than the first output."""
+        long = f"<{'é' * 100}:40>"
+        self.assertEqual(wax.overlap(long, "**"), "é" * 4000)
+        self.assertEqual(wax.Glob(f"a/?{long}").partition()[1].overlap("é*"), "é" * 4001)
+
+
 class Errors(unittest.TestCase):
     def test_numbers(self):
         for expression, number in [
@@ -302,6 +520,24 @@ class Ignoring(unittest.TestCase):
             ignored = wax.IgnoreList(text)
             with self.subTest(text):
                 self.assertEqual([it for it in true_for + false_for if ignored.excludes_below(it)], true_for)
+
+    def test_deciding_line(self):
+        ignored = wax.IgnoreList("# logs\n**/*.log\n\n!x/**\nbuilt/**\n")
+        for path, line in [
+            ("a.log", 0),
+            ("y/b.log", 0),
+            ("x/a.log", 1),
+            ("built/a.log", 2),
+            ("built/x", 2),
+            ("a", None),
+            ("", None),
+        ]:
+            with self.subTest(path):
+                self.assertEqual(ignored.deciding_line(path), line)
+                self.assertIs(ignored.is_ignored(path), line in (0, 2))
+        self.assertIsNone(wax.IgnoreList("").deciding_line("a"))
+        with self.assertRaises(TypeError):
+            ignored.deciding_line(b"a")
 
     def test_bad_line(self):
         with self.assertRaises(wax.LineError) as raised:
@@ -488,6 +724,10 @@ def using(it):
     calls += [lambda _, name=name: getattr(it, name) for kind in queries if isinstance(it, kind) for name in queries[kind]]
     if isinstance(it, wax.Glob):
         calls += [it.matched, lambda _: it.partition(), lambda _: str(it)]
+    if isinstance(it, (wax.Glob, wax.GlobSet)):
+        calls += [it.overlap, lambda path: wax.GlobSet([path]).overlap(it)]
+    if isinstance(it, wax.IgnoreList):
+        calls += [it.deciding_line]
     return calls + ([it.matches] if isinstance(it, wax.GlobSet) else [])
 
 
@@ -877,6 +1117,8 @@ class Objects(unittest.TestCase):
                     for call in calls[::2]:
                         with contextlib.suppress(wax.Error, TypeError):
                             call(wrong)
+                made[0].overlap(made[1])
+                made[1].overlap(made[1])
             for _ in range(objects):
                 for kind, given, wrong in kinds():
                     it = kind(given)
@@ -893,11 +1135,12 @@ class Objects(unittest.TestCase):
     def test_threads(self):
         made = [kind(given) for kind, given, _ in kinds()]
         paths = [f"{'src' if number % 3 else 'é'}/{number}" for number in range(5_000)]
-        answers = []
+        answers, overlaps, rest = [], [], wax.Glob("a/*/b").partition()[1]
 
         def use():
             answers.append([[call(path) for path in paths] for it in made for call in deciding(it)])
             answers.append([len(list(it.filter(paths))) for it in made])
+            overlaps.append([made[1].overlap(made[0]), made[0].overlap(made[1]), rest.overlap(made[0])])
 
         threads = [threading.Thread(target=use) for _ in range(4)]
         for it in threads:
@@ -908,6 +1151,7 @@ class Objects(unittest.TestCase):
         for answer in answers:
             self.assertIn(answer, ([first] * 6, [sum(first), sum(first), 5_000 - sum(first)]))
         self.assertEqual(len(answers), 8)
+        self.assertEqual(overlaps, [["src", "src", "src/b"]] * 4)
 
 
 @unittest.skipUnless(wax._extension, "the extension isn't here")
@@ -994,7 +1238,9 @@ class Memory(unittest.TestCase):
             (glob.matched("src/a.rs").captures, prefix, rest.is_match("a.rs"), self.wax.Glob("a").text, picture),
             (ignored.is_ignored("a.log"), ignored.excludes_below("a"), list(ignored.filter(["a.log", "b"]))),
             (patterns.is_match("a"), patterns.matches("src/a.rs"), patterns.goes_on("src"), self.wax.escape("*")),
-            (copied.expression, copied.is_match("b")),
+            (copied.expression, copied.is_match("b"), ignored.deciding_line("x/a.log")),
+            (self.wax.overlap("a/*", "*/b"), self.wax.difference("a/*", "*/b"), self.wax.compare("a/*", "a/*")),
+            (patterns.overlap(patterns), patterns.overlap("**/b.*"), copied.overlap(self.wax.Glob("é"))),
         )
 
     def run_with(self, number):
@@ -1010,7 +1256,9 @@ class Memory(unittest.TestCase):
             (("", "a", "rs"), "src", True, "a", "a//b\n ^^ here\n"),
             (True, False, ["b"]),
             (False, [0, 1], True, r"\*"),
-            ("?", True),
+            ("?", True, 1),
+            ("a/b", "a/a", None),
+            ("src", "b.rs", "é"),
         )
         self.assertEqual(self.run_with(0), wanted)
         requests = self.refusing.wax_requests()

@@ -1,4 +1,5 @@
-"""Matches paths against globs, checks them against ignore lists, and walks folders, by the C library `libwax.so`.
+"""Matches paths against globs, checks them against ignore lists, walks folders, and compares globs, by the C library
+`libwax.so`.
 
     >>> glob = Glob("src/**/*.{rs,toml}")
     >>> glob.is_match("src/a/b.rs")
@@ -9,7 +10,11 @@
     >>> ignored.is_ignored("a/b.log")
     True
 
-`walk` yields the files and folders that a glob matches.
+`walk` yields the files and folders that a glob matches. `overlap`, `difference` and `compare` find a path by which two
+globs differ, or that both match; `overlap` takes sets, too.
+
+    >>> print(overlap("src/**/*.{go,rs}", "**/test_*"), difference("src/*.go", "src/**/*.{go,rs}"))
+    src/test_.go None
 
 Globs, sets and ignore lists are values, as compiled expressions of `re` are: they are equal if they are built from equal
 texts, and can be keys, copied and pickled. So they can be sent to other processes, and so can the errors.
@@ -61,11 +66,19 @@ __all__ = [
     "GlobSet",
     "IgnoreList",
     "LineError",
+    "MOST_STATES",
     "Matched",
+    "Unknown",
+    "compare",
+    "difference",
     "escape",
     "is_match",
+    "overlap",
     "walk",
 ]
+
+# the usual limit of a comparison; its states then take at most 64 MiB
+MOST_STATES = 100_000
 
 # how many paths a filter passes in one call of ctypes
 _CHUNK = 4096
@@ -138,6 +151,24 @@ class LineError(Error):
         return type(self), (self.number, self.line), vars(self)
 
 
+class Unknown(Exception):
+    """Raised by `overlap`, `difference` and `compare` if they don't decide within their limit. `most_states` is the limit.
+
+        >>> try:
+        ...     overlap("**/*a<?:20>", "**/*b<?:20>", most_states=1000)
+        ... except Unknown as unknown:
+        ...     print(f"{unknown}: {unknown.most_states}")
+        comparing the globs takes more than 1000 states: 1000
+    """
+
+    def __init__(self, most_states: int) -> None:
+        super().__init__(f"comparing the globs takes more than {most_states} states")
+        self.most_states = most_states
+
+    def __reduce__(self) -> Tuple[Any, ...]:
+        return type(self), (self.most_states,), vars(self)
+
+
 class _Span(ctypes.Structure):
     start: int
     length: int
@@ -168,9 +199,13 @@ def _loaded(library: ctypes.CDLL, keeps_lock: bool) -> ctypes.CDLL:
     handle, sizes = ctypes.c_void_p, ctypes.POINTER(ctypes.c_size_t)
     handles, spans, facts = ctypes.POINTER(handle), ctypes.POINTER(_Span), ctypes.POINTER(_Facts)
     output: List[Any] = [handle, size, sizes]
+    two: List[Any] = [text, size, text, size, size, *output, sizes, spans]
     calls: List[Tuple[str, Any, List[Any]]] = [
         ("wax_escape", number, [text, size, *output]),
         ("wax_picture", number, [text, size, *output]),
+        ("wax_overlap", number, two),
+        ("wax_difference", number, two),
+        ("wax_compare", number, two),
         ("wax_glob_new", number, [text, size, handles, spans]),
         ("wax_set_new", number, [text, size, sizes, size, handles, sizes, spans]),
         ("wax_ignore_new", number, [text, size, handles, sizes]),
@@ -182,10 +217,13 @@ def _loaded(library: ctypes.CDLL, keeps_lock: bool) -> ctypes.CDLL:
         ("wax_glob_expression", number, [handle, *output]),
         ("wax_glob_text", number, [handle, *output]),
         ("wax_glob_partition", number, [handle, *output, handles]),
+        ("wax_glob_overlap", number, [handle, handle, size, *output]),
         ("wax_glob_free", None, [handle]),
         ("wax_set_matches", number, [handle, text, size, sizes, size, sizes]),
+        ("wax_set_overlap", number, [handle, handle, size, *output]),
         ("wax_set_free", None, [handle]),
         ("wax_ignore_filter", number, [handle, text, size, *output]),
+        ("wax_ignore_deciding_line", number, [handle, text, size, sizes]),
         ("wax_ignore_free", None, [handle]),
     ]
     for name, result, arguments in of_handles if keeps_lock else calls:
@@ -228,9 +266,12 @@ def _raise_built(number: int, expression: str, span: _Span) -> NoReturn:
     raise BuildError(number, expression, (start, end), picture)
 
 
-def _written(function: Any, *arguments: Any, room: int, out: Sequence[Any] = ()) -> Tuple[int, str]:
+def _written(
+    function: Any, *arguments: Any, room: int, out: Sequence[Any] = (), refused: Callable[[int], NoReturn] = _raise
+) -> Tuple[int, str]:
     """Returns the result of a call that writes a text, and the text. The call gets the arguments, then the output with
-    its length and where to write how many bytes it needs, and then `out`. `room` is how long the output is at first."""
+    its length and where to write how many bytes it needs, and then `out`. `room` is how long the output is at first.
+    `refused` raises the error of the call."""
     written = ctypes.c_size_t(room)
     status = -21
     while status == -21:
@@ -238,7 +279,7 @@ def _written(function: Any, *arguments: Any, room: int, out: Sequence[Any] = ())
         output = ctypes.create_string_buffer(max(room, 1))
         status = function(*arguments, output, room, ctypes.byref(written), *out)
     if status < 0:
-        _raise(-status)
+        refused(-status)
     return status, ctypes.string_at(output, written.value).decode()
 
 
@@ -280,6 +321,112 @@ def escape(text: str) -> str:
     """
     encoded = _bytes(text)
     return _written(_library.wax_escape, encoded, len(encoded), room=2 * len(encoded))[1]
+
+
+def overlap(first: Pattern, second: Pattern, *, most_states: int = MOST_STATES) -> Optional[str]:
+    """Returns a shortest path that both match, or None if there is none. Each is an expression, a `Glob` or a `GlobSet`.
+
+    Only paths as walks have them count: one or more names, with a `/` between each two. So there is none if all that one
+    of both matches begins with `/`.
+
+    The search follows states to which paths lead. There may be many if several `?` or a long repetition follow a `*`.
+    `most_states` is the greatest number of them; they take at most 384 bytes for each of so many.
+
+    With a `GlobSet`, or a rest that `partition` returned, other threads wait until the search ends.
+
+    Raises `Unknown` if the search takes more, `BuildError` for the first expression that can't be built, `ValueError` for
+    a rest and a set, `MemoryError` if an allocation fails.
+
+        >>> overlap("src/**/*.{go,rs}", "**/test_*")
+        'src/test_.go'
+        >>> overlap("*.rs", "src/**") is None
+        True
+        >>> overlap(GlobSet(["src/**", "*.md"]), "**/R*")
+        'R.md'
+    """
+    # no call takes a handle twice; what an object has in common with itself, it has in common with `**`
+    if isinstance(first, GlobSet) or isinstance(second, GlobSet):
+        own, others = _set_of(first), _set_of(second)
+        return _common(_using.wax_set_overlap, own, GlobSet(["**"]) if own is others else others, most_states)
+    if _is_rest(first) or _is_rest(second):
+        one, other = _glob_of(first), _glob_of(second)
+        return _common(_using.wax_glob_overlap, one, Glob("**") if one is other else other, most_states)
+    return _compared(_library.wax_overlap, first, second, most_states)
+
+
+def difference(first: Union[str, Glob], second: Union[str, Glob], *, most_states: int = MOST_STATES) -> Optional[str]:
+    """Returns a shortest path that the first matches and the second doesn't. It is None if the second matches all that
+    the first does. Each is an expression or a `Glob`, but no rest that `partition` returned. The paths, the limit and the
+    errors are those of `overlap`, and a rest raises `ValueError`.
+
+        >>> difference("**/*.rs", "src/**")
+        '.rs'
+        >>> difference("src/*.go", "src/**/*.{go,rs}") is None
+        True
+    """
+    return _compared(_library.wax_difference, first, second, most_states)
+
+
+def compare(first: Union[str, Glob], second: Union[str, Glob], *, most_states: int = MOST_STATES) -> Optional[str]:
+    """Returns a shortest path that exactly one of both matches, or None if both match the same paths. The arguments, paths
+    and errors are those of `difference`.
+
+        >>> compare("{src,tests}/**/*.rs", "{src,tests,benches}/**/*.rs")
+        'benches/.rs'
+        >>> compare("**/{a,b}", "{**/a,**/b}") is None
+        True
+    """
+    return _compared(_library.wax_compare, first, second, most_states)
+
+
+def _compared(function: Any, first: Union[str, Glob], second: Union[str, Glob], most_states: int) -> Optional[str]:
+    """Returns what a call finds of two expressions."""
+    most = _limit(most_states)
+    expressions = [it._whole_expression() if isinstance(it, Glob) else it for it in (first, second)]
+    one, other = map(_bytes, expressions)
+    which, span = ctypes.c_size_t(), _Span()
+
+    def refused(number: int) -> NoReturn:
+        if which.value < len(expressions):
+            _raise_built(number, expressions[which.value], span)
+        _raise(number)
+
+    arguments, out = [one, len(one), other, len(other), most], [ctypes.byref(which), ctypes.byref(span)]
+    return _finding(_written(function, *arguments, room=4096, out=out, refused=refused), most_states)
+
+
+def _common(function: Any, first: _Held, second: _Held, most_states: int) -> Optional[str]:
+    """Returns what a call finds of two handles, which are different ones."""
+    most = _limit(most_states)
+    return _finding(_written(function, first._handle, second._handle, most, room=4096), most_states)
+
+
+def _limit(most_states: int) -> int:
+    """Returns the limit as a number for the library."""
+    if most_states < 0:
+        raise ValueError("the greatest number of states is negative")
+    return min(most_states, ctypes.c_size_t(-1).value)
+
+
+def _finding(found: Tuple[int, str], most_states: int) -> Optional[str]:
+    status, path = found
+    if status == 2:
+        raise Unknown(most_states)
+    return path if status else None
+
+
+def _is_rest(pattern: Pattern) -> bool:
+    return isinstance(pattern, Glob) and bool(pattern._source()[1])
+
+
+def _glob_of(pattern: Union[str, Glob]) -> Glob:
+    return pattern if isinstance(pattern, Glob) else Glob(pattern)
+
+
+def _set_of(pattern: Pattern) -> GlobSet:
+    if isinstance(pattern, GlobSet):
+        return pattern
+    return GlobSet([pattern._whole_expression() if isinstance(pattern, Glob) else pattern])
 
 
 # the lengths of most paths, since to make one takes half as long as a call
@@ -642,6 +789,41 @@ class Glob(_Value, _MatcherBase):
         rest._given, rest._most_captures = (whole, partitions + 1), self._most_captures
         return prefix, rest
 
+    def overlap(self, other: Pattern, *, most_states: int = MOST_STATES) -> Optional[str]:
+        """Returns a shortest path that this glob and an expression, a glob or a set match, or None if there is none, as
+        `overlap` does.
+
+            >>> Glob("src/**").overlap("**/*.rs")
+            'src/.rs'
+            >>> prefix, rest = Glob("src/*/mod.rs").partition()
+            >>> rest.overlap("net/**")
+            'net/mod.rs'
+        """
+        return overlap(self, other, most_states=most_states)
+
+    def difference(self, other: Union[str, Glob], *, most_states: int = MOST_STATES) -> Optional[str]:
+        """Returns a shortest path that this glob matches and another one doesn't, or None, as `difference` does.
+
+            >>> Glob("src/*.rs").difference(Glob("src/**")) is None
+            True
+        """
+        return difference(self, other, most_states=most_states)
+
+    def compare(self, other: Union[str, Glob], *, most_states: int = MOST_STATES) -> Optional[str]:
+        """Returns a shortest path that exactly one of this and another glob matches, or None, as `compare` does.
+
+            >>> Glob("a/**").compare("a/*")
+            'a'
+        """
+        return compare(self, other, most_states=most_states)
+
+    def _whole_expression(self) -> str:
+        """Returns the expression, or raises ValueError for a rest, which has none of its own."""
+        whole, partitions = self._source()
+        if partitions:
+            raise ValueError("the rest of a partition has only an overlap with globs")
+        return str(whole)
+
     def _expressions(self) -> Sequence[Optional[str]]:
         whole, partitions = self._source()
         return [None if partitions else whole]
@@ -726,6 +908,18 @@ class GlobSet(_Value, _MatcherBase):
         """
         return filter(super().is_match, paths)
 
+    def overlap(self, other: Pattern, *, most_states: int = MOST_STATES) -> Optional[str]:
+        """Returns a shortest path that this set and an expression, a glob or another set match, or None if there is none,
+        as `overlap` does.
+
+            >>> sources = GlobSet(["src/**/*.go", "src/**/*.rs"])
+            >>> sources.overlap(GlobSet(["docs/**", "**/test_*"]))
+            'src/test_.go'
+            >>> sources.overlap("docs/**") is None
+            True
+        """
+        return overlap(self, other, most_states=most_states)
+
     def _expressions(self) -> Sequence[Optional[str]]:
         return self.expressions
 
@@ -779,6 +973,24 @@ class IgnoreList(_Value, _IgnoreBase):
         if _extension:
             return itertools.filterfalse(is_ignored, paths)
         return _filtered(_using.wax_ignore_filter, self._handle, lambda path: not is_ignored(path), paths)
+
+    def deciding_line(self, path: str) -> Optional[int]:
+        """Returns the index of the last line that matches the path, or None if no line does. This line decides whether
+        the path is ignored. Lines are counted from 0, without those that are skipped.
+
+        Each call reads all lines anew, so it takes longer than `is_ignored`.
+
+        Raises `MemoryError` if an allocation fails.
+
+            >>> ignored = IgnoreList("**/*.log\\n!keep.log\\n")
+            >>> ignored.deciding_line("a/b.log"), ignored.deciding_line("keep.log"), ignored.deciding_line("a.c")
+            (0, 1, None)
+        """
+        text, line = _bytes(path), ctypes.c_size_t()
+        status: int = _using.wax_ignore_deciding_line(self._handle, text, len(text), ctypes.byref(line))
+        if status < 0:
+            _raise(-status)
+        return line.value if status else None
 
 
 class Entry:

@@ -6,7 +6,7 @@ use std::panic::catch_unwind;
 
 use wax::prelude::*;
 use wax::walk::IgnoreList;
-use wax::{any, escape, CandidatePath, Glob};
+use wax::{any, compare, difference, escape, overlap, CandidatePath, Comparison, Glob};
 
 // what tests/refusing.h declares
 extern "C" {
@@ -26,6 +26,15 @@ fn make_calls() -> Result<(), Box<dyn Error>> {
     assert_eq!(escape("a*"), r"a\*");
     let list = IgnoreList::parse("**/m*\n!**/mod.rs\n")?;
     assert!(list.is_ignored("a/main.rs") && !list.excludes_below("a"));
+    let text = |path: &str| Comparison::Text(path.to_string());
+    assert_eq!(overlap("a/*", "*/b", 1000)?, text("a/b"));
+    assert_eq!(difference("a/*", "*/b", 1000)?, text("a/a"));
+    assert_eq!(compare("a/*", "a/*", 1000)?, Comparison::Nothing);
+    let (one, other) = (Glob::new("a/*")?, Glob::new("*/b")?);
+    assert_eq!(one.overlap(&other, 1000)?, text("a/b"));
+    let (one, other) = (any(["a/*", "c"])?, any([other])?);
+    assert_eq!(one.overlap(&other, 1000)?, text("a/b"));
+    assert_eq!(one.overlap(&one, 1000)?, text("c"));
     // (tests run in the folder of the crate)
     let sources = any(["walk/*.rs", "lib.*"])?.walk("src").not("walk/e*")?;
     assert!(sources.ignore(&list).flatten().count() > 1);

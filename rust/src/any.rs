@@ -6,7 +6,7 @@ use std::sync::Arc;
 
 use crate::query::{depth_between, DepthVariance, TextVariance, When, NO_GREATEST};
 use crate::sys::{self, Handle};
-use crate::{BuildError, CandidatePath, Glob, MatchedText, Pattern, Program};
+use crate::{BuildError, CandidatePath, Comparison, Glob, MatchedText, Pattern, Program};
 
 /// A set of patterns, built by [`any`]. It matches a path if one of them does.
 #[derive(Clone)]
@@ -47,6 +47,47 @@ where
 }
 
 impl<'t> Any<'t> {
+    /// Finds a shortest path that this set and another one match, among the same paths and within the same limit as
+    /// [`overlap`](crate::overlap) does of two expressions. Other threads that match by one of the two wait until it ends.
+    ///
+    /// Rests of partitions are compared one by one, each within the limit. The result is `Unknown` if one of these is.
+    ///
+    /// ```
+    /// use wax::{any, Comparison, MOST_STATES};
+    ///
+    /// let sources = any(["src/**/*.go", "src/**/*.rs"]).unwrap();
+    /// let tests = any(["docs/**", "**/test_*"]).unwrap();
+    /// let found = sources.overlap(&tests, MOST_STATES).unwrap();
+    /// assert_eq!(found, Comparison::Text("src/test_.go".to_string()));
+    /// ```
+    ///
+    /// # Errors
+    ///
+    /// Returns an error if memory ran out.
+    pub fn overlap(&self, other: &Any<'_>, most_states: usize) -> Result<Comparison, BuildError> {
+        let everything;
+        let set = if Arc::ptr_eq(&self.set, &other.set) {
+            // (the library takes no handle twice; what a set has in common with itself, it has in common with `**`)
+            everything = any(["**"])?;
+            &everything.set
+        } else {
+            &other.set
+        };
+        let found = self.set.overlap(set, most_states);
+        let mut found = found.map_err(BuildError::without_place)?;
+        for rest in self.rests() {
+            for glob in &other.globs {
+                found = found.shorter(rest.overlap(glob, most_states)?);
+            }
+        }
+        for rest in other.rests() {
+            for glob in self.globs.iter().filter(|glob| !glob.is_rest()) {
+                found = found.shorter(glob.overlap(rest, most_states)?);
+            }
+        }
+        Ok(found)
+    }
+
     pub(crate) fn globs(&self) -> &[Glob<'t>] {
         &self.globs
     }
@@ -57,8 +98,7 @@ impl<'t> Any<'t> {
 
     /// Returns the patterns that aren't in the set.
     pub(crate) fn rests(&self) -> impl Iterator<Item = &Glob<'t>> {
-        let globs = self.globs.iter();
-        globs.filter(|glob| glob.whole_expression().is_none())
+        self.globs.iter().filter(|glob| glob.is_rest())
     }
 }
 

@@ -7,9 +7,10 @@ use std::path::PathBuf;
 use std::str::FromStr;
 use std::sync::Arc;
 
+use crate::literals;
 use crate::query::{depth_between, DepthVariance, TextVariance, When};
 use crate::sys::{self, Handle};
-use crate::{BuildError, CandidatePath, MatchedText, Pattern, Program};
+use crate::{BuildError, CandidatePath, Comparison, MatchedText, Pattern, Program};
 
 /// A glob: build it once, to match many paths.
 ///
@@ -114,8 +115,53 @@ impl<'t> Glob<'t> {
         self.expression.is_empty()
     }
 
+    /// Returns whether the text of a component is `.` or `..`. Such a component matches only this text, and leads to no other folder.
+    ///
+    /// ```
+    /// use wax::Glob;
+    ///
+    /// assert!(Glob::new("../src/**").unwrap().has_semantic_literals());
+    /// assert!(!Glob::new("src/..*").unwrap().has_semantic_literals());
+    /// ```
+    pub fn has_semantic_literals(&self) -> bool {
+        literals::has_semantic_literals(&self.expression)
+    }
+
+    /// Finds a shortest path that this glob and another one match, among the same paths and within the same limit as
+    /// [`overlap`](crate::overlap) does of their expressions. Other threads that match by one of the two wait until it ends.
+    ///
+    /// ```
+    /// use wax::{Comparison, Glob, MOST_STATES};
+    ///
+    /// let (_, rest) = Glob::new("src/*/mod.rs").unwrap().partition();
+    /// let other = Glob::new("net/**").unwrap();
+    /// let found = rest.unwrap().overlap(&other, MOST_STATES).unwrap();
+    /// assert_eq!(found, Comparison::Text("net/mod.rs".to_string()));
+    /// ```
+    ///
+    /// # Errors
+    ///
+    /// Returns an error if memory ran out.
+    pub fn overlap(&self, other: &Glob<'_>, most_states: usize) -> Result<Comparison, BuildError> {
+        let everything;
+        let other = if Arc::ptr_eq(&self.handle, &other.handle) {
+            // (the library takes no handle twice; what a glob has in common with itself, it has in common with `**`)
+            everything = Glob::new("**")?;
+            &everything.handle
+        } else {
+            &other.handle
+        };
+        let found = self.handle.overlap(other, most_states);
+        found.map_err(BuildError::without_place)
+    }
+
     pub(crate) fn handle(&self) -> &Arc<Handle<sys::Glob>> {
         &self.handle
+    }
+
+    /// Returns whether the glob is the rest of another.
+    pub(crate) fn is_rest(&self) -> bool {
+        self.is_rest
     }
 
     /// Returns the expression, unless the glob is the rest of another.

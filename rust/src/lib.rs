@@ -11,14 +11,17 @@
 //! assert_eq!(glob.matched(&path).unwrap().get(2), Some("tcp"));
 //! ```
 //!
-//! The module [`walk`] finds the files that a glob matches. The README of this crate lists its differences from wax 0.7.0.
+//! The module [`walk`] finds the files that a glob matches. [`overlap`], [`difference`] and [`compare`] compare two expressions by
+//! the paths that they match; [`Glob::overlap`] and [`Any::overlap`] take what is built. The README of this crate lists its differences from wax 0.7.0.
 
 #![warn(missing_docs, unsafe_op_in_unsafe_fn)]
 
 mod any;
+mod comparing;
 mod error;
 mod glob;
 mod ignore;
+mod literals;
 mod path;
 pub mod query;
 mod sys;
@@ -29,6 +32,7 @@ use std::borrow::Cow;
 use crate::query::{DepthVariance, TextVariance, When};
 
 pub use crate::any::{any, Any};
+pub use crate::comparing::{compare, difference, overlap, Comparison, MOST_STATES};
 pub use crate::error::{BuildError, GlobError};
 pub use crate::glob::Glob;
 pub use crate::path::{CandidatePath, MatchedText};

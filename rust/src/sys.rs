@@ -5,6 +5,7 @@ use std::ptr::{self, NonNull};
 use std::sync::{Mutex, PoisonError};
 
 use crate::query::Span;
+use crate::Comparison;
 
 /// The C types of handles, and the functions of the header that this crate calls.
 mod c {
@@ -55,6 +56,43 @@ mod c {
             written: *mut usize,
         ) -> i32;
 
+        pub fn wax_overlap(
+            first: *const u8,
+            first_length: usize,
+            second: *const u8,
+            second_length: usize,
+            most_states: usize,
+            output: *mut u8,
+            room: usize,
+            written: *mut usize,
+            which: *mut usize,
+            span: *mut Span,
+        ) -> i32;
+        pub fn wax_difference(
+            first: *const u8,
+            first_length: usize,
+            second: *const u8,
+            second_length: usize,
+            most_states: usize,
+            output: *mut u8,
+            room: usize,
+            written: *mut usize,
+            which: *mut usize,
+            span: *mut Span,
+        ) -> i32;
+        pub fn wax_compare(
+            first: *const u8,
+            first_length: usize,
+            second: *const u8,
+            second_length: usize,
+            most_states: usize,
+            output: *mut u8,
+            room: usize,
+            written: *mut usize,
+            which: *mut usize,
+            span: *mut Span,
+        ) -> i32;
+
         pub fn wax_glob_new(
             text: *const u8,
             length: usize,
@@ -93,6 +131,14 @@ mod c {
             written: *mut usize,
             rest: *mut *mut Glob,
         ) -> i32;
+        pub fn wax_glob_overlap(
+            first: *const Glob,
+            second: *const Glob,
+            most_states: usize,
+            output: *mut u8,
+            room: usize,
+            written: *mut usize,
+        ) -> i32;
         pub fn wax_glob_free(glob: *mut Glob);
 
         pub fn wax_set_new(
@@ -106,6 +152,14 @@ mod c {
         ) -> i32;
         pub fn wax_set_is_match(set: *mut Set, path: *const u8, length: usize) -> i32;
         pub fn wax_set_goes_on(set: *mut Set, folder: *const u8, length: usize) -> i32;
+        pub fn wax_set_overlap(
+            first: *const Set,
+            second: *const Set,
+            most_states: usize,
+            output: *mut u8,
+            room: usize,
+            written: *mut usize,
+        ) -> i32;
         pub fn wax_set_free(set: *mut Set);
 
         pub fn wax_ignore_new(
@@ -127,6 +181,24 @@ mod c {
 pub use c::{Facts, Glob, Ignore, Set};
 
 const NO_ROOM: i32 = -21;
+
+/// A function of the library that compares two expressions.
+pub type Compare = unsafe extern "C" fn(
+    *const u8,
+    usize,
+    *const u8,
+    usize,
+    usize,
+    *mut u8,
+    usize,
+    *mut usize,
+    *mut usize,
+    *mut c::Span,
+) -> i32;
+
+pub const OVERLAP: Compare = c::wax_overlap;
+pub const DIFFERENCE: Compare = c::wax_difference;
+pub const COMPARE: Compare = c::wax_compare;
 
 /// Why an expression isn't built: the number of the error, and its place.
 pub struct Failure {
@@ -196,6 +268,21 @@ impl<T: Free> Handle<T> {
     fn with<R>(&self, call: impl FnOnce(*mut T) -> R) -> R {
         let locked = self.0.lock().unwrap_or_else(PoisonError::into_inner);
         call(locked.0.as_ptr())
+    }
+
+    /// Calls a function of the library while no other call uses the two handles.
+    ///
+    /// # Panics
+    ///
+    /// Panics if both are one handle.
+    fn with_both<R>(&self, other: &Self, call: impl FnOnce(*mut T, *mut T) -> R) -> R {
+        assert!(!ptr::eq(self, other), "one handle is passed twice");
+        // (all threads take the locks in one order, so no two of them wait for each other)
+        if ptr::addr_of!(self.0) < ptr::addr_of!(other.0) {
+            self.with(|one| other.with(|two| call(one, two)))
+        } else {
+            other.with(|two| self.with(|one| call(one, two)))
+        }
     }
 }
 
@@ -302,6 +389,20 @@ impl Handle<Glob> {
         });
         (prefix, Handle::from_library(rest))
     }
+
+    /// Returns what is found that this glob and another one match. The two are different handles.
+    ///
+    /// # Errors
+    ///
+    /// Returns the number of the error.
+    pub fn overlap(&self, other: &Self, most_states: usize) -> Result<Comparison, i32> {
+        found(|output, room, written| {
+            // SAFETY: the output has this length, the two are different, and no other call uses them.
+            self.with_both(other, |one, two| unsafe {
+                c::wax_glob_overlap(one, two, most_states, output, room, written)
+            })
+        })
+    }
 }
 
 impl Handle<Set> {
@@ -338,6 +439,20 @@ impl Handle<Set> {
     pub fn goes_on(&self, folder: &str) -> bool {
         // SAFETY: the path has this length, and no other call uses the handle.
         decided(self.with(|set| unsafe { c::wax_set_goes_on(set, folder.as_ptr(), folder.len()) }))
+    }
+
+    /// Returns what is found that this set and another one match. The two are different handles.
+    ///
+    /// # Errors
+    ///
+    /// Returns the number of the error.
+    pub fn overlap(&self, other: &Self, most_states: usize) -> Result<Comparison, i32> {
+        found(|output, room, written| {
+            // SAFETY: the output has this length, the two are different, and no other call uses them.
+            self.with_both(other, |one, two| unsafe {
+                c::wax_set_overlap(one, two, most_states, output, room, written)
+            })
+        })
     }
 }
 
@@ -386,6 +501,57 @@ pub fn picture(expression: &str) -> String {
         c::wax_picture(expression.as_ptr(), expression.len(), output, room, written)
     })
     .1
+}
+
+/// Returns what a function finds of two expressions.
+///
+/// # Errors
+///
+/// Returns the index of the expression that has an error, or 2, and the error.
+pub fn compared(
+    call: Compare,
+    first: &str,
+    second: &str,
+    most_states: usize,
+) -> Result<Comparison, (usize, Failure)> {
+    let (mut which, mut span) = (0, c::Span::default());
+    let found = found(|output, room, written| {
+        // SAFETY: both texts and the output have these lengths, and the call may write to the variables.
+        unsafe {
+            call(
+                first.as_ptr(),
+                first.len(),
+                second.as_ptr(),
+                second.len(),
+                most_states,
+                output,
+                room,
+                written,
+                &mut which,
+                &mut span,
+            )
+        }
+    });
+    let span = (span.start, span.length);
+    found.map_err(|number| (which, Failure { number, span }))
+}
+
+/// Passes an output to a call, until it is large enough, and returns what the call finds, or the number of its error.
+fn found(mut call: impl FnMut(*mut u8, usize, &mut usize) -> i32) -> Result<Comparison, i32> {
+    let mut count = 64;
+    loop {
+        let mut output = vec![0; count];
+        match call(output.as_mut_ptr(), output.len(), &mut count) {
+            0 => return Ok(Comparison::Nothing),
+            1 => {
+                output.truncate(count);
+                return Ok(Comparison::Text(text_of(output)));
+            }
+            2 => return Ok(Comparison::Unknown),
+            NO_ROOM => {}
+            number => return Err(-number),
+        }
+    }
 }
 
 /// Passes an output to a call, which has to be large enough at the second time, and returns what the call decides and writes.

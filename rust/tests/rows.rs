@@ -5,7 +5,9 @@ use std::fs;
 
 use wax::query::{DepthVariance, TextVariance, When};
 use wax::walk::{DepthMinMax, FileIterator, IgnoreList};
-use wax::{any, Any, BuildError, CandidatePath, Glob, Program};
+use wax::{
+    any, compare, difference, overlap, Any, BuildError, CandidatePath, Comparison, Glob, Program,
+};
 
 mod folder;
 
@@ -237,6 +239,99 @@ fn calls() {
     check("worked_sets", 10);
 }
 
+/// Returns what is found of two expressions.
+fn compared(kind: &str, first: &str, second: &str, most: usize) -> Result<Comparison, BuildError> {
+    match kind {
+        "overlap" => overlap(first, second, most),
+        "difference" => difference(first, second, most),
+        "compare" => compare(first, second, most),
+        _ => panic!("{kind}"),
+    }
+}
+
+/// Returns what two globs have in common.
+fn overlap_of_globs(first: &str, second: &str, most: usize) -> Result<Comparison, BuildError> {
+    Glob::new(first)?.overlap(&Glob::new(second)?, most)
+}
+
+/// Returns what two sets have in common, each of patterns with spaces between them.
+fn overlap_of_sets(first: &str, second: &str, most: usize) -> Result<Comparison, BuildError> {
+    set(first)?.overlap(&set(second)?, most)
+}
+
+/// Returns what is found, as rows show it.
+fn finding(found: Result<Comparison, BuildError>) -> String {
+    match found {
+        Ok(Comparison::Nothing) => "nothing".to_string(),
+        Ok(Comparison::Text(path)) => format!("text \"{path}\""),
+        Ok(Comparison::Unknown) => "unknown".to_string(),
+        Err(error) => number(&error).to_string(),
+    }
+}
+
+#[test]
+fn comparisons() {
+    let (mut count, mut overlaps, mut sets) = (0, 0, 0);
+    for row in rows("crates/wax_vectors/data/worked_compare.tsv") {
+        if row.len() < 6 || row[1] != "paths" {
+            continue; // another kind
+        }
+        let (kind, first, second, wanted) = (&row[0], &row[3], &row[4], &row[5]);
+        let most = row[2].parse().unwrap();
+        let is_set = first.contains(' ') || second.contains(' ');
+        if !is_set {
+            assert_eq!(
+                &finding(compared(kind, first, second, most)),
+                wanted,
+                "{row:?}"
+            );
+            count += 1;
+        }
+        if kind == "overlap" {
+            assert_eq!(
+                &finding(overlap_of_sets(first, second, most)),
+                wanted,
+                "{row:?}"
+            );
+            if !is_set {
+                assert_eq!(
+                    &finding(overlap_of_globs(first, second, most)),
+                    wanted,
+                    "{row:?}"
+                );
+            }
+            overlaps += 1;
+            sets += usize::from(is_set);
+        }
+    }
+    assert!(
+        count > 20 && overlaps > 20 && sets > 3,
+        "only {count}, {overlaps}, {sets} rows"
+    );
+}
+
+#[test]
+fn errors_of_comparisons() {
+    for call in [overlap, difference, compare] {
+        for (first, second, wanted, span) in [
+            ("é//b", "{", "2", Some((2, 2))),
+            ("a", "é//b", "2", Some((2, 2))),
+            ("a", "<a*:1000000>", "9", None),
+        ] {
+            let error = call(first, second, 100).unwrap_err();
+            assert_eq!(number(&error), wanted);
+            assert_eq!(error.locations().next().map(|it| it.span()), span);
+        }
+        assert_eq!(call("a", "aa", 0).unwrap(), Comparison::Unknown);
+    }
+    // (a path that needs more than the first output)
+    let long = "é".repeat(1000);
+    assert_eq!(
+        overlap(&long, "**", usize::MAX).unwrap(),
+        Comparison::Text(long)
+    );
+}
+
 /// Returns the branches of an expression that is an alternation of plain globs.
 fn branches(expression: &str) -> Option<Vec<&str>> {
     let inner = expression.strip_prefix('{')?.strip_suffix('}')?;
@@ -246,7 +341,7 @@ fn branches(expression: &str) -> Option<Vec<&str>> {
 
 #[test]
 fn queries() {
-    let mut sets = 0;
+    let (mut sets, mut semantic) = (0, 0);
     for row in ["query", "worked_query"]
         .iter()
         .flat_map(|table| rows(&format!("tests/data/{table}.tsv")))
@@ -262,12 +357,64 @@ fn queries() {
             assert_eq!(facts(&any(patterns).unwrap()), wanted, "{}", row[0]);
             sets += 1;
         }
+        let is_semantic = row[7..].iter().any(|it| it.starts_with("warning semantic"));
+        assert_eq!(glob.has_semantic_literals(), is_semantic, "{}", row[0]);
+        semantic += usize::from(is_semantic);
         let (prefix, rest) = glob.partition();
         assert_eq!(format!("prefix {}", prefix.display()), row[5], "{}", row[0]);
         let shown = rest.map_or("no rest".to_string(), |rest| format!("rest {rest}"));
         assert_eq!(shown, row[6], "{}", row[0]);
     }
     assert!(sets > 10, "only {sets} alternations");
+    assert!(semantic > 9, "only {semantic} expressions with `.` or `..`");
+}
+
+#[test]
+fn semantic_literals() {
+    for expression in [
+        ".",
+        "(?i)./a",
+        ".(?i).",
+        "{a,.}",
+        "a{.}",
+        "a/<./:2>",
+        "<.:2>",
+        "*/..",
+        r"[\]]/..",
+        "[a/b]/..",
+        "<a:2>/..",
+        "<{a,..}:1,2>/x",
+        "{{a,b},..}",
+        "**/..",
+        "./**",
+        r"[\[:]/.",
+        r"\:/..",
+        r"<\::1>/..",
+        r"\,/.",
+        "{a,b/..}c",
+        "{a,../b}c",
+    ] {
+        let glob = Glob::new(expression).unwrap();
+        assert!(glob.has_semantic_literals(), "{expression}");
+    }
+    for expression in [
+        "",
+        "...",
+        "..(?-i).",
+        "a.",
+        ".?",
+        "$..",
+        "..*",
+        "[.]",
+        r"[.\-/]",
+        "<a/:1,2>..",
+        "{a,b}..",
+        "..{a}",
+        "<a:2>.",
+    ] {
+        let glob = Glob::new(expression).unwrap();
+        assert!(!glob.has_semantic_literals(), "{expression}");
+    }
 }
 
 /// Returns the paths of a plan: a name that ends with `/` begins a folder, and `;` ends it.
