@@ -9,7 +9,7 @@ use Rattle.wax_command_line.specs.Commands.{WalkOption, excluding, ignoring, at_
 use Rattle.wax_command_line.specs.Commands.{SayEach, least_of, greatest_of, list_of, leasts_in, greatests_in}
 use Rattle.wax_command_line.specs.Commands.{count_lists}
 use Rattle.wax_command_line.specs.Commands.{AreBounds, SaysWalk, AsksWalk, WalkRequest}
-use Rattle.wax_command_line.specs.WalkWords.{HasNoNext, IsNext}
+use Rattle.wax_command_line.specs.WalkArguments.{HasNoNext, IsNext}
 use Rattle.wax_command_line.specs.inner.OptionWords.{AreDoubled, AreMore, AreSaidBy, all_in, one_if}
 use Rattle.wax_command_line.specs.inner.OptionWords.{IsFirstWord, IsDoubled}
 use Rattle.wax_command_line.specs.declared.walk_words.OptionWords.{OptionWords}

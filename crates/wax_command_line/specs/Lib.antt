@@ -1,5 +1,5 @@
 pub mod Candidates
 pub mod Commands
-pub mod WalkWords
+pub mod WalkArguments
 pub mod Wanted
 pub mod inner

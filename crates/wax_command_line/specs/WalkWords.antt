@@ -5,7 +5,7 @@ use Rattle.wax_command_line.specs.Commands.{IsOption, WalkOption, excluding, ign
 use Rattle.wax_command_line.specs.Commands.{WalkRequest, SayEach, greatest_in, least_in}
 use Rattle.wax_command_line.specs.declared.walk_words.WalkOption.{WalkOption as ReadOption}
 use Rattle.wax_command_line.specs.declared.walk_words.WalkOption.TheVariants.{Not, Ignore, Min, Max}
-use Rattle.wax_command_line.specs.declared.walk_words.WalkWords.{WalkWords}
+use Rattle.wax_command_line.specs.declared.walk_words.WalkArguments.{WalkArguments}
 
 -- what an option asks for
 abbrev pub asked_by : ReadOption → WalkOption
@@ -25,7 +25,7 @@ abbrev pub HasNoNext : {A : Type 0} → List (Option (String A)) → Type 0
 HasNoNext {A} words = (o : WalkOption) (rest : List (Option (String A))) → IsNext words o rest → ⊥
 
 -- what was read from the arguments is what they request
-pub record IsRead (walk : WalkWords) (asked : WalkRequest) : Type 0 where
+pub record IsRead (walk : WalkArguments) (asked : WalkRequest) : Type 0 where
   pub start : walk.start.now ≡ asked.start
   pub expression : walk.expression.now ≡ asked.expression
   pub options : SayEach walk.options.now asked.options

@@ -7,4 +7,4 @@ mod walk_words;
 
 pub use arguments::words;
 pub use candidates::write_wanted;
-pub use walk_words::{WalkOption, WalkWords, next_option, read_walk};
+pub use walk_words::{WalkArguments, WalkOption, next_option, read_walk};

@@ -6,7 +6,7 @@ ghost use Rattle.wax_command_line.specs.Commands.{WalkOption as AskedOption, Wal
 ghost use Rattle.wax_command_line.specs.Commands.{count_lists, greatests_in, leasts_in};
 ghost use Rattle.wax_tree.specs.Depths.{greatest, least};
 ghost use Rattle.wax_command_line.specs.inner.OptionWords.{AreDoubled, AreMore, AreSaidBy, HasNoFirst};
-ghost use Rattle.wax_command_line.specs.WalkWords.{HasNoNext, IsNext, IsRead, asked_by};
+ghost use Rattle.wax_command_line.specs.WalkArguments.{HasNoNext, IsNext, IsRead, asked_by};
 ghost use Rattle.wax_command_line.specs.inner.OptionWords.{IsDoubled, IsFirstWord};
 ghost use Rattle.wax_command_line.specs.inner.OptionWords.{all_in, one_if};
 
@@ -27,7 +27,7 @@ pub enum WalkOption<'w> {
 
 /// What the arguments of a walk ask for.
 #[derive(Clone, Copy)]
-pub struct WalkWords<'w> {
+pub struct WalkArguments<'w> {
     pub start: &'w str,
     pub expression: &'w str,
     /// The options, each a name and a value.
@@ -45,7 +45,7 @@ struct OptionWords {
 }
 
 /// Reads the arguments of a walk. Returns `None` if they don't ask for one.
-pub fn read_walk<'w>(words: &'w [Option<String>]) -> Option<WalkWords<'w>>
+pub fn read_walk<'w>(words: &'w [Option<String>]) -> Option<WalkArguments<'w>>
     ensures some { IfSome result (λ walk. (asked : WalkRequest) × AsksWalk words.now asked
         × IsRead walk asked) }
     ensures none { IfNone result ((asked : WalkRequest) → AsksWalk words.now asked → ⊥) }
@@ -57,7 +57,7 @@ pub fn read_walk<'w>(words: &'w [Option<String>]) -> Option<WalkWords<'w>>
         return None;
     }
     let depth = depths_of(read_options(options)?)?;
-    Some(WalkWords {
+    Some(WalkArguments {
         start,
         expression,
         options,
@@ -159,11 +159,11 @@ fn with_option(bounds: OptionWords, option: WalkOption<'_>) -> Option<OptionWord
         WalkOption::Not(_) => Some(bounds),
         WalkOption::Ignore(_) => with_list(bounds),
         WalkOption::Min(depth) => {
-            let lower = said_once(bounds.lower, depth)?;
+            let lower = set_once(bounds.lower, depth)?;
             Some(OptionWords { lower, ..bounds })
         }
         WalkOption::Max(depth) => {
-            let upper = said_once(bounds.upper, depth)?;
+            let upper = set_once(bounds.upper, depth)?;
             Some(OptionWords { upper, ..bounds })
         }
     }
@@ -184,7 +184,7 @@ fn with_list(bounds: OptionWords) -> Option<OptionWords>
 }
 
 // Returns the depth, unless one was set before.
-fn said_once(before: Option<usize>, depth: usize) -> Option<Option<usize>>
+fn set_once(before: Option<usize>, depth: usize) -> Option<Option<usize>>
     ensures some { IfSome result (λ said. all_in said ≡ all_in before ++ depth ∷ []) }
     ensures none { IfNone result (2 ≤ length (all_in before ++ depth ∷ [])) }
 {

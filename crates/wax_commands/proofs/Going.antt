@@ -32,9 +32,9 @@ use Rattle.wax.proofs.Kept.{gave_within}
 use Rattle.wax_commands.specs.Walked.{AreAskedByAll, AreBuilt, Environment, HasRefused, OnWalk, WalkEnds}
 use Rattle.wax_commands.specs.Walked.{WalkGlobs, cut_short, done, faulty, lacks_memory, no_filter}
 use Rattle.wax_commands.specs.Walked.{range_in, refused, stopped}
-use Rattle.wax_command_line.specs.declared.walk_words.WalkWords.{WalkWords}
+use Rattle.wax_command_line.specs.declared.walk_words.WalkArguments.{WalkArguments}
 use Rattle.wax_command_line.specs.Wanted.{KeepsOnRequests, OnRequests, WroteFirst, WroteWanted}
-use Rattle.wax_command_line.specs.WalkWords.{IsRead}
+use Rattle.wax_command_line.specs.WalkArguments.{IsRead}
 
 module _ {D C : Type 0} (law : Law D C) (d : D) (asked : WalkRequest) (globs : WalkGlobs)
     (view : WalkView D) where
@@ -62,7 +62,7 @@ module _ {D C : Type 0} (law : Law D C) (d : D) (asked : WalkRequest) (globs : W
 
 -- ---- from what was read on
 
-range_read : (walk : WalkWords) (asked : WalkRequest) (b : WalkBehavior) → IsRead walk asked
+range_read : (walk : WalkArguments) (asked : WalkRequest) (b : WalkBehavior) → IsRead walk asked
     → b ≡ behavior_at walk.depth → behavior_range b ≡ range_in asked.options
 range_read walk asked b read e =
     ap behavior_range e
@@ -87,7 +87,7 @@ ends_in_no_memory reports before faults (inl a) = inl (before.inner, a)
 ends_in_no_memory reports before faults (inr (inl l)) = inr (omega (arith, l))
 ends_in_no_memory reports before faults (inr (inr e)) = inr (omega (arith, e))
 
-module _ {D C Z F : Type 0} (over : Environment D C Z F) (walk : WalkWords) (asked : WalkRequest)
+module _ {D C Z F : Type 0} (over : Environment D C Z F) (walk : WalkArguments) (asked : WalkRequest)
     (read : IsRead walk asked) where
   -- the rules are those of the filters that the options request
   abbrev pub AreLeftOut : List (Candidate → Mark) → Type 0

@@ -10,7 +10,7 @@ use Rattle.wax_exclude.specs.Wanted.{Filter}
 use Rattle.wax_command_line.specs.Commands.{WalkOption, SayEach}
 use Rattle.wax_commands.specs.Files.{FileAnswers}
 use Rattle.wax_commands.specs.Walked.{AreAskedBy, AreAskedByAll, HasRefused, IsRefusedOption}
-use Rattle.wax_command_line.specs.WalkWords.{HasNoNext, IsNext}
+use Rattle.wax_command_line.specs.WalkArguments.{HasNoNext, IsNext}
 use Rattle.wax_command_line.proofs.OptionWords.{next_says, says_none}
 
 rules_more : (xs ys : List (Filter Span)) (rules others : List (Candidate → Mark)) → AreRulesOf xs rules

@@ -11,7 +11,7 @@ ghost use Rattle.wax_walk.specs.Given.{Mark};
 ghost use Rattle.wax_exclude.specs.Ignored.{Line};
 ghost use Rattle.wax_exclude.specs.Wanted.{Filter, not_ignored, not_meant};
 ghost use Rattle.wax_command_line.specs.Commands.{SayEach, WalkOption as AskedOption};
-ghost use Rattle.wax_command_line.specs.WalkWords.{asked_by};
+ghost use Rattle.wax_command_line.specs.WalkArguments.{asked_by};
 ghost use Rattle.wax_commands.specs.Files.{IsListIn, IsUnlisted};
 ghost use Rattle.wax_commands.specs.Refused.{IsRefused};
 ghost use Rattle.wax_commands.specs.Streams.{SaysNoMemory, stream_of};

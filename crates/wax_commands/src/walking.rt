@@ -4,7 +4,7 @@ ghost use Rattle.std.specs.Prelude.{◌≡◌};
 ghost use Rattle.wax_command_line.specs.Commands.{WalkRequest};
 ghost use Rattle.wax_commands.specs.Streams.{stream_of, writers};
 ghost use Rattle.wax_commands.specs.Walked.{WalkEnds};
-ghost use Rattle.wax_command_line.specs.WalkWords.{IsRead};
+ghost use Rattle.wax_command_line.specs.WalkArguments.{IsRead};
 
 use crate::building::{built, built_filters};
 use crate::faults::say_no_memory;
@@ -14,14 +14,14 @@ use std::alloc::Global;
 use std::io::Write;
 use wax::walk::{Directory, WalkBehavior};
 use wax::{Counted, LinesError};
-use wax_command_line::{WalkWords, write_wanted};
+use wax_command_line::{WalkArguments, write_wanted};
 
 /// Builds the glob, then the filters in the order of the arguments, and then writes the candidates
 /// of the walk. Returns the exit status. Each error of the walk is written to `faults` when it
 /// comes.
 pub fn run_walk<W, F, D, B>(
     alloc: Global,
-    walk: WalkWords<'_>,
+    walk: WalkArguments<'_>,
     output: &mut Counted<W>,
     faults: &mut Counted<F>,
     directory: D,

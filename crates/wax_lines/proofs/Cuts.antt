@@ -9,7 +9,7 @@ use Rattle.std.proofs.lemmas.List.Sums.{fails_before_first, split_at_first}
 use Rattle.std.specs.List.{position_or_len, before_first, after_first}
 use Rattle.std.proofs.lemmas.List.Elements.{All-head, All-tail}
 use Rattle.wax_lines.specs.Lines.{onto_lines, lines, onto_whole, whole_lines, Gives, Filters}
-use Rattle.wax_lines.specs.inner.Sifted.{HasNoFeed, is_feed, lines_text}
+use Rattle.wax_lines.specs.inner.Sifted.{HasNoNewline, is_feed, lines_text}
 use Rattle.wax_lines.proofs.Feeds.{byte_at_feed}
 
 is_no_feed : (b : ℕ) → b ≢ 10 → (b == 10) ≡ false
@@ -22,13 +22,13 @@ whole_lines-more : (b : ℕ) (bs : List ℕ) → b ≢ 10 → whole_lines (b ∷
 whole_lines-more b bs h =
     ap (λ t. if t then [] ∷ whole_lines bs else onto_whole b (whole_lines bs)) (is_no_feed b h)
 
-lines_line : (line tail : List ℕ) → HasNoFeed line → lines (line ++ 10 ∷ tail) ≡ line ∷ lines tail
+lines_line : (line tail : List ℕ) → HasNoNewline line → lines (line ++ 10 ∷ tail) ≡ line ∷ lines tail
 lines_line [] tail h = refl
 lines_line (b ∷ line) tail h =
     lines-more b (line ++ 10 ∷ tail) (All-head (λ x. x ≢ 10) b line h)
     ∙ ap (onto_lines b) (lines_line line tail (All-tail (λ x. x ≢ 10) b line h))
 
-whole_lines_line : (line tail : List ℕ) → HasNoFeed line
+whole_lines_line : (line tail : List ℕ) → HasNoNewline line
     → whole_lines (line ++ 10 ∷ tail) ≡ line ∷ whole_lines tail
 whole_lines_line [] tail h = refl
 whole_lines_line (b ∷ line) tail h =
@@ -36,34 +36,34 @@ whole_lines_line (b ∷ line) tail h =
     ∙ ap (onto_whole b) (whole_lines_line line tail (All-tail (λ x. x ≢ 10) b line h))
 
 -- a last line without its end
-pub lines_open : (b : ℕ) (bs : List ℕ) → HasNoFeed (b ∷ bs) → lines (b ∷ bs) ≡ (b ∷ bs) ∷ []
+pub lines_open : (b : ℕ) (bs : List ℕ) → HasNoNewline (b ∷ bs) → lines (b ∷ bs) ≡ (b ∷ bs) ∷ []
 lines_open b [] h = lines-more b [] (All-head (λ x. x ≢ 10) b [] h)
 lines_open b (c ∷ cs) h =
     lines-more b (c ∷ cs) (All-head (λ x. x ≢ 10) b (c ∷ cs) h)
     ∙ ap (onto_lines b) (lines_open c cs (All-tail (λ x. x ≢ 10) b (c ∷ cs) h))
 
-whole_lines_open : (bs : List ℕ) → HasNoFeed bs → whole_lines bs ≡ []
+whole_lines_open : (bs : List ℕ) → HasNoNewline bs → whole_lines bs ≡ []
 whole_lines_open [] h = refl
 whole_lines_open (b ∷ bs) h =
     whole_lines-more b bs (All-head (λ x. x ≢ 10) b bs h)
     ∙ ap (onto_whole b) (whole_lines_open bs (All-tail (λ x. x ≢ 10) b bs h))
 
 -- whole lines come first
-pub lines_joined : (whole : List (List ℕ)) (tail : List ℕ) → All HasNoFeed whole
+pub lines_joined : (whole : List (List ℕ)) (tail : List ℕ) → All HasNoNewline whole
     → lines (lines_text whole ++ tail) ≡ whole ++ lines tail
 lines_joined [] tail h = refl
 lines_joined (line ∷ rest) tail h =
     ap lines (append_assoc line (10 ∷ lines_text rest) tail)
-    ∙ lines_line line (lines_text rest ++ tail) (All-head HasNoFeed line rest h)
-    ∙ ap (λ z. line ∷ z) (lines_joined rest tail (All-tail HasNoFeed line rest h))
+    ∙ lines_line line (lines_text rest ++ tail) (All-head HasNoNewline line rest h)
+    ∙ ap (λ z. line ∷ z) (lines_joined rest tail (All-tail HasNoNewline line rest h))
 
-pub whole_lines_joined : (whole : List (List ℕ)) (tail : List ℕ) → All HasNoFeed whole → HasNoFeed tail
+pub whole_lines_joined : (whole : List (List ℕ)) (tail : List ℕ) → All HasNoNewline whole → HasNoNewline tail
     → whole_lines (lines_text whole ++ tail) ≡ whole
 whole_lines_joined [] tail h k = whole_lines_open tail k
 whole_lines_joined (line ∷ rest) tail h k =
     ap whole_lines (append_assoc line (10 ∷ lines_text rest) tail)
-    ∙ whole_lines_line line (lines_text rest ++ tail) (All-head HasNoFeed line rest h)
-    ∙ ap (λ z. line ∷ z) (whole_lines_joined rest tail (All-tail HasNoFeed line rest h) k)
+    ∙ whole_lines_line line (lines_text rest ++ tail) (All-head HasNoNewline line rest h)
+    ∙ ap (λ z. line ∷ z) (whole_lines_joined rest tail (All-tail HasNoNewline line rest h) k)
 
 pub lines_text-append : (whole : List (List ℕ)) (line : List ℕ)
     → lines_text (whole ++ line ∷ []) ≡ lines_text whole ++ (line ++ 10 ∷ [])
@@ -94,12 +94,12 @@ Filters-more Writes (first ∷ rest) line out more bad m h g =
 is_other : (b : ℕ) → (b == 10) ≡ false → b ≢ 10
 is_other b e h = elim (eqb_tells b 10) [ inl t ↦ true≢false (sym t.0 ∙ e) | inr f ↦ f.1 h ]
 
-pub no_feed : (s : List ℕ) (at : ℕ) → at ≡ position_or_len is_feed s → length s ≤ at → HasNoFeed s
+pub no_feed : (s : List ℕ) (at : ℕ) → at ≡ position_or_len is_feed s → length s ≤ at → HasNoNewline s
 no_feed s at found past =
     All-from_get_or (λ b. b ≢ 10) s 0
     (λ i lt. is_other (get_or s i 0) (fails_before_first is_feed s i 0 (omega (arith, found, lt))))
 
-no_feed_before : (s : List ℕ) → HasNoFeed (before_first is_feed s)
+no_feed_before : (s : List ℕ) → HasNoNewline (before_first is_feed s)
 no_feed_before s = All-from_get_or (λ b. b ≢ 10) (before_first is_feed s) 0 (λ i lt.
     let at : i < position_or_len is_feed s = omega (arith, lt, length-take (position_or_len is_feed s) s) in
     is_other (get_or (before_first is_feed s) i 0)
@@ -112,7 +112,7 @@ feed_at s lt = split_at_first is_feed s 0 lt
 
 -- bytes are cut at their first line feed
 pub cut_at_feed : (s front rest : List ℕ) (at : ℕ) → at ≡ position_or_len is_feed s → at < length s
-    → front ≡ take at s → rest ≡ drop (at + 1) s → (s ≡ front ++ 10 ∷ rest) × HasNoFeed front
+    → front ≡ take at s → rest ≡ drop (at + 1) s → (s ≡ front ++ 10 ∷ rest) × HasNoNewline front
 cut_at_feed s front rest at found inside is_front is_rest =
     let before = is_front ∙ ap (λ n. take n s) found in
     let after = is_rest ∙ ap (λ n. drop (n + 1) s) found in (

@@ -6,7 +6,7 @@ use Rattle.std.proofs.lemmas.List.Elements.{All-nil, All-append, All-cons}
 use Rattle.std.proofs.lemmas.List.{nil_from_length}
 use Rattle.std.specs.Io.Iter.{u64_saturate}
 use Rattle.wax_lines.specs.Lines.{lines, whole_lines, Gives, text, Filters}
-use Rattle.wax_lines.specs.inner.Sifted.{HasNoFeed, CountsMore, lines_text, Sifted}
+use Rattle.wax_lines.specs.inner.Sifted.{HasNoNewline, CountsMore, lines_text, Sifted}
 use Rattle.wax_lines.specs.declared.lines.sieve.Sieve.{Sieve}
 use Rattle.wax_lines.specs.inner.Progress.{TakesIn, TakesLast}
 use Rattle.wax_lines.proofs.Cuts.{lines_joined, lines_open, whole_lines_joined, lines_text-append}
@@ -15,7 +15,7 @@ use Rattle.wax_lines.proofs.Cuts.{Filters-more}
 module _ (Writes : List ℕ → List ℕ → Type 0) (taken written carry waiting : List ℕ) (counted : ℕ)
     (h : Sifted Writes taken written carry waiting counted) where
   -- more of a line
-  sifted_more : (more : List ℕ) → HasNoFeed more
+  sifted_more : (more : List ℕ) → HasNoNewline more
       → Sifted Writes (taken ++ more) written (carry ++ more) waiting counted
   sifted_more more k = record {
     whole = h.whole;
@@ -28,7 +28,7 @@ module _ (Writes : List ℕ → List ℕ → Type 0) (taken written carry waitin
   }
 
   -- the end of a line, and what the line gives
-  sifted_line : (end out : List ℕ) (m counted' : ℕ) → HasNoFeed end → Gives Writes (carry ++ end) out m
+  sifted_line : (end out : List ℕ) (m counted' : ℕ) → HasNoNewline end → Gives Writes (carry ++ end) out m
       → CountsMore counted counted' m
       → Sifted Writes (taken ++ (end ++ 10 ∷ [])) written [] (waiting ++ out) counted'
   sifted_line end out m counted' k g more = record {
@@ -36,9 +36,9 @@ module _ (Writes : List ℕ → List ℕ → Type 0) (taken written carry waitin
     bad = h.bad + m;
     splits = ap (λ z. z ++ (end ++ 10 ∷ [])) h.splits
         ∙ rw lines_text-append (simp (append_assoc, append-nil));
-    are_lines = All-append HasNoFeed h.whole ((carry ++ end) ∷ []) h.are_lines
-        (All-cons HasNoFeed (carry ++ end) [] (All-append (λ b. b ≢ 10) carry end h.is_open k)
-        (All-nil HasNoFeed));
+    are_lines = All-append HasNoNewline h.whole ((carry ++ end) ∷ []) h.are_lines
+        (All-cons HasNoNewline (carry ++ end) [] (All-append (λ b. b ≢ 10) carry end h.is_open k)
+        (All-nil HasNoNewline));
     is_open = All-nil (λ b. b ≢ 10);
     filters = subst (λ z. Filters Writes (h.whole ++ (carry ++ end) ∷ []) z (h.bad + m))
         (append_assoc written waiting out)
@@ -69,7 +69,7 @@ sifted_nothing Writes = record {
   whole = [];
   bad = 0;
   splits = refl;
-  are_lines = All-nil HasNoFeed;
+  are_lines = All-nil HasNoNewline;
   is_open = All-nil (λ b. b ≢ 10);
   filters = (refl, refl);
   counts = refl;
@@ -81,7 +81,7 @@ module _ (Writes : List ℕ → List ℕ → Type 0) where
   TakesIn-then old mid new x y f g taken written h =
       rw (← append_assoc) (g (taken ++ x) written (f taken written h))
 
-  pub TakesIn-more : (old new : Sieve) (more : List ℕ) → HasNoFeed more
+  pub TakesIn-more : (old new : Sieve) (more : List ℕ) → HasNoNewline more
       → new.carry.items ≡ old.carry.items ++ more
       → new.kept.bytes.items ≡ old.kept.bytes.items → new.kept.not_text ≡ old.kept.not_text
       → TakesIn Writes more old new
@@ -95,7 +95,7 @@ module _ (Writes : List ℕ → List ℕ → Type 0) where
   TakesIn-none old new e f g =
       TakesIn-more old new [] (All-nil (λ b. b ≢ 10)) (e ∙ sym (append-nil old.carry.items)) f g
 
-  pub TakesIn-line : (old new : Sieve) (end out : List ℕ) (m : ℕ) → HasNoFeed end
+  pub TakesIn-line : (old new : Sieve) (end out : List ℕ) (m : ℕ) → HasNoNewline end
       → Gives Writes (old.carry.items ++ end) out m
       → new.carry.items ≡ [] → new.kept.bytes.items ≡ old.kept.bytes.items ++ out
       → CountsMore old.kept.not_text new.kept.not_text m → TakesIn Writes (end ++ 10 ∷ []) old new
@@ -104,7 +104,7 @@ module _ (Writes : List ℕ → List ℕ → Type 0) where
       out m new.kept.not_text k gives g)
 
   -- a line that is text, at its beginning
-  pub TakesIn-text : (old new : Sieve) (line out : List ℕ) → old.carry.items ≡ [] → HasNoFeed line
+  pub TakesIn-text : (old new : Sieve) (line out : List ℕ) → old.carry.items ≡ [] → HasNoNewline line
       → IsUtf8 line → Writes (chars line) out
       → new.carry.items ≡ [] → new.kept.bytes.items ≡ old.kept.bytes.items ++ out
       → new.kept.not_text ≡ old.kept.not_text
@@ -149,7 +149,7 @@ module _ (Writes : List ℕ → List ℕ → Type 0) where
     counts = g h.bad h.counts;
   }
     where
-      one_line : (bs : List ℕ) → bs ≢ [] → HasNoFeed bs → lines bs ≡ bs ∷ []
+      one_line : (bs : List ℕ) → bs ≢ [] → HasNoNewline bs → lines bs ≡ bs ∷ []
       one_line [] n k = absurd (n refl)
       one_line (b ∷ bs) n k = lines_open b bs k
 

@@ -12,7 +12,7 @@ use Rattle.std.proofs.lemmas.Str.{IsUtf8-drop}
 use Rattle.std.specs.Str.{IsCharBoundary}
 use Rattle.wax_lines.specs.Lines.{WritesNothingBefore}
 use Rattle.wax_lines.specs.inner.Progress.{GivesNothing, TakesIn}
-use Rattle.wax_lines.specs.inner.Sifted.{EndsLines, HasNoFeed, IsAfterFeed, lines_text}
+use Rattle.wax_lines.specs.inner.Sifted.{EndsLines, HasNoNewline, IsAfterFeed, lines_text}
 use Rattle.wax_lines.proofs.Sifting.{TakesIn-none, TakesIn-then, TakesIn-text}
 
 -- ---- a place after a line feed
@@ -56,7 +56,7 @@ utf8_before bytes at utf8 after = elim (cases_lt 0 at) [
 -- ---- bytes that end with a line feed are lines
 
 abbrev AreLines : List ℕ → List (List ℕ) → Type 0
-AreLines bytes lines = (bytes ≡ lines_text lines) × All HasNoFeed lines
+AreLines bytes lines = (bytes ≡ lines_text lines) × All HasNoNewline lines
 
 longer : (b : ℕ) (bytes : List ℕ) (lines : List (List ℕ)) → b ≢ 10 → AreLines (bytes ++ 10 ∷ []) lines
     → (more : List (List ℕ)) × AreLines (b ∷ (bytes ++ 10 ∷ [])) more
@@ -66,23 +66,23 @@ longer b bytes (line ∷ lines) other (e, h) = (
   (b ∷ line) ∷ lines,
   (
     ap (λ z. b ∷ z) e,
-    All-cons HasNoFeed (b ∷ line) lines (All-cons (λ x. x ≢ 10) b line other
-        (All-head HasNoFeed line lines h)) (All-tail HasNoFeed line lines h),
+    All-cons HasNoNewline (b ∷ line) lines (All-cons (λ x. x ≢ 10) b line other
+        (All-head HasNoNewline line lines h)) (All-tail HasNoNewline line lines h),
   ),
 )
 
 cut_lines : (bytes : List ℕ) → (lines : List (List ℕ)) × AreLines (bytes ++ 10 ∷ []) lines
-cut_lines [] = ([] ∷ [], (refl, All-cons HasNoFeed [] [] (All-nil (λ x. x ≢ 10)) (All-nil HasNoFeed)))
+cut_lines [] = ([] ∷ [], (refl, All-cons HasNoNewline [] [] (All-nil (λ x. x ≢ 10)) (All-nil HasNoNewline)))
 cut_lines (b ∷ bytes) =
     let (lines, (e, h)) = cut_lines bytes in
     elim (eqb_tells b 10) [
       | inl feed ↦
-          ([] ∷ lines, ((λ i. feed.1 i ∷ e i), All-cons HasNoFeed [] lines (All-nil (λ x. x ≢ 10)) h))
+          ([] ∷ lines, ((λ i. feed.1 i ∷ e i), All-cons HasNoNewline [] lines (All-nil (λ x. x ≢ 10)) h))
       | inr other ↦ longer b bytes lines other.1 (e, h)
     ]
 
 are_lines : (bytes : List ℕ) → EndsLines bytes → (lines : List (List ℕ)) × AreLines bytes lines
-are_lines bytes (inl none) = ([], (none, All-nil HasNoFeed))
+are_lines bytes (inl none) = ([], (none, All-nil HasNoNewline))
 are_lines bytes (inr (front, e)) =
     let (lines, (same, h)) = cut_lines front in
     (lines, (e ∙ same, h))
@@ -113,7 +113,7 @@ utf8_parts line rest utf8 =
 -- ---- lines for which nothing is written
 
 module _ (Writes : List ℕ → List ℕ → Type 0) where
-  line_gives_nothing : (line rest : List ℕ) (n : ℕ) → HasNoFeed line → IsUtf8 line
+  line_gives_nothing : (line rest : List ℕ) (n : ℕ) → HasNoNewline line → IsUtf8 line
       → WritesNothingBefore Writes (line ++ 10 ∷ rest) n
       → length line < n → GivesNothing Writes (line ++ 10 ∷ [])
   line_gives_nothing line rest n h utf8 none lt sieve empty =
@@ -129,7 +129,7 @@ module _ (Writes : List ℕ → List ℕ → Type 0) where
       ∙ sym (append_assoc line (10 ∷ x) (y ++ 10 ∷ z))) utf8
       (omega (arith, lt, ap length (append_assoc line (10 ∷ x) y), length-append line (10 ∷ (x ++ y))))
 
-  lines_give_nothing : (lines : List (List ℕ)) (rest : List ℕ) (n : ℕ) → All HasNoFeed lines
+  lines_give_nothing : (lines : List (List ℕ)) (rest : List ℕ) (n : ℕ) → All HasNoNewline lines
       → IsUtf8 (lines_text lines)
       → WritesNothingBefore Writes (lines_text lines ++ rest) n → length (lines_text lines) ≤ n
       → GivesNothing Writes (lines_text lines)
@@ -141,9 +141,9 @@ module _ (Writes : List ℕ → List ℕ → Type 0) where
       subst (λ s. WritesNothingBefore Writes s n) (append_assoc line (10 ∷ lines_text lines) rest) none in
       subst (λ s. TakesIn Writes s sieve sieve) (append_assoc line (10 ∷ []) (lines_text lines))
       (TakesIn-then Writes sieve sieve sieve (line ++ 10 ∷ []) (lines_text lines)
-      (line_gives_nothing line (lines_text lines ++ rest) n (All-head HasNoFeed line lines h) utf8_line apart
-      (omega (arith, le, long)) sieve empty)
-      (lines_give_nothing lines rest (n - (length line + 1)) (All-tail HasNoFeed line lines h) utf8_lines
+      (line_gives_nothing line (lines_text lines ++ rest) n (All-head HasNoNewline line lines h) utf8_line
+      apart (omega (arith, le, long)) sieve empty)
+      (lines_give_nothing lines rest (n - (length line + 1)) (All-tail HasNoNewline line lines h) utf8_lines
       (passes_on line (lines_text lines ++ rest) n apart) (omega (arith, le, long)) sieve empty))
 
   pub gives_nothing : (front rest : List ℕ) (n : ℕ) → EndsLines front → IsUtf8 front

@@ -149,7 +149,7 @@ impl CompiledTokens {
         if !self.dfa.reads_last() {
             return self.prefilter.may_match(text);
         }
-        self.prefilter.may_match_at_once(text) && self.prefilter.may_match(encode::last_name(text))
+        self.prefilter.may_match_quickly(text) && self.prefilter.may_match(encode::last_name(text))
     }
 
     /// Returns whether the tokens match the text. The meter counts the visits of the program. A text
@@ -237,7 +237,7 @@ impl CompiledTokens {
         ensures above { meter.new ≤ meter.old + match_visits self.old.0 (length (chars text.now)) }
         ensures steady { meter.old ≤ meter.new }
     {
-        if !self.prefilter.may_match_at_once(text) {
+        if !self.prefilter.may_match_quickly(text) {
             return Ok(false);
         }
         self.dfa.is_match(alloc, &self.program, text, meter)
@@ -304,6 +304,6 @@ impl HasProgram for CompiledTokens {
     }
 
     fn may_accept(&self, text: &str) -> bool {
-        self.prefilter.may_match_at_once(text)
+        self.prefilter.may_match_quickly(text)
     }
 }

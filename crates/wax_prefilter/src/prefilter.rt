@@ -226,7 +226,7 @@ impl Prefilter {
     /// Tests the text as `may_match` does, but skips facts that need a search for more than four
     /// texts, for a text of one or two bytes, or in any case. This is better if a match takes less
     /// time than such a search.
-    pub fn may_match_at_once(&self, text: &str) -> bool
+    pub fn may_match_quickly(&self, text: &str) -> bool
         ensures { PassesFacts self.now (chars text.now) → IsTrue result }
     {
         self.passes(text, true)

@@ -233,7 +233,7 @@ impl Any<'_> {
 
     /// Returns `false` only if no pattern matches the path, by a test that takes less time than a
     /// matcher. It doesn't allocate.
-    fn may_match_at_once(&self, path: &CandidatePath<'_>) -> bool
+    fn may_match_quickly(&self, path: &CandidatePath<'_>) -> bool
         ensures { MeansText self.now path.now → IsTrue result }
     {
         self.compiled.may_accept(path.as_str())

@@ -13,7 +13,7 @@ ghost use Rattle.wax_walk.specs.Known.{KnownItem, StaysKnown};
 ghost use Rattle.wax_walk.specs.Ruled.{ruled_view};
 ghost use Rattle.wax_walk.specs.View.{IsSeenAs};
 
-use crate::glob_walk::leading::lead;
+use crate::glob_walk::leading::names_may_match;
 use crate::walk_tree::WalkTree;
 use std::alloc::Global;
 use wax_directory::directory::Directory;
@@ -96,9 +96,9 @@ where
     ensures matches { IfOk result
         (λ r. KnownItem (IsMatchedEntry (P.means program.now) (P.captured program.now)) r.0) }
 {
-    if !lead(alloc, leading, entry.candidate())? {
-        let unled = TreeResidue::Tree(entry);
-        return Ok((Separation::Residue(Product::new(unled)), true));
+    if !names_may_match(alloc, leading, entry.candidate())? {
+        let excluded = TreeResidue::Tree(entry);
+        return Ok((Separation::Residue(Product::new(excluded)), true));
     }
     match captured(alloc, program, &entry)? {
         Some(matched) => {
@@ -141,12 +141,12 @@ where
         },
         Separation::Residue(residue) => match residue.into_inner() {
             TreeResidue::Node(entry) => {
-                if lead(alloc, leading, entry.candidate())? {
+                if names_may_match(alloc, leading, entry.candidate())? {
                     let excluded = TreeResidue::Node(entry);
                     Ok((Separation::Residue(Product::new(excluded)), false))
                 } else {
-                    let unled = TreeResidue::Tree(entry);
-                    Ok((Separation::Residue(Product::new(unled)), true))
+                    let excluded = TreeResidue::Tree(entry);
+                    Ok((Separation::Residue(Product::new(excluded)), true))
                 }
             }
             TreeResidue::Tree(entry) => {

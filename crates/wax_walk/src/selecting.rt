@@ -59,7 +59,7 @@ pub trait Select: Drop {
 
 // What becomes of an item: what is excluded of it, and whether it is a folder that isn't opened.
 #[derive(Clone, Copy)]
-struct Selected {
+struct Decision {
     residue: Option<EntryResidue>,
     is_closed: bool,
 }
@@ -69,7 +69,7 @@ fn select_entry<E: Entry, S: Select>(
     alloc: Global,
     selection: &mut S,
     entry: &E,
-) -> Result<Selected, NoMemory>
+) -> Result<Decision, NoMemory>
     ensures keeps { IfOk result (λ r. mark_of r.residue
         ≡ of_candidate (keep_mark (S.keeps selection.old)) (E.facts entry.now)) }
     ensures closes { let facts = E.facts entry.now in IfOk result (λ r. r.is_closed
@@ -79,7 +79,7 @@ fn select_entry<E: Entry, S: Select>(
 {
     let is_folder = matches!(entry.file_type(), FileType::Folder);
     let selection = selection.select(alloc, entry.candidate(), is_folder)?;
-    Ok(Selected {
+    Ok(Decision {
         residue: if selection.is_kept {
             None
         } else {
@@ -94,7 +94,7 @@ fn select_item<T, R, F, S>(
     alloc: Global,
     selection: &mut S,
     separation: &Separation<F>,
-) -> Result<Selected, NoMemory>
+) -> Result<Decision, NoMemory>
 where
     T: Entry,
     R: Entry,
@@ -111,7 +111,7 @@ where
     match separation {
         Separation::Filtrate(filtrate) => match filtrate.get() {
             Ok(entry) => select_entry(alloc, selection, entry),
-            Err(_) => Ok(Selected {
+            Err(_) => Ok(Decision {
                 residue: None,
                 is_closed: false,
             }),

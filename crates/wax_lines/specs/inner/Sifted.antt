@@ -9,8 +9,8 @@ abbrev pub is_feed : ℕ → Bool
 is_feed b = b == 10
 
 -- the bytes have no line feed
-abbrev pub HasNoFeed : List ℕ → Type 0
-HasNoFeed bytes = All (λ b. b ≢ 10) bytes
+abbrev pub HasNoNewline : List ℕ → Type 0
+HasNoNewline bytes = All (λ b. b ≢ 10) bytes
 
 -- the place is the beginning, or follows a line feed
 abbrev pub IsAfterFeed : ℕ → List ℕ → Type 0
@@ -36,7 +36,7 @@ pub record Sifted (Writes : List ℕ → List ℕ → Type 0) (taken written car
   pub whole : List (List ℕ)
   pub bad : ℕ
   pub splits : taken ≡ lines_text whole ++ carry
-  pub are_lines : All HasNoFeed whole
-  pub is_open : HasNoFeed carry
+  pub are_lines : All HasNoNewline whole
+  pub is_open : HasNoNewline carry
   pub filters : Filters Writes whole (written ++ waiting) bad
   pub counts : counted ≡ u64_saturate bad

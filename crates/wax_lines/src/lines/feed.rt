@@ -3,7 +3,7 @@ ghost use Rattle.std.specs.Prelude.{◌≡◌, ◌≤◌, ◌++◌, ◌∷◌, L
 ghost use Rattle.std.specs.List.{position_or_len};
 ghost use Rattle.std.specs.Simd.Lanes.{mask_l};
 ghost use Rattle.std.specs.Str.{IsUtf8};
-ghost use Rattle.wax_lines.specs.inner.Sifted.{EndsLines, HasNoFeed, IsAfterFeed, is_feed};
+ghost use Rattle.wax_lines.specs.inner.Sifted.{EndsLines, HasNoNewline, IsAfterFeed, is_feed};
 
 use std::simd::prelude::*;
 
@@ -12,8 +12,8 @@ const LANES: usize = 32;
 
 /// Splits bytes at the first line feed.
 pub fn split_line(bytes: &[u8]) -> Option<(&[u8], &[u8])>
-    ensures { MatchOption result (HasNoFeed bytes.now) (λ parts.
-        (bytes.now ≡ parts.0.now ++ 10 ∷ parts.1.now) × HasNoFeed parts.0.now) }
+    ensures { MatchOption result (HasNoNewline bytes.now) (λ parts.
+        (bytes.now ≡ parts.0.now ++ 10 ∷ parts.1.now) × HasNoNewline parts.0.now) }
 {
     let at = first_feed(bytes);
     if at < bytes.len() {
@@ -25,8 +25,8 @@ pub fn split_line(bytes: &[u8]) -> Option<(&[u8], &[u8])>
 
 /// Splits text at the first line feed.
 pub fn split_text_line(text: &str) -> Option<(&str, &str)>
-    ensures { MatchOption result (HasNoFeed text.now) (λ parts.
-        (text.now ≡ parts.0.now ++ 10 ∷ parts.1.now) × HasNoFeed parts.0.now) }
+    ensures { MatchOption result (HasNoNewline text.now) (λ parts.
+        (text.now ≡ parts.0.now ++ 10 ∷ parts.1.now) × HasNoNewline parts.0.now) }
 {
     let at = first_feed(text.as_bytes());
     if at < text.len() {

@@ -4,7 +4,7 @@ ghost use Rattle.std.specs.Prelude.{IfErr, IfSome, OnOk, OnErr, MatchOption};
 ghost use Rattle.std.specs.Io.KnownBytes.{Appends};
 ghost use Rattle.wax_lines.specs.Counts.{greatest_count};
 ghost use Rattle.wax_lines.specs.Lines.{Gives};
-ghost use Rattle.wax_lines.specs.inner.Sifted.{HasNoFeed, CountsMore};
+ghost use Rattle.wax_lines.specs.inner.Sifted.{HasNoNewline, CountsMore};
 ghost use Rattle.wax_lines.specs.inner.Progress.{GivesNothing, SieveSifted, TakesIn, TakesInPart, TakesLast};
 ghost use Rattle.wax_lines.specs.Written.{WritesPart};
 
@@ -19,7 +19,7 @@ use wax_query::diagnostics::NoMemory;
 
 /// The output that waits to be written, and the number of lines that weren't UTF-8.
 #[derive(Drop)]
-pub struct Kept {
+pub struct PendingOutput {
     bytes: Vec<u8>,
     not_text: u64,
 }
@@ -28,10 +28,10 @@ pub struct Kept {
 #[derive(Drop)]
 pub struct Sieve {
     carry: Vec<u8>,
-    kept: Kept,
+    kept: PendingOutput,
 }
 
-impl Kept {
+impl PendingOutput {
     // Adds the output for one line, which has no line feed.
     fn add_line<L: LineWriter>(&mut self, line_writer: &mut L, line: &[u8]) -> Result<(), NoMemory>
         ensures ok { OnOk result ((out : List ℕ) × (bad : ℕ)
@@ -59,7 +59,7 @@ impl Sieve {
     {
         Sieve {
             carry: Vec::new(alloc),
-            kept: Kept {
+            kept: PendingOutput {
                 bytes: Vec::new(alloc),
                 not_text: 0,
             },
@@ -143,7 +143,7 @@ impl Sieve {
         line: &str,
     ) -> Result<(), NoMemory>
         requires carry { self.old.carry.items ≡ [] }
-        requires line { HasNoFeed line.now }
+        requires line { HasNoNewline line.now }
         ensures carry { self.new.carry.items ≡ [] }
         ensures ok { OnOk result (TakesIn (L.writes (L.view line_writer.old))
             (line.now ++ 10 ∷ []) self.old self.new) }
@@ -175,7 +175,7 @@ impl Sieve {
 
     // Takes the end of a line, which has no line feed.
     fn take_line<L: LineWriter>(&mut self, line_writer: &mut L, end: &[u8]) -> Result<(), NoMemory>
-        requires { HasNoFeed end.now }
+        requires { HasNoNewline end.now }
         ensures carry { OnOk result (self.new.carry.items ≡ []) }
         ensures ok { OnOk result (TakesIn (L.writes (L.view line_writer.old))
             (end.now ++ 10 ∷ []) self.old self.new) }
@@ -245,7 +245,7 @@ fn pass_over<'t, L: LineWriter>(line_writer: &L, text: &'t str) -> &'t str
 // Splits bytes at the last line feed, if there is one and everything before it is UTF-8.
 fn split_text(bytes: &[u8]) -> Option<(&str, &[u8])>
     ensures { IfSome result (λ parts.
-        (bytes.now ≡ parts.0.now ++ 10 ∷ parts.1.now) × HasNoFeed parts.1.now) }
+        (bytes.now ≡ parts.0.now ++ 10 ∷ parts.1.now) × HasNoNewline parts.1.now) }
 {
     let at = bytes.iter().rposition(|b| *b == b'\n')?;
     let text = str::from_utf8(&bytes[..at]).ok()?;

@@ -150,7 +150,7 @@ impl AnyMatcher<'_, '_> {
         ensures same { self.new ≡ self.old }
     {
         indexes.clear();
-        if !self.any.may_match_at_once(path) {
+        if !self.any.may_match_quickly(path) {
             return Ok(());
         }
         self.numbered.list_numbers(path.as_str(), indexes)

@@ -88,7 +88,7 @@ impl<'t> Any<'t> {
         ensures same { self.new ≡ self.old }
     {
         indexes.clear();
-        if !self.may_match_at_once(path) {
+        if !self.may_match_quickly(path) {
             return Ok(());
         }
         self.numbered.list_numbers(path.as_str(), indexes)

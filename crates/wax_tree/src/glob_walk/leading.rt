@@ -40,7 +40,7 @@ fn first_name(path: &str) -> Option<(&str, &str)>
 
 // Returns whether each name of the candidate is matched by the leading component at the same place.
 // Names after the last component are free.
-pub(crate) fn lead<C: NameTest>(
+pub(crate) fn names_may_match<C: NameTest>(
     alloc: Global,
     leading: &[C],
     candidate: Candidate<'_>,

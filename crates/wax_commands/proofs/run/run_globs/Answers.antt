@@ -4,7 +4,7 @@ use Rattle.wax_command_line.specs.Commands.{Asks, SaysWalk, WalkRequest}
 use Rattle.wax_commands.specs.LineCommands.{LinesEnd, match_command, captures_of}
 use Rattle.wax_commands.specs.Queried.{QueryEnds}
 use Rattle.wax_commands.specs.Streams.{stream_of, writers}
-use Rattle.wax_command_line.specs.WalkWords.{IsRead}
+use Rattle.wax_command_line.specs.WalkArguments.{IsRead}
 use Rattle.wax_command_line.proofs.OptionWords.{same_walk}
 use Rattle.wax_commands.proofs.run.run_globs.Goals as goal
 

@@ -5,11 +5,11 @@ use Rattle.wax_set.specs.Sets.{IsCompiledAny, IsNumbered}
 use Rattle.wax_set.proofs.Numbers.{are_matches, no_matches}
 use Rattle.wax_set.proofs.set.Any.list_matches.Goals as goal
 
-pub returns-then-not-may_match_at_once-clause-matches : goal.returns-then-not-may_match_at_once-clause-matches
-returns-then-not-may_match_at_once-clause-matches c =
-    let rejected : c.may_match_at_once.result ≡ false = search rules in
+pub returns-then-not-may_match_quickly-clause-matches : goal.returns-then-not-may_match_quickly-clause-matches
+returns-then-not-may_match_quickly-clause-matches c =
+    let rejected : c.may_match_quickly.result ≡ false = search rules in
     no_matches c.args.self.now c.args.path.now c.clear.new.self.items c.clear.ensures.items
-    (λ m. true≢false (sym (c.may_match_at_once.ensures m) ∙ rejected))
+    (λ m. true≢false (sym (c.may_match_quickly.ensures m) ∙ rejected))
 
 pub invariant_of-self : goal.invariant_of-self
 invariant_of-self c = subst (IsCompiledAny c.self.inside.token c.self.inside.compiled)

@@ -3,7 +3,7 @@ use Rattle.std.specs.Prelude.{IsUtf8}
 use Rattle.wax_directory.specs.Names.{names_in_path}
 use Rattle.wax_walk.specs.Candidates.{in_characters}
 use Rattle.wax_tree.specs.Programs.{leads}
-use Rattle.wax_tree.proofs.glob_walk.leading.lead.Given as goal
+use Rattle.wax_tree.proofs.glob_walk.leading.names_may_match.Given as goal
 
 -- the components that are left lead the names that are left where all lead all
 abbrev pub invariant-loop-component : goal.invariant-loop-component

@@ -1,6 +1,6 @@
 use Rattle.std.proofs.Common.{chars, sym, subst}
 use Rattle.wax_set.specs.Sets.{MeansText}
-use Rattle.wax_set.proofs.set.Any.may_match_at_once.Goals as goal
+use Rattle.wax_set.proofs.set.Any.may_match_quickly.Goals as goal
 
 pub returns : goal.returns
 returns c meant =
