@@ -1,16 +1,18 @@
 -- What is left of patterns, written one beside another.
 use Rattle.std.proofs.Common.{◌≤◌, ◌<◌, ◌≡◌, ◌+◌, ◌-◌, ◌⊎◌, ℕ, Bool, false, take, All, List, [], ◌∷◌, ◌++◌}
 use Rattle.std.proofs.Common.{chars, get_or, length, refl, sym, ◌∙◌, ap, subst, inl, inr, arith, append_assoc}
-use Rattle.std.proofs.Common.{length-append}
+use Rattle.std.proofs.Common.{length-append, sum_by}
 use Rattle.std.proofs.lemmas.Bool.{cases_lt}
 use Rattle.std.proofs.lemmas.List.{get_or_default, take_all, take_more}
 use Rattle.std.proofs.lemmas.List.Elements.{Contains-append_left, Contains-push, Contains-push_cases}
 use Rattle.std.proofs.lemmas.List.Sorted.{Contains-permutation, IsPermutation-sym}
+use Rattle.std.proofs.lemmas.List.Sums.{sum_by-append}
 use Rattle.std.specs.List.Sorted.{IsPermutation}
 use Rattle.wax_match.proofs.ClosedPieces.{IsInside, inside, inside_append, inside_literal, inside_sequence}
 use Rattle.wax_match.proofs.Compiled.{compiled, compiled_sequence, spells_literal}
 use Rattle.wax_match.proofs.EndPieces.{written_beside, written_coded, written_led, written_none, written_same}
 use Rattle.wax_match.proofs.Fragments.{Spells, spells_append, spells_same}
+use Rattle.wax_match.proofs.LeftCosts.{one_more}
 use Rattle.wax_match.proofs.Lefts.{same_next, text_from, text_to}
 use Rattle.wax_match.proofs.SharedEnds.{ends_stay, inside_gap, spells_gap}
 use Rattle.wax_match.specs.Numbered.{MeansNumbered}
@@ -24,6 +26,7 @@ use Rattle.wax_match.specs.inner.Ends.{AreWritten, IsIn}
 use Rattle.wax_match.specs.inner.LeadCode.{gap_code, lead_code}
 use Rattle.wax_match.specs.inner.Left.{AreSame, IsAfter, IsAfterAt, IsLed, Joined}
 use Rattle.wax_match.specs.inner.Left.{LeadMeans, LeftMeans, MeansBetween, OneLeftMeans, SomeLeftMeans}
+use Rattle.wax_match.specs.inner.LeftCost.{left_cost}
 use Rattle.wax_program.specs.declared.instruction.Instruction.{Instruction}
 use Rattle.wax_program.specs.declared.instruction.Instruction.TheVariants.{Back, End, Fork}
 use Rattle.wax_token.specs.Meaning.{Means, MeansEach, SameText}
@@ -176,6 +179,20 @@ module _ (lead : Lead) (ls : List Left) (start : ℕ) where
     ]);
   }
 
+  abbrev Fits : ℕ → List Left → Type 0
+  Fits end led = sum_by left_cost led + length (lead_code lead) + sum_by left_cost (take start ls)
+      ≤ sum_by left_cost (take end ls)
+
+  led_one_fits : (l a : Left) → start < length ls → l ≡ get_or ls start l → IsAfter lead l a
+      → Fits (start + 1) ([] ++ a ∷ [])
+  led_one_fits l a lt is f = let fits = f.fits in omega (arith, one_more ls start l lt is, fits)
+
+  led_next_fits : (led : List Left) (end : ℕ) (l a : Left) → end < length ls → l ≡ get_or ls end l
+      → IsAfter lead l a → Fits end led → Fits (end + 1) (led ++ a ∷ [])
+  led_next_fits led end l a lt is f was =
+      let fits = f.fits in
+      omega (arith, one_more ls end l lt is, fits, was, sum_by-append left_cost led (a ∷ []))
+
   at_default : (l : Left) → start < length ls → get_or ls start (get_or ls start l) ≡ get_or ls start l
   at_default l lt = get_or_default ls start (get_or ls start l) l lt
 
@@ -188,6 +205,7 @@ module _ (lead : Lead) (ls : List Left) (start : ℕ) where
       record {
         some = omega (arith, n);
         within = omega (arith, n, lt);
+        fits = subst (λ z. Fits (start + length z) z) (sym e) (led_one_fits l a lt (sym is) (after l is));
         means = subst (λ z. LedTo (start + length z) z) (sym e) (led_one l a lt is (after l is));
       }
 
@@ -202,6 +220,8 @@ module _ (lead : Lead) (ls : List Left) (start : ℕ) where
       record {
         some = omega (arith, n);
         within = omega (arith, lt, at, n);
+        fits = subst (λ z. Fits z more) now (subst (λ z. Fits (end + 1) z) (sym e)
+            (led_next_fits led end l a lt is f (subst (λ z. Fits z led) (sym at) was.fits)));
         means = subst (λ z. LedTo z more) now
             (subst (λ z. LedTo (end + 1) z) (sym e) (led_next led end l a le lt (sym is) f was_means));
       }

@@ -1,24 +1,27 @@
 -- What is left of patterns: texts spelt out, wildcards, and the tokens after them.
 use Rattle.std.proofs.Common.{◌≡◌, ℕ, zero, suc, ◌⊎◌, Bool, true, false, List, [], ◌∷◌, ◌++◌, not, chars}
 use Rattle.std.proofs.Common.{length, nat_eq, get_or, take, drop, ◌≤◌, ◌-◌, Bor, refl, sym, ◌∙◌, ap, subst}
-use Rattle.std.proofs.Common.{inl, inr, arith, append_assoc, append-nil}
+use Rattle.std.proofs.Common.{◌+◌, inl, inr, arith, append_assoc, append-nil, length-append}
 use Rattle.std.proofs.lemmas.List.{take_all}
 use Rattle.std.proofs.lemmas.Bool.{ne_eqb}
 use Rattle.std.proofs.lemmas.Str.{chars-append, chars-encodes, chars-nil, encodes-IsAscii}
 use Rattle.std.specs.Str.{IsAscii, IsUtf8}
 use Rattle.wax_match.proofs.Compiled.{both_from, both_to}
+use Rattle.wax_match.proofs.Lengths.{length-literal, length-tree}
 use Rattle.wax_match.specs.declared.encode.left.Gap.{Gap}
 use Rattle.wax_match.specs.declared.encode.left.Gap.TheVariants.{Nothing, Folders, Below, Anything}
 use Rattle.wax_match.specs.declared.encode.left.Lead.TheVariants.{Letters, Wild, Token}
 use Rattle.wax_match.specs.declared.encode.left.Left.{Left}
 use Rattle.wax_match.specs.inner.Left.{AreSame, GapMeans, IsAfter, Joined, LeftMeans, SpeltMeans}
+use Rattle.wax_match.specs.inner.LeftCost.{left_cost}
 use Rattle.wax_token.specs.declared.token.sides.Sides.{Sides}
+use Rattle.wax_token.specs.Cost.{costs}
 use Rattle.wax_token.specs.Meaning.{Means, MeansEach, SameText, TreeMeans}
 use Rattle.wax_token.specs.Reads.{Span}
 use Rattle.wax_token.specs.Syntax.{Tree}
 use Rattle.wax_token.specs.Words.{trees}
 
-slash_chars : chars (47 ∷ []) ≡ 47 ∷ []
+pub slash_chars : chars (47 ∷ []) ≡ 47 ∷ []
 slash_chars = ap chars (sym (encodes-IsAscii (47 ∷ []) slash_ascii)) ∙ chars-encodes (47 ∷ []) refl
   where
     slash_ascii : IsAscii (47 ∷ [])
@@ -221,11 +224,12 @@ same_back f = record { to = f.from; from = f.to }
 
 pub after_wild : (l after : Left) → l.text.now ≡ [] → after.number ≡ l.number
     → AreSame (LeftMeans after) (MeansEach (trees l.tokens.now) l.before false)
-    → IsAfter (Wild l.gap) l after
-after_wild l after bare number f =
+    → left_cost after ≤ costs (trees l.tokens.now) + 2 → IsAfter (Wild l.gap) l after
+after_wild l after bare number f few =
     let g = bare_gap l bare in
     record {
       number = number;
+      fits = omega (arith, few);
       means = record {
         to = λ s h. (h.front, h.back, h.splits, g.to h.front h.spelt, f.from h.back h.means);
         from = λ s m.
@@ -237,9 +241,15 @@ pub after_token : (l after : Left) (token : Bor (Tree Span)) (rest : List (Tree 
     → l.text.now ≡ [] → l.gap ≡ Nothing → token.now ∷ rest ≡ l.tokens.now
     → sides.before ≡ l.before → sides.after ≡ not (nat_eq (length rest) 0) → after.number ≡ l.number
     → AreSame (LeftMeans after) (MeansEach (trees rest) true false)
-    → IsAfter (Token token sides) l after
-after_token l after token rest sides bare nothing same before e number f = record {
+    → left_cost after ≤ costs (trees rest) + 2 → IsAfter (Token token sides) l after
+after_token l after token rest sides bare nothing same before e number f few = record {
   number = number;
+  fits = omega (
+    arith,
+    few,
+    ap (λ ts. costs (trees ts)) same,
+    length-tree token.now sides.before sides.after,
+  );
   means =
       let each : AreSame (LeftMeans l) (MeansEach (trees (token.now ∷ rest)) sides.before false) =
       subst (λ b. AreSame (LeftMeans l) (MeansEach (trees (token.now ∷ rest)) b false)) (sym before)
@@ -252,12 +262,20 @@ after_token l after token rest sides bare nothing same before e number f = recor
 -- the text parted
 pub after_letters : (l after : Left) (front back : Bor (List ℕ)) → IsUtf8 front.now
     → l.text.now ≡ front.now ++ back.now → after.number ≡ l.number
-    → AreSame (LeftMeans after) (LeftMeans (record l { text = back })) → IsAfter (Letters front) l after
-after_letters l after front back utf8 parts number f =
+    → AreSame (LeftMeans after) (LeftMeans (record l { text = back }))
+    → left_cost after ≤ left_cost (record l { text = back }) → IsAfter (Letters front) l after
+after_letters l after front back utf8 parts number f few =
     let whole : chars l.text.now ≡ chars front.now ++ chars back.now =
     ap chars parts ∙ chars-append front.now back.now utf8 in
     record {
       number = number;
+      fits = omega (
+        arith,
+        few,
+        ap length whole,
+        length-append (chars front.now) (chars back.now),
+        length-literal false (chars front.now),
+      );
       means = same_next (record {
         to = λ s h.
             let splits : h.front ≡ chars front.now ++ (chars back.now ++ h.spelt.taken) =

@@ -12,7 +12,7 @@ use Rattle.wax_match.specs.inner.Code.{copies_code, up_to_code, counted_code, ma
 use Rattle.wax_match.specs.inner.Code.{instructions_of, branches_code, sequence_code}
 use Rattle.wax_match.proofs.Compiled.{le_from}
 
-length-literal : (b : Bool) (t : List ℕ) → length (literal_code b t) ≤ length t
+pub length-literal : (b : Bool) (t : List ℕ) → length (literal_code b t) ≤ length t
 length-literal b [] = omega arith
 length-literal false (c ∷ t) = omega (arith, length-literal false t)
 length-literal true (c ∷ t) = omega (arith, length-literal true t)

@@ -5,6 +5,7 @@ pub mod EndPieces
 pub mod Folding
 pub mod Fragments
 pub mod Joining
+pub mod LeftCosts
 pub mod Lefts
 pub mod Lengths
 pub mod Numbered

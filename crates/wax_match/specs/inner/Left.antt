@@ -1,11 +1,14 @@
 -- What is left of patterns while they are written into one program.
 use Rattle.std.specs.Prelude.{◌≡◌, ◌++◌, ◌+◌, ◌<◌, ◌≤◌, ℕ, true, false, List, [], Contains, chars, length}
+use Rattle.std.specs.Prelude.{sum_by, take}
 use Rattle.std.specs.List.{slice_index_or}
 use Rattle.wax_match.specs.declared.encode.left.Gap.{Gap}
 use Rattle.wax_match.specs.declared.encode.left.Gap.TheVariants.{Nothing, Star, Folders, Below, Anything}
 use Rattle.wax_match.specs.declared.encode.left.Lead.{Lead}
 use Rattle.wax_match.specs.declared.encode.left.Lead.TheVariants.{Letters, Wild, Token}
 use Rattle.wax_match.specs.declared.encode.left.Left.{Left}
+use Rattle.wax_match.specs.inner.LeadCode.{lead_code}
+use Rattle.wax_match.specs.inner.LeftCost.{left_cost}
 use Rattle.wax_token.specs.Meaning.{HasNoSlash, Means, MeansEach, TreeMeans}
 use Rattle.wax_token.specs.Words.{trees}
 
@@ -43,9 +46,10 @@ LeadMeans (Letters text) s = s ≡ chars text.now
 LeadMeans (Wild gap) s = GapMeans gap s
 LeadMeans (Token token sides) s = Means token.now sides.before sides.after s
 
--- the first one is the lead, and then the second
+-- the first one is the lead, and then the second, which together cost no more
 pub record IsAfter (lead : Lead) (l after : Left) : Type 0 where
   pub number : after.number ≡ l.number
+  pub fits : left_cost after + length (lead_code lead) ≤ left_cost l
   pub means : AreSame (LeftMeans l) (Joined (LeadMeans lead) (LeftMeans after))
 
 -- the wildcard, and then the end of the number
@@ -69,9 +73,11 @@ MeansBetween ls i j k s =
 abbrev pub IsAfterAt : Lead → List Left → ℕ → Left → Type 0
 IsAfterAt lead ls i after = (l : Left) → slice_index_or ls i l ≡ l → IsAfter lead l after
 
--- those from an index on are the lead, and then one of the others
+-- those from an index on are the lead, and then one of the others, which together cost no more
 pub record IsLed (lead : Lead) (ls : List Left) (start : ℕ) (led : List Left) : Type 0 where
   pub some : 1 ≤ length led
   pub within : start + length led ≤ length ls
+  pub fits : sum_by left_cost led + length (lead_code lead) + sum_by left_cost (take start ls)
+      ≤ sum_by left_cost (take (start + length led) ls)
   pub means : (k : ℕ)
       → AreSame (MeansBetween ls start (start + length led) k) (Joined (LeadMeans lead) (SomeLeftMeans led k))

@@ -1,8 +1,9 @@
 //! Programs of several patterns, each of which has an end of its own.
-ghost use Rattle.std.specs.Prelude.{◌≡◌, ◌↔◌, ◌++◌, ◌∷◌, [], ℕ, IfOk, List, OnOk, length};
-ghost use Rattle.wax_match.specs.Numbered.{MeansNumbered};
+ghost use Rattle.std.specs.Prelude.{◌≡◌, ◌↔◌, ◌≤◌, ◌+◌, ◌++◌, ◌∷◌, [], ℕ, IfOk, List, OnOk, length, sum_by};
+ghost use Rattle.wax_match.specs.Numbered.{MeansNumbered, numbered_length};
 ghost use Rattle.wax_match.specs.inner.Ends.{AreWritten};
 ghost use Rattle.wax_match.specs.inner.Left.{AreSame, SomeLeftMeans};
+ghost use Rattle.wax_match.specs.inner.LeftCost.{left_cost};
 ghost use Rattle.wax_program.specs.Closed.{IsClosed};
 ghost use Rattle.wax_program.specs.Machine.{Accepts, mark};
 
@@ -35,7 +36,8 @@ pub struct Numbered<'a, 't> {
 /// numbers have to be below the count of patterns and 2; greater ones may be written more than once.
 ///
 /// Takes memory linear in the patterns and their cost, and time in proportion to that and to the
-/// logarithm of the count of patterns.
+/// logarithm of the count of patterns. The program has at most as many instructions as the patterns
+/// cost, 2 more for each, and 1.
 pub fn compile_numbered<'t>(
     alloc: Global,
     patterns: &[Numbered<'_, 't>],
@@ -43,6 +45,7 @@ pub fn compile_numbered<'t>(
     ensures means { IfOk result (λ p. (number : ℕ) → (s : List ℕ)
         → Accepts p.0 0 (s ++ mark number ∷ []) ↔ MeansNumbered patterns.now number s) }
     ensures closed { IfOk result (λ p. IsClosed p.0) }
+    ensures length { IfOk result (λ p. length p.0 ≤ numbered_length patterns.now) }
 {
     let mut tail = Tail::with_room(alloc, FIRST_ROOM)?;
     tail.put_numbered(patterns)?;
@@ -55,7 +58,8 @@ impl Tail {
     /// Writes patterns, or if there are none, an instruction that leads only to itself.
     fn put_numbered<'t>(&mut self, patterns: &[Numbered<'_, 't>]) -> Result<(), AllocError>
         requires { self.old ≡ [] }
-        ensures { OnOk result (AreWritten self.old self.new (MeansNumbered patterns.now)) }
+        ensures written { OnOk result (AreWritten self.old self.new (MeansNumbered patterns.now)) }
+        ensures length { OnOk result (length self.new ≤ numbered_length patterns.now) }
     {
         if patterns.is_empty() {
             return self.put(Instruction::Back(0));
@@ -74,6 +78,7 @@ fn all_of<'a, 't>(
     ensures len { IfOk result (λ lefts. length lefts.items ≡ length patterns.now) }
     ensures means { IfOk result (λ lefts.
         (k : ℕ) → AreSame (SomeLeftMeans lefts.items k) (MeansNumbered patterns.now k)) }
+    ensures cost { IfOk result (λ lefts. sum_by left_cost lefts.items + 1 ≤ numbered_length patterns.now) }
 {
     let mut lefts = Vec::new(alloc);
     for numbered in patterns {

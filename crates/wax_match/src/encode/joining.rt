@@ -1,9 +1,11 @@
 //! Writing patterns into one program. What they begin with, and how they end, is written once.
-ghost use Rattle.std.specs.Prelude.{◌≡◌, ◌-◌, ◌<◌, ◌≤◌, ◌++◌, ◌∷◌, All, IfOk, OnOk, length};
+ghost use Rattle.std.specs.Prelude.{◌≡◌, ◌-◌, ◌+◌, ◌<◌, ◌≤◌, ◌++◌, ◌∷◌, All, IfOk, OnOk, length, sum_by};
+ghost use Rattle.std.specs.Prelude.{take};
 ghost use Rattle.std.specs.List.Sorted.{IsPermutation};
 ghost use Rattle.wax_match.specs.inner.Ends.{AreWritten, IsIn};
 ghost use Rattle.wax_match.specs.inner.Left.{IsAfterAt, IsLed, MeansBetween, OneLeftMeans, SomeLeftMeans};
 ghost use Rattle.wax_match.specs.inner.LeadCode.{lead_code};
+ghost use Rattle.wax_match.specs.inner.LeftCost.{left_cost};
 
 use crate::encode::left::{Gap, Lead, Left};
 use crate::encode::shared::WrittenEnd;
@@ -30,6 +32,7 @@ impl Tail {
         requires kept { All (IsIn self.old) ends.old }
         ensures written { OnOk result (AreWritten self.old self.new (SomeLeftMeans lefts.now)) }
         ensures kept { OnOk result (All (IsIn self.new) ends.new) }
+        ensures cost { OnOk result (length self.new + 1 ≤ length self.old + sum_by left_cost lefts.now) }
     {
         let mut start = 0;
         while start < lefts.len() {
@@ -57,6 +60,8 @@ impl Tail {
         ensures written { IfOk result (λ next.
             AreWritten self.old self.new (MeansBetween lefts.now start next)) }
         ensures kept { OnOk result (All (IsIn self.new) ends.new) }
+        ensures cost { IfOk result (λ next. length self.new + 1 + sum_by left_cost (take start lefts.now)
+            ≤ length self.old + sum_by left_cost (take next lefts.now)) }
     {
         let first = &lefts[start];
         let len = shared_len(lefts, start);
@@ -92,7 +97,8 @@ impl Tail {
 
     /// Writes all that is left of a pattern, with an end of its own.
     fn put_apart(&mut self, left: &Left<'_, '_>) -> Result<(), AllocError>
-        ensures { OnOk result (AreWritten self.old self.new (OneLeftMeans left.now)) }
+        ensures written { OnOk result (AreWritten self.old self.new (OneLeftMeans left.now)) }
+        ensures cost { OnOk result (length self.new + 1 ≤ length self.old + left_cost left.now) }
     {
         let sides = Sides {
             before: left.before,

@@ -1,6 +1,9 @@
 //! What is left of patterns while they are written into one program.
-ghost use Rattle.std.specs.Prelude.{◌≡◌, IfSome, IsTrue, MatchOption, false};
+ghost use Rattle.std.specs.Prelude.{◌≡◌, ◌≤◌, ◌+◌, IfSome, IsTrue, MatchOption, chars, false, length};
+ghost use Rattle.wax_match.specs.inner.LeadCode.{gap_code};
 ghost use Rattle.wax_match.specs.inner.Left.{AreSame, GapMeans, IsAfter, LeftMeans, SpeltMeans};
+ghost use Rattle.wax_match.specs.inner.LeftCost.{left_cost};
+ghost use Rattle.wax_token.specs.Cost.{cost, costs, leaf_cost};
 ghost use Rattle.wax_token.specs.Meaning.{LeafMeans, Means, MeansEach, TreeMeans};
 ghost use Rattle.wax_token.specs.View.{wildcard_leaf};
 ghost use Rattle.wax_token.specs.Words.{trees};
@@ -50,6 +53,7 @@ impl<'a, 't> Left<'a, 't> {
     ) -> Left<'a, 't>
         ensures number { result.number ≡ number }
         ensures means { AreSame (LeftMeans result) (MeansEach (trees tokens.now) before false) }
+        ensures cost { left_cost result ≤ costs (trees tokens.now) + 2 }
     {
         if let [first, rest @ ..] = tokens {
             let sides = Sides {
@@ -144,6 +148,7 @@ impl<'a, 't> Left<'a, 't> {
     fn with_text(&self, text: &'a str) -> Left<'a, 't>
         ensures number { result.number ≡ self.now.number }
         ensures means { AreSame (LeftMeans result) (LeftMeans (record self.now { text = text.entry })) }
+        ensures cost { left_cost result ≤ left_cost (record self.now { text = text.entry }) }
     {
         if text.is_empty() && is_same(self.gap, Gap::Nothing) {
             return Left::new(self.number, self.tokens, self.before);
@@ -160,8 +165,10 @@ impl<'a, 't> Left<'a, 't> {
 
 /// Returns the text and the wildcard that together match what the token does, if there are such.
 fn spelt<'a, 't>(token: &'a Token<'t, ExpressionMetadata>, sides: Sides) -> Option<(&'a str, Gap)>
-    ensures { IfSome result (λ spelt.
+    ensures means { IfSome result (λ spelt.
         AreSame (SpeltMeans spelt.0.now spelt.1) (Means token.now sides.before sides.after)) }
+    ensures cost { IfSome result (λ spelt.
+        length (chars spelt.0.now) + length (gap_code spelt.1) ≤ cost token.now) }
 {
     match token.as_leaf()? {
         LeafKind::Literal(literal) => {
@@ -177,8 +184,10 @@ fn spelt<'a, 't>(token: &'a Token<'t, ExpressionMetadata>, sides: Sides) -> Opti
 }
 
 fn spelt_wildcard(wildcard: Wildcard, sides: Sides) -> Option<(&'static str, Gap)>
-    ensures { IfSome result (λ spelt. AreSame (SpeltMeans spelt.0.now spelt.1)
+    ensures means { IfSome result (λ spelt. AreSame (SpeltMeans spelt.0.now spelt.1)
         (LeafMeans (wildcard_leaf wildcard) sides.before sides.after)) }
+    ensures cost { IfSome result (λ spelt.
+        length (chars spelt.0.now) + length (gap_code spelt.1) ≤ leaf_cost (wildcard_leaf wildcard)) }
 {
     match wildcard {
         Wildcard::One => None,
@@ -188,7 +197,8 @@ fn spelt_wildcard(wildcard: Wildcard, sides: Sides) -> Option<(&'static str, Gap
 }
 
 fn spelt_tree(has_root: bool, sides: Sides) -> (&'static str, Gap)
-    ensures { AreSame (SpeltMeans result.0.now result.1) (TreeMeans sides.before sides.after has_root) }
+    ensures means { AreSame (SpeltMeans result.0.now result.1) (TreeMeans sides.before sides.after has_root) }
+    ensures cost { length (chars result.0.now) + length (gap_code result.1) ≤ 6 }
 {
     match (sides.before, sides.after) {
         (true, false) => ("", Gap::Below),

@@ -1,5 +1,5 @@
 //! Ends of patterns, which those with the same number share.
-ghost use Rattle.std.specs.Prelude.{◌≡◌, ◌≤◌, ◌++◌, [], All, IfOk, IsTrue, OnOk};
+ghost use Rattle.std.specs.Prelude.{◌≡◌, ◌≤◌, ◌+◌, ◌++◌, [], All, IfOk, IsTrue, OnOk, length};
 ghost use Rattle.wax_match.specs.inner.Ends.{AreWritten, IsIn};
 ghost use Rattle.wax_match.specs.inner.LeadCode.{gap_code};
 ghost use Rattle.wax_match.specs.inner.Left.{EndMeans};
@@ -45,6 +45,7 @@ impl Tail {
         requires { All (IsIn self.old) ends.old }
         ensures written { OnOk result (AreWritten self.old self.new (EndMeans number gap)) }
         ensures kept { OnOk result (All (IsIn self.new) ends.new) }
+        ensures cost { OnOk result (length self.new ≤ length self.old + length (gap_code gap) + 1) }
     {
         let at = room_of(number, gap, ends.len());
         if at >= ends.len() {
@@ -65,7 +66,8 @@ impl Tail {
     }
 
     fn put_new_end(&mut self, number: usize, gap: Gap) -> Result<(), AllocError>
-        ensures { OnOk result (AreWritten self.old self.new (EndMeans number gap)) }
+        ensures written { OnOk result (AreWritten self.old self.new (EndMeans number gap)) }
+        ensures cost { OnOk result (length self.new ≤ length self.old + length (gap_code gap) + 1) }
     {
         self.put(Instruction::End(number, number))?;
         self.put_gap(gap)

@@ -10,11 +10,11 @@ returns-clause-means c = λ number s.
     let e : c.new.result.0 ≡ c.put_numbered.new.self =
     ap (λ p. p.0) c.new.ensures ∙ c.into_instructions-instructions.ensures in
     subst (λ z. Accepts z 0 (s ++ mark number ∷ []) ↔ MeansNumbered c.args.patterns.now number s) (sym e)
-    (ends_accept c.in_ok-put_numbered.ensures.ends number s)
+    (ends_accept c.in_ok-put_numbered.ensures.written.ends number s)
 
 pub returns-clause-closed : goal.returns-clause-closed
 returns-clause-closed c =
     let e : c.new.result.0 ≡ c.put_numbered.new.self =
     ap (λ p. p.0) c.new.ensures ∙ c.into_instructions-instructions.ensures in
     subst IsClosed (sym e)
-    (c.in_ok-put_numbered.ensures.closed (subst IsClosed (sym c.in_ok-tail.ensures) tt))
+    (c.in_ok-put_numbered.ensures.written.closed (subst IsClosed (sym c.in_ok-tail.ensures) tt))

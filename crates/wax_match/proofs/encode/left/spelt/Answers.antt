@@ -1,15 +1,17 @@
-use Rattle.std.proofs.Common.{◌≡◌, ◌∙◌, [], ◌∷◌, ap, subst, sym, false}
+use Rattle.std.proofs.Common.{◌≡◌, ◌∙◌, [], ◌∷◌, ap, arith, subst, sym, false}
+use Rattle.wax_match.proofs.LeftCosts.{slash_one}
 use Rattle.wax_match.proofs.Lefts.{spelt_literal, spelt_separator}
 use Rattle.wax_match.specs.declared.encode.left.Gap.TheVariants.{Nothing}
 use Rattle.wax_match.specs.inner.Left.{AreSame, SpeltMeans}
+use Rattle.wax_token.specs.Cost.{cost}
 use Rattle.wax_token.specs.Meaning.{Means}
 use Rattle.wax_token.specs.Syntax.{leaf, literal}
 use Rattle.wax_token.specs.View.{leaf_of}
 use Rattle.wax_token.specs.Words.{annotation_of}
 use Rattle.wax_match.proofs.encode.left.spelt.Goals as goal
 
-pub returns-else-is_case_insensitive : goal.returns-else-is_case_insensitive
-returns-else-is_case_insensitive c =
+pub returns-else-is_case_insensitive-clause-means : goal.returns-else-is_case_insensitive-clause-means
+returns-else-is_case_insensitive-clause-means c =
     let t = c.args.token.now in
     let l = c.in-Literal.literal in
     let is : t ≡ leaf (annotation_of t) (literal l.0 l.1) =
@@ -21,9 +23,15 @@ returns-else-is_case_insensitive c =
     (λ z. AreSame (SpeltMeans c.text.result.now Nothing) (Means z c.args.sides.before c.args.sides.after))
     (sym same) (spelt_literal c.text.result.now l.1 c.text.ensures)
 
-pub returns-in-Separator : goal.returns-in-Separator
-returns-in-Separator c =
+pub returns-in-Separator-clause-means : goal.returns-in-Separator-clause-means
+returns-in-Separator-clause-means c =
     let t = c.args.token.now in
     let is = c.in_ok-literal.ensures.some ∙ ap (λ z. leaf (annotation_of t) (leaf_of z)) c.in-Separator.is in
     subst (λ z. AreSame (SpeltMeans (47 ∷ []) Nothing) (Means z c.args.sides.before c.args.sides.after))
     (sym is) spelt_separator
+
+pub returns-in-Separator-clause-cost : goal.returns-in-Separator-clause-cost
+returns-in-Separator-clause-cost c =
+    let t = c.args.token.now in
+    let is = c.in_ok-literal.ensures.some ∙ ap (λ z. leaf (annotation_of t) (leaf_of z)) c.in-Separator.is in
+    omega (arith, slash_one, ap cost is)

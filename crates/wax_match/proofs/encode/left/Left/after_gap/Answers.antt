@@ -9,4 +9,4 @@ pub returns : goal.returns
 returns c =
     subst (λ g. IsAfter (Wild g) c.args.self.now c.new.result) (c.is_same.ensures c.if-not-is_same.false)
     (after_wild c.args.self.now c.new.result (nil_from_length _ (search rules))
-    c.new.ensures.number c.new.ensures.means)
+    c.new.ensures.number c.new.ensures.means c.new.ensures.cost)

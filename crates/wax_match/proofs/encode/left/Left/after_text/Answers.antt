@@ -12,4 +12,4 @@ returns c =
     sym (take-append-drop n text) ∙ ap (λ z. z ++ drop n text) (sym c.in_ok-front.ensures.front ∙ same)
     ∙ ap (λ z. c.args.text.now ++ z) (sym c.in_ok-front.ensures.back) in
     after_letters c.args.self.now c.with_text.result c.args.text c.in_ok-front.rest c.utf8.text parts
-    c.with_text.ensures.number c.with_text.ensures.means
+    c.with_text.ensures.number c.with_text.ensures.means c.with_text.ensures.cost

@@ -11,9 +11,10 @@ returns-in-Some c =
     ∙ ap (λ z. c.in-Some.text.now ++ z) (sym c.in-Some.ensures.back) in
     after_letters c.args.self.now c.with_text.result c.in-Some.text c.in-Some.rest
     (search) parts c.with_text.ensures.number c.with_text.ensures.means
+    c.with_text.ensures.cost
 
 pub returns-in-None : goal.returns-in-None
 returns-in-None c =
     after_letters c.args.self.now c.with_text-in-None.result c.args.self.now.text _ (search)
     (sym (append-nil c.args.self.now.text.now))
-    c.with_text-in-None.ensures.number c.with_text-in-None.ensures.means
+    c.with_text-in-None.ensures.number c.with_text-in-None.ensures.means c.with_text-in-None.ensures.cost

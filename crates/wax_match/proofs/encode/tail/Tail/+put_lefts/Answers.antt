@@ -1,6 +1,7 @@
 use Rattle.std.proofs.Common.{◌≡◌, ◌+◌, ◌-◌, ◌<◌, ◌≤◌, ◌∷◌, length, arith, ap, rules, ◌∙◌}
 use Rattle.std.proofs.lemmas.List.Sorted.{length_permutation}
 use Rattle.wax_match.proofs.Joining.{begun_kept, begun_more, first_led}
+use Rattle.wax_match.proofs.LeftCosts.{all_fit, begun_fits}
 use Rattle.wax_match.proofs.SharedEnds.{ends_stay, written_stay}
 use Rattle.wax_match.specs.inner.LeadCode.{lead_code}
 use Rattle.wax_program.specs.declared.instruction.Instruction.TheVariants.{Fork}
@@ -9,7 +10,7 @@ use Rattle.wax_match.proofs.encode.tail.Tail.+put_lefts.Goals as goal
 pub put_first-returns-then-most-eq0-clause-kept : goal.put_first-returns-then-most-eq0-clause-kept
 put_first-returns-then-most-eq0-clause-kept t c =
     written_stay c.args.self.now c.put_apart.new.self c.args.ends.now
-    c.in_ok-put_apart.ensures c.requires.kept
+    c.in_ok-put_apart.ensures.written c.requires.kept
 
 pub put_first-put_lefts-requires : goal.put_first-put_lefts-requires
 put_first-put_lefts-requires t c =
@@ -45,8 +46,15 @@ put_lefts-loop-start-preserved t c =
     λ some. joined.beside some ∙ ap (λ n. Fork (length last - n) ∷ last) c.len-before.ensures in
     record {
       within = put.next.1;
+      fits = begun_fits ls c.loop-start.start c.in_ok-next.next c.args.self.now mid last new joined.first
+          beside put.cost c.loop-start.invariant.fits put.next.0;
       begun = begun_more ls c.loop-start.start c.in_ok-next.next c.args.self.now mid last new joined.first
           beside put.next.0 c.loop-start.invariant.begun put.written;
       kept = begun_kept ls c.loop-start.start c.in_ok-next.next c.args.self.now mid last new joined.first
           beside c.put_first.new.ends put.kept;
     }
+
+pub put_lefts-returns-clause-cost : goal.put_lefts-returns-clause-cost
+put_lefts-returns-clause-cost t c =
+    all_fit c.args.lefts.now c.loop-start.start c.args.self.now c.loop-start.self
+    c.requires.some c.loop-start-test.false c.loop-start.invariant.fits

@@ -1,5 +1,6 @@
 use Rattle.std.proofs.Common.{◌≤◌, ◌-◌, ◌+◌, ◌*◌, All, length}
 use Rattle.wax_match.proofs.Joining.{IsBegun}
+use Rattle.wax_match.proofs.LeftCosts.{BegunFits}
 use Rattle.wax_match.specs.inner.Ends.{IsIn}
 use Rattle.wax_match.proofs.encode.tail.Tail.+put_lefts.Given as goal
 
@@ -13,6 +14,7 @@ abbrev pub invariant-put_lefts-loop-start : goal.invariant-put_lefts-loop-start
 invariant-put_lefts-loop-start l = record {
   within : l.start ≤ length l.lefts;
   begun : IsBegun l.lefts l.fn.self l.self l.start;
+  fits : BegunFits l.lefts l.fn.self l.self l.start;
   kept : All (IsIn l.self) l.ends;
 }
 

@@ -8,7 +8,7 @@ use Rattle.wax_match.proofs.encode.tail.Tail.put_end.Goals as goal
 pub returns-then-at-ends-clause-kept : goal.returns-then-at-ends-clause-kept
 returns-then-at-ends-clause-kept c =
     on_ok_weaker c.put_new_end.result (λ w. written_stay c.args.self.now c.put_new_end.new.self
-    c.args.ends.now w c.requires) c.put_new_end.ensures
+    c.args.ends.now w c.requires) c.put_new_end.ensures.written
 
 pub returns-then-is_end_of-clause-written : goal.returns-then-is_end_of-clause-written
 returns-then-is_end_of-clause-written c =
@@ -29,4 +29,4 @@ returns-then-is_end_of-clause-kept c =
 pub returns-clause-kept : goal.returns-clause-kept
 returns-clause-kept c =
     end_kept c.args.self.now c.put_new_end-2.new.self c.args.ends.now c.room_of-at.result _ c.len-2.ensures
-    c.in_ok-put_new_end.ensures c.requires
+    c.in_ok-put_new_end.ensures.written c.requires

@@ -5,8 +5,8 @@ use Rattle.std.proofs.lemmas.Result.{on_ok_weaker}
 use Rattle.wax_match.proofs.Joining.{none_written, numbered_written}
 use Rattle.wax_match.proofs.encode.tail.Tail.put_numbered.Goals as goal
 
-pub returns-then-is_empty : goal.returns-then-is_empty
-returns-then-is_empty c =
+pub returns-then-is_empty-clause-written : goal.returns-then-is_empty-clause-written
+returns-then-is_empty-clause-written c =
     on_ok_weaker c.put.result (λ w. none_written c.args.patterns.now c.args.self.now c.put.new.self
     (nil_from_length _ (search rules)) w) c.put.ensures
 
@@ -17,8 +17,8 @@ put_lefts-requires-clause-some c =
     length_permutation c.in_ok-all_of.field-0.items c.sorted-lefts.result.items c.sorted-lefts.ensures in
     omega (arith, some, c.in_ok-all_of.ensures.len, same, ap length c.deref.ensures.value)
 
-pub returns : goal.returns
-returns c =
+pub returns-clause-written : goal.returns-clause-written
+returns-clause-written c =
     on_ok_weaker c.put_lefts.result
     (λ w. numbered_written c.args.patterns.now c.in_ok-all_of.field-0.items c.sorted-lefts.result.items
     c.args.self.now c.put_lefts.new.self
