@@ -38,7 +38,7 @@ part_fits t part fits h =
 
 -- ---- alternatives
 
-one_copy : (low : ℕ) (high : Option ℕ) → is_exactly_one low high ≡ true → (b : Bool) (c : ℕ)
+pub one_copy : (low : ℕ) (high : Option ℕ) → is_exactly_one low high ≡ true → (b : Bool) (c : ℕ)
     → c ≤ copies_of low high b * (c + 2) + 2
 one_copy low None e b c = absurd (let w : ⊥ = cc in w)
 one_copy low (Some high) e b c =

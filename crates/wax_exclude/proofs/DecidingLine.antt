@@ -1,6 +1,6 @@
 -- The line that decides, by its index.
-use Rattle.std.proofs.Common.{◌∙◌, ◌↔◌, ℕ, false, List, Option, Some, None, ap, arith, map, refl}
-use Rattle.std.proofs.Common.{subst, sym}
+use Rattle.std.proofs.Common.{◌∙◌, ◌↔◌, ℕ, false, List, Option, Some, None, ap, arith, refl}
+use Rattle.std.proofs.Common.{sym}
 use Rattle.wax_exclude.proofs.IdleLaw.{all_stay, last_decides, none, unmatched}
 use Rattle.wax_exclude.specs.Deciding.{DecidingLineDecides, IsDecidingLine, SaysLines, ignores_if}
 use Rattle.wax_exclude.specs.Idle.{LineMeans}

@@ -30,6 +30,7 @@ pub mod LeadingComponents
 pub mod LimitsBelow
 pub mod Listing
 pub mod ListingLines
+pub mod ListLengths
 pub mod Losing
 pub mod Names
 pub mod NumberedLines

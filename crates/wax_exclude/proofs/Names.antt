@@ -1,13 +1,12 @@
 -- Candidates as bytes and as characters.
-use Rattle.std.proofs.Common.{◌≡◌, ◌≢◌, ℕ, zero, suc, Bool, true, false, cond, List, [], ◌∷◌, ◌++◌, map}
+use Rattle.std.proofs.Common.{◌≡◌, ℕ, zero, suc, Bool, true, false, cond, List, [], ◌∷◌, ◌++◌, map}
 use Rattle.std.proofs.Common.{length}
-use Rattle.std.proofs.Common.{refl, sym, ap, subst, ◌∙◌, arith, append_assoc, append-nil, nat_eq}
+use Rattle.std.proofs.Common.{refl, sym, ap, subst, ◌∙◌, arith, append_assoc, append-nil}
 use Rattle.std.proofs.Common.{length-append}
-use Rattle.std.proofs.Common.{chars, encode_utf8_all, inl, inr}
+use Rattle.std.proofs.Common.{chars, encode_utf8_all}
 use Rattle.std.specs.List.{Contains, slice_split, onto_first}
 use Rattle.std.specs.Prelude.{filter, ◌==◌}
 use Rattle.std.specs.Str.{IsUtf8, all_scalars}
-use Rattle.std.proofs.lemmas.Bool.{eqb-true, cases_Bool}
 use Rattle.std.proofs.lemmas.List.Elements.{Contains-append_right}
 use Rattle.std.proofs.lemmas.Str.{chars-append, encodes-chars, encodes-append, chars-nil, chars-encodes}
 use Rattle.std.proofs.lemmas.Str.{scalars-chars}

@@ -9,6 +9,7 @@ pub mod Ignored
 pub mod Kept
 pub mod Law
 pub mod Leading
+pub mod Length
 pub mod Lines
 pub mod Marks
 pub mod RootedLeading

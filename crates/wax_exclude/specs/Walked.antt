@@ -5,7 +5,7 @@ use Rattle.wax_facts.specs.Alternatives.{alternatives}
 use Rattle.wax_directory.specs.Shown.{Shown}
 use Rattle.wax_tree.specs.Begins.{Origin, origin_location, scope_in}
 use Rattle.wax_tree.specs.declared.steps.DepthRange.{DepthRange}
-use Rattle.wax_tree.specs.Plain.{Location, plain_at}
+use Rattle.wax_tree.specs.Plain.{plain_at}
 use Rattle.wax_tree.specs.Prefix.{ArePlain, path_from, walk_from}
 use Rattle.wax_tree.specs.Whole.{is_in, whole_at}
 use Rattle.wax_walk.specs.Candidates.{Candidate}

@@ -1,8 +1,10 @@
 //! Which line of an ignore list decides.
-ghost use Rattle.std.specs.Prelude.{◌≡◌, IfOk, List, chars};
+ghost use Rattle.std.specs.Prelude.{◌≡◌, ◌<◌, ◌≤◌, ◌+◌, ℕ, IfOk, List, chars, length};
 ghost use Rattle.wax_exclude.specs.Deciding.{DecidingLineDecides, IsDecidingLine, LastMatchDecides};
 ghost use Rattle.wax_exclude.specs.Deciding.{SaysLines};
 ghost use Rattle.wax_exclude.specs.Ignored.{Line};
+ghost use Rattle.wax_exclude.specs.Length.{list_length};
+ghost use Rattle.wax_lazy.specs.Cost.{path_visits};
 ghost use Rattle.wax_token.specs.Reads.{Span};
 
 use crate::idle::numbered_by_index;
@@ -10,7 +12,7 @@ use crate::rules::IgnoreLine;
 use std::alloc::Global;
 use std::marker::Model;
 use wax_lazy::{Matcher, last_number};
-use wax_match::encode::CompiledProgram;
+use wax_match::encode::{CompiledProgram, Meter};
 use wax_query::diagnostics::NoMemory;
 use wax_query::matching::CandidatePath;
 
@@ -41,7 +43,8 @@ impl Model for DecidingLines {
 impl DecidingLines {
     /// Compiles the lines once more.
     pub(crate) fn new(alloc: Global, lines: &[IgnoreLine]) -> Result<DecidingLines, NoMemory>
-        ensures { IfOk result (SaysLines lines.now) }
+        ensures says { IfOk result (SaysLines lines.now) }
+        ensures length { IfOk result (λ deciding. length deciding < list_length lines.now) }
     {
         let program = numbered_by_index(alloc, lines)?;
         let numbered = Matcher::new(alloc, program)?;
@@ -58,7 +61,28 @@ impl DecidingLines {
             → IsDecidingLine lines path.now found) }
         ensures same { self.new ≡ self.old }
     {
-        self.numbered.last_number(path.as_str())
+        let mut meter = Meter::new();
+        self.deciding_line_metered(path, &mut meter)
+    }
+
+    /// Returns what `deciding_line` does. The meter counts as in `IgnoreRule::is_ignored_cached_metered`.
+    ///
+    /// # Errors
+    ///
+    /// Returns `NoMemory` if allocation fails. Further paths can be asked for after that.
+    pub fn deciding_line_metered(
+        &mut self,
+        path: &CandidatePath<'_>,
+        meter: &mut Meter,
+    ) -> Result<Option<usize>, NoMemory>
+        ensures line { IfOk result (λ found. (lines : List (Line Span)) → SaysLines lines self.old
+            → IsDecidingLine lines path.now found) }
+        ensures same { self.new ≡ self.old }
+        ensures above { (size : ℕ) → length self.old < size
+            → meter.new ≤ meter.old + path_visits size (length path.now) + size }
+        ensures steady { meter.old ≤ meter.new }
+    {
+        self.numbered.last_number_metered(path.as_str(), meter)
     }
 }
 

@@ -7,6 +7,7 @@ ghost use Rattle.wax_compare.specs.declared.wanted.Texts.TheVariants.{Paths};
 ghost use Rattle.wax_exclude.specs.Idle.{AllIdleLinesCanGo, AreIdle, DecidesSome, HasEffect};
 ghost use Rattle.wax_exclude.specs.Idle.{IdleLinesCanGo, IdleLinesCanGoTogether, IsReason, LineIgnores};
 ghost use Rattle.wax_exclude.specs.Idle.{LineMeans, TakesNothing};
+ghost use Rattle.wax_exclude.specs.Length.{list_length};
 ghost use Rattle.wax_exclude.specs.Undecided.{AreTooLarge, AreUndecided, IsUndecided, SomeLineMeans};
 ghost use Rattle.wax_exclude.specs.inner.Idle.{AreMatchedBy, IsCovering};
 ghost use Rattle.wax_program.specs.Machine.{Accepts};
@@ -199,7 +200,8 @@ impl Lines<'_> {
 
 /// Compiles lines to a program that says which of them match a text, by their indexes.
 pub fn numbered_by_index(alloc: Global, lines: &[IgnoreLine]) -> Result<CompiledProgram, NoMemory>
-    ensures { IfOk result (λ p. AreMatchedBy lines.now p.0) }
+    ensures matches { IfOk result (λ p. AreMatchedBy lines.now p.0) }
+    ensures length { IfOk result (λ p. length p.0 < list_length lines.now) }
 {
     let mut patterns = Vec::new(alloc);
     for (index, line) in lines.iter().enumerate() {

@@ -1,6 +1,6 @@
 //! What the lines of an ignore list decide, by one program over all of them.
-ghost use Rattle.std.specs.Prelude.{◌≡◌, ◌↔◌, ◌⊎◌, ◌<◌, ◌+◌, ◌^◌, ◌++◌, ◌∷◌, [], ℕ, List, IfOk};
-ghost use Rattle.std.specs.Prelude.{IsTrue, OnOk, Some, chars, false, if◌then◌else◌, map, nat_lt};
+ghost use Rattle.std.specs.Prelude.{◌≡◌, ◌↔◌, ◌⊎◌, ◌<◌, ◌≤◌, ◌+◌, ◌^◌, ◌++◌, ◌∷◌, [], ℕ, List, IfOk};
+ghost use Rattle.std.specs.Prelude.{IsTrue, OnOk, Some, chars, false, if◌then◌else◌, length, map, nat_lt};
 ghost use Rattle.std.specs.List.{list_any};
 ghost use Rattle.wax_exclude.specs.Covers.{some_everything};
 ghost use Rattle.wax_exclude.specs.declared.split.SplitLine.{SplitLine};
@@ -8,10 +8,12 @@ ghost use Rattle.wax_compare.specs.Selected.{CanSelect, IsSelected};
 ghost use Rattle.wax_exclude.specs.inner.Listed.{ignored_by, listed_mark};
 ghost use Rattle.wax_exclude.specs.inner.Numbers.{AlternativesPass, HasMatch, IsSettledFrom, KnowsLines};
 ghost use Rattle.wax_exclude.specs.inner.Numbers.{LinesPass, MatchesBy};
-ghost use Rattle.wax_exclude.specs.inner.Numbers.{covers_everything, is_odd, number_after, numbered_mark};
+ghost use Rattle.wax_exclude.specs.inner.Numbers.{alternatives_cost, covers_everything, is_odd, number_after};
+ghost use Rattle.wax_exclude.specs.inner.Numbers.{numbered_mark, split_length};
 ghost use Rattle.wax_exclude.specs.inner.Split.{split_of};
+ghost use Rattle.wax_lazy.specs.Cost.{list_visits};
 ghost use Rattle.wax_lazy.specs.Numbers.{IsLastNumber};
-ghost use Rattle.wax_match.specs.Numbered.{MeansNumbered};
+ghost use Rattle.wax_match.specs.Numbered.{MeansNumbered, numbered_length};
 ghost use Rattle.wax_prefilter.specs.Literals.{MayPass};
 ghost use Rattle.wax_program.specs.Closed.{IsClosed};
 ghost use Rattle.wax_program.specs.Machine.{Accepts, mark};
@@ -26,7 +28,7 @@ use std::alloc::{AllocError, Global};
 use wax_compare::{Criterion, Selector};
 use wax_facts::Alternative;
 use wax_lazy::{Matcher, last_number};
-use wax_match::encode::{CompiledProgram, Numbered, compile_numbered};
+use wax_match::encode::{CompiledProgram, Meter, Numbered, compile_numbered};
 use wax_prefilter::Literals;
 use wax_query::diagnostics::NoMemory;
 use wax_token::token::ExpressionMetadata;
@@ -79,14 +81,22 @@ impl NumberedLines {
         })
     }
 
-    /// Returns what the lines exclude of an entry, with the help of what is kept of earlier ones.
-    pub fn residue(&mut self, candidate: Candidate<'_>) -> Result<Option<EntryResidue>, NoMemory>
+    /// Returns what the lines exclude of an entry, with the help of what is kept of earlier ones. The meter
+    /// counts the instructions that are read.
+    pub fn residue(
+        &mut self,
+        candidate: Candidate<'_>,
+        meter: &mut Meter,
+    ) -> Result<Option<EntryResidue>, NoMemory>
         requires { IsClosed self.old.matcher }
         ensures same { (lines : List SplitLine) → KnowsLines lines self.old → KnowsLines lines self.new }
         ensures says { (lines : List SplitLine) → KnowsLines lines self.old
             → IfOk result (λ r. mark_of r ≡ listed_mark lines (in_characters candidate.entry)) }
+        ensures above { meter.new
+            ≤ meter.old + list_visits self.old.matcher (length (chars candidate.entry.path.now)) }
+        ensures steady { meter.old ≤ meter.new }
     {
-        let last = self.matcher.last_number(candidate.path)?;
+        let last = self.matcher.last_number_metered(candidate.path, meter)?;
         Ok(self.residue_by(last, candidate.depth))
     }
 
@@ -169,6 +179,7 @@ fn program_of(
     ensures closed { IfOk result (λ p. IsClosed p.0) }
     ensures means { IfOk result (λ p. (k : ℕ) (s : List ℕ)
         → Accepts p.0 0 (s ++ mark k ∷ []) ↔ HasMatch top 0 lines.now k s) }
+    ensures length { IfOk result (λ p. length p.0 ≤ split_length lines.now) }
 {
     let mut patterns = Vec::new(alloc);
     let mut number = 0;
@@ -193,8 +204,10 @@ fn add_alternatives<'a>(
     own: usize,
     above: usize,
 ) -> Result<(), AllocError>
-    ensures { IfOk result (λ _. (k : ℕ) (s : List ℕ) → MeansNumbered patterns.new.items k s
+    ensures means { IfOk result (λ _. (k : ℕ) (s : List ℕ) → MeansNumbered patterns.new.items k s
         ↔ (MeansNumbered patterns.old.items k s ⊎ MatchesBy own above alternatives.now k s)) }
+    ensures length { IfOk result (λ _. numbered_length patterns.new.items
+        ≡ numbered_length patterns.old.items + alternatives_cost alternatives.now) }
 {
     for pattern in alternatives {
         let pattern = pattern.token();

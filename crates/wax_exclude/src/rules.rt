@@ -1,6 +1,7 @@
 //! Ignore lists as rules of walks.
-ghost use Rattle.std.specs.Prelude.{◌≡◌, ◌↔◌, ◌<◌, ◌≤◌, ℕ, All, IsTrue, List, IfOk, MatchResult, chars};
-ghost use Rattle.std.specs.Prelude.{true};
+ghost use Rattle.std.specs.Prelude.{◌≡◌, ◌↔◌, ◌<◌, ◌≤◌, ◌+◌, ℕ, All, IsTrue, List, IfOk, MatchResult, chars};
+ghost use Rattle.std.specs.Prelude.{length, true};
+ghost use Rattle.wax_lazy.specs.Cost.{path_visits};
 ghost use Rattle.wax_query.specs.Below.{IsBelow};
 ghost use Rattle.wax_token.specs.Cost.{program_length};
 ghost use Rattle.wax_walk.specs.Given.{with_tree};
@@ -8,6 +9,7 @@ ghost use Rattle.wax_exclude.specs.Candidates.{NoSlashAfterNames, folder_at};
 ghost use Rattle.wax_exclude.specs.Deciding.{IsDecidingLine, SaysLines, ignores_at};
 ghost use Rattle.wax_exclude.specs.Idle.{AreIdle};
 ghost use Rattle.wax_exclude.specs.Ignored.{IgnoresBelow, is_ignored};
+ghost use Rattle.wax_exclude.specs.Length.{list_length};
 ghost use Rattle.wax_exclude.specs.Tidy.{TidiesUp};
 ghost use Rattle.wax_exclude.specs.Undecided.{AreUndecided, IsUndecided};
 
@@ -21,7 +23,7 @@ use std::alloc::Global;
 use std::marker::Model;
 use wax_compare::{Compared, Selector};
 use wax_match::encode;
-use wax_match::encode::CompileError;
+use wax_match::encode::{CompileError, Meter};
 use wax_query::diagnostics::NoMemory;
 use wax_query::matching::CandidatePath;
 use wax_token::token::{ExpressionMetadata, Token};
@@ -180,7 +182,30 @@ impl IgnoreRule {
         ensures decides { IfOk result (λ answer. answer ≡ is_ignored self.old path.now) }
         ensures same { self.new ≡ self.old }
     {
-        let residue = self.numbered.residue(path_candidate(path))?;
+        let mut meter = Meter::new();
+        self.is_ignored_cached_metered(path, &mut meter)
+    }
+
+    /// Returns what `is_ignored_cached` does, and moves the meter by the number of instructions that the
+    /// list's program visits, whatever earlier paths led to: at most its length for each character and once
+    /// more at the end, or nine times that if its length exceeds 256; and at the end at most its length
+    /// once more. Paths that lead only to what earlier ones led to move it by nothing.
+    ///
+    /// # Errors
+    ///
+    /// Returns `NoMemory` if allocation fails. The rule can be used for further paths after that.
+    pub fn is_ignored_cached_metered(
+        &mut self,
+        path: &CandidatePath<'_>,
+        meter: &mut Meter,
+    ) -> Result<bool, NoMemory>
+        ensures decides { IfOk result (λ answer. answer ≡ is_ignored self.old path.now) }
+        ensures same { self.new ≡ self.old }
+        ensures above { let size = list_length self.old in
+            meter.new ≤ meter.old + path_visits size (length path.now) + size }
+        ensures steady { meter.old ≤ meter.new }
+    {
+        let residue = self.numbered.residue(path_candidate(path), meter)?;
         Ok(residue.is_some())
     }
 
@@ -222,7 +247,8 @@ impl IgnoreRule {
 
     /// Compiles the lines once more, to find the deciding lines of many paths.
     pub fn deciding_lines(&self, alloc: Global) -> Result<DecidingLines, NoMemory>
-        ensures { IfOk result (SaysLines self.now) }
+        ensures says { IfOk result (SaysLines self.now) }
+        ensures length { IfOk result (λ deciding. length deciding < list_length self.now) }
     {
         DecidingLines::new(alloc, self.lines.as_slice())
     }
@@ -238,7 +264,8 @@ impl Exclude for IgnoreRule {
         alloc: Global,
         candidate: Candidate<'_>,
     ) -> Result<Option<EntryResidue>, NoMemory> {
-        self.numbered.residue(candidate)
+        let mut meter = Meter::new();
+        self.numbered.residue(candidate, &mut meter)
     }
 }
 

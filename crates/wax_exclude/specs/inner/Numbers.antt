@@ -1,10 +1,11 @@
 -- Numbers of lines: the greatest number of an alternative that matches decides what a list does.
 use Rattle.std.specs.Prelude.{◌≡◌, ◌↔◌, ◌⊎◌, ℕ, suc, ◌%◌, ◌==◌, ◌<◌, ◌≤◌, Bool, true, false, ◌&&◌, ◌||◌}
 use Rattle.std.specs.Prelude.{All, if◌then◌else◌, List, [], ◌∷◌, ◌++◌, Option, Some, None, drop, length}
-use Rattle.std.specs.Prelude.{nat_le}
+use Rattle.std.specs.Prelude.{◌+◌, nat_le, sum_by}
 use Rattle.wax_prefilter.specs.Literals.{LiteralsView, MayPass}
 use Rattle.wax_program.specs.Closed.{IsClosed}
 use Rattle.wax_program.specs.Machine.{Accepts, mark}
+use Rattle.wax_token.specs.Cost.{cost}
 use Rattle.wax_token.specs.Meaning.{Means}
 use Rattle.wax_token.specs.Reads.{Span}
 use Rattle.wax_token.specs.Syntax.{Tree}
@@ -56,6 +57,14 @@ pub record IsSettledFrom (lines : List SplitLine) (settled : ℕ) : Type 0 where
   pub within : settled ≤ length lines
   pub marks : (i : ℕ) → none_reincludes (drop i lines) ≡ nat_le settled i
 
+-- ---- how long their program is
+-- what the alternatives of a line cost, and 2 more for each
+abbrev pub alternatives_cost : List (Tree Span) → ℕ
+alternatives_cost ts = sum_by (λ t. cost t + 2) ts
+
+abbrev pub split_length : List SplitLine → ℕ
+split_length lines = sum_by (λ line. alternatives_cost line.alternatives) lines + 1
+
 -- ---- what they decide
 
 -- each text that one of the alternatives matches passes
@@ -75,6 +84,7 @@ pub record KnowsLines (lines : List SplitLine) (numbered : NumberedLines) : Type
   pub all : numbered.covers_all ≡ covers_everything lines
   pub closed : IsClosed numbered.matcher
   pub literals : LinesPass lines numbered.literals
+  pub fits : length numbered.matcher ≤ split_length lines
   pub means : (k : ℕ) (s : List ℕ)
       → Accepts numbered.matcher 0 (s ++ mark k ∷ []) ↔ HasMatch numbered.top 0 lines k s
 

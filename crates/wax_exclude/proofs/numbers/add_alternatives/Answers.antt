@@ -1,6 +1,7 @@
 use Rattle.std.proofs.Common.{◌≡◌, ◌∙◌, ◌⊎◌, ap, cond, subst, sym}
 use Rattle.wax_match.specs.Numbered.{MeansNumbered}
 use Rattle.wax_token.specs.Words.{members}
+use Rattle.wax_exclude.proofs.ListLengths.{alternative_counted}
 use Rattle.wax_exclude.proofs.NumberedLines.{alternative_added}
 use Rattle.wax_exclude.specs.Covers.{ends_wild}
 use Rattle.wax_exclude.specs.inner.Numbers.{MatchesBy}
@@ -22,7 +23,12 @@ loop-pattern-preserved c =
       | else-ends_wild w ↦ w.number-is
           ∙ sym (ap (λ b. cond b above own) (sym c.ends_wild.ensures ∙ w.if-ends_wild.false))
     ]) in
-    alternative_added (λ k s. MeansNumbered c.args.patterns.now.items k s ⊎ MatchesBy own above ts k s) own
-    above c.loop-pattern.pattern-index ts t
-    c.loop-pattern.patterns.items c.push.new.self.items _ c.loop-pattern-test.true c.pattern-item.is
-    c.in_ok-push.ensures.items number same c.loop-pattern.invariant
+    record {
+      completes = alternative_added (λ k s. MeansNumbered c.args.patterns.now.items k s
+          ⊎ MatchesBy own above ts k s) own above c.loop-pattern.pattern-index ts t
+          c.loop-pattern.patterns.items c.push.new.self.items _ c.loop-pattern-test.true c.pattern-item.is
+          c.in_ok-push.ensures.items number same c.loop-pattern.invariant.completes;
+      length = alternative_counted ts c.loop-pattern.patterns.items c.push.new.self.items
+          c.args.patterns.now.items c.loop-pattern.pattern-index t _ c.loop-pattern-test.true
+          c.pattern-item.is c.in_ok-push.ensures.items same c.loop-pattern.invariant.length;
+    }
