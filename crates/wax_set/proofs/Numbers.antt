@@ -3,15 +3,17 @@ use Rattle.std.proofs.Common.{◌≡◌, ◌<◌, ◌↔◌, ◌++◌, ℕ, zero
 use Rattle.std.proofs.Common.{List, [], ◌∷◌, length, inl, inr, ◌≤◌, arith, ap, sym, subst, refl, ◌∙◌, ◌⊎◌}
 use Rattle.std.proofs.Common.{◌+◌, get_or, take}
 use Rattle.std.proofs.lemmas.List.{length-take-le, take_all, take_more}
+use Rattle.std.proofs.lemmas.List.Sums.{sum_by-append}
 use Rattle.wax_lazy.specs.Numbers.{AreNumbers}
 use Rattle.wax_match.proofs.Numbered.{numbered_push}
-use Rattle.wax_match.specs.Numbered.{MeansNumbered}
+use Rattle.wax_match.specs.Numbered.{MeansNumbered, numbered_length}
 use Rattle.wax_match.specs.declared.encode.ends.Numbered.{Numbered}
 use Rattle.wax_prefilter.specs.Compiled.{AcceptsAlike, Instructions, IsCompiled}
 use Rattle.wax_program.specs.Closed.{AcceptsMarked, IsClosed}
 use Rattle.wax_program.specs.Machine.{Accepts, mark}
 use Rattle.wax_program.specs.declared.instruction.Instruction.{Instruction}
 use Rattle.wax_set.specs.Sets.{AreMatches, BranchMeans, IsAlternation, IsNumbered, MeansAt, MeansText}
+use Rattle.wax_token.specs.Cost.{branches_cost, cost, program_length}
 use Rattle.wax_token.specs.Meaning.{MeansSome}
 use Rattle.wax_token.specs.Reads.{Span}
 use Rattle.wax_token.specs.Syntax.{Tree, Trees, leaf, alternation, concatenation, repetition, none, more}
@@ -158,9 +160,42 @@ indexed_program ts i patterns given code past same all means number s =
 pub numbers_branches : (ts : List (Tree Span)) (t : Tree Span) (code : List Instruction)
     → t ≡ alternation (0, 0) (trees ts)
     → ((number : ℕ) (s : List ℕ) → Accepts code 0 (s ++ mark number ∷ []) ↔ BranchMeans (trees ts) number s)
-    → IsClosed code → IsNumbered t code
-numbers_branches ts t code e means closed = record {
+    → IsClosed code → length code < program_length (alternation (0, 0) (trees ts)) → IsNumbered t code
+numbers_branches ts t code e means closed shorter = record {
   means = λ number s. subst (λ u. Accepts code 0 (s ++ mark number ∷ []) ↔ MeansAt u number s)
       (sym e) (means number s);
   closed = closed;
+  shorter = subst (λ u. length code < program_length u) (sym e) shorter;
 }
+
+-- what the first branches cost, as patterns
+branches_push : (ts : List (Tree Span)) (t : Tree Span)
+    → branches_cost (trees (ts ++ t ∷ [])) ≡ branches_cost (trees ts) + (cost t + 2)
+branches_push [] t = omega arith
+branches_push (u ∷ ts) t = omega (arith, branches_push ts t)
+
+pub branch_counted : (ts : List (Tree Span)) (i : ℕ) (t : Tree Span) (old new : List Numbered) (p : Numbered)
+    → i < length ts → t ≡ get_or ts i t → new ≡ old ++ p ∷ [] → p.pattern.now ≡ t
+    → numbered_length old ≡ branches_cost (trees (take i ts)) + 1
+    → numbered_length new ≡ branches_cost (trees (take (i + 1) ts)) + 1
+branch_counted ts i t old new p lt is grown pattern was = omega (
+  arith,
+  was,
+  ap cost pattern,
+  ap numbered_length grown,
+  sum_by-append (λ q. cost q.pattern.now + 2) old (p ∷ []),
+  ap (λ us. branches_cost (trees us)) (take_more ts i t lt ∙ ap (λ u. take i ts ++ u ∷ []) (sym is)),
+  branches_push (take i ts) t,
+)
+
+pub branches_shorter : (ts : List (Tree Span)) (i : ℕ) (patterns given : List Numbered)
+    (code : List Instruction) → length ts ≤ i → given ≡ patterns
+    → numbered_length patterns ≡ branches_cost (trees (take i ts)) + 1 → length code ≤ numbered_length given
+    → length code < program_length (alternation (0, 0) (trees ts))
+branches_shorter ts i patterns given code past same counted le = omega (
+  arith,
+  le,
+  ap numbered_length same,
+  counted,
+  ap (λ us. branches_cost (trees us)) (take_all i ts past),
+)

@@ -1,11 +1,12 @@
 -- What contracts see of a set of patterns.
-use Rattle.std.specs.Prelude.{◌≡◌, ◌↔◌, ◌++◌, ℕ, zero, suc, false, Contains, List, [], ◌∷◌}
+use Rattle.std.specs.Prelude.{◌≡◌, ◌↔◌, ◌<◌, ◌++◌, ℕ, zero, suc, false, Contains, List, [], ◌∷◌, length}
 use Rattle.std.specs.List.Sorted.{IsStrictlyIncreasing}
 use Rattle.std.specs.Coded.{Coded, coded×, coded_ℕ}
 use Rattle.wax_prefilter.specs.Compiled.{Instructions, IsCompiled}
 use Rattle.wax_program.specs.Closed.{IsClosed}
 use Rattle.wax_program.specs.Machine.{Accepts, mark}
 use Rattle.wax_program.specs.declared.instruction.Instruction.{Instruction}
+use Rattle.wax_token.specs.Cost.{program_length}
 use Rattle.wax_token.specs.Meaning.{Means}
 use Rattle.wax_token.specs.Reads.{Span}
 use Rattle.wax_token.specs.Syntax.{Tree, Trees, leaf, alternation, concatenation, repetition, none, more}
@@ -45,10 +46,12 @@ IsAlternation t = (branches : Trees Span) × (t ≡ alternation (0, 0) branches)
 abbrev pub IsWhole : List ℕ → List (List ℕ) → Type 0
 IsWhole text captures = captures ≡ text ∷ []
 
--- the program accepts a text with the mark of a number exactly if the pattern with this index means the text
+-- the program accepts a text with the mark of a number exactly if the pattern with this index means the text,
+-- and is shorter than that of the alternation may be
 pub record IsNumbered (t : Tree Span) (code : List Instruction) : Type 0 where
   pub means : (number : ℕ) (text : List ℕ) → Accepts code 0 (text ++ mark number ∷ []) ↔ MeansAt t number text
   pub closed : IsClosed code
+  pub shorter : length code < program_length t
 
 -- What a set is compiled to: the program of the alternation of its patterns, and the one that numbers them.
 pub record IsCompiledAny (t : Tree Span) (program : Instructions) (numbered : List Instruction) : Type 0 where

@@ -152,6 +152,8 @@ fn numbered_of<'t>(
     ensures means { IfOk result (λ p. (number : ℕ) → (s : List ℕ)
         → Accepts p.0 0 (s ++ mark number ∷ []) ↔ BranchMeans (trees branches.now) number s) }
     ensures closed { IfOk result (λ p. IsClosed p.0) }
+    ensures shorter { IfOk result
+        (λ p. length p.0 < program_length (alternation (0, 0) (trees branches.now))) }
 {
     let mut patterns = Vec::new(alloc);
     for (number, pattern) in branches.iter().enumerate() {

@@ -129,8 +129,30 @@ impl AnyMatcher<'_, '_> {
         ensures matches { IfOk result (λ indexes. AreMatches self.old path.now indexes.items) }
         ensures same { self.new ≡ self.old }
     {
+        let mut meter = Meter::new();
+        self.matches_metered(path, &mut meter)
+    }
+
+    /// Returns what `matches` does. The meter counts as in `is_match_metered`, and at the end at most as
+    /// many visits more as the set's program has instructions.
+    ///
+    /// # Errors
+    ///
+    /// Returns `NoMemory` if allocation fails. The matcher can be used for further paths after
+    /// that.
+    pub fn matches_metered(
+        &mut self,
+        path: &CandidatePath<'_>,
+        meter: &mut Meter,
+    ) -> Result<Vec<usize>, NoMemory>
+        ensures matches { IfOk result (λ indexes. AreMatches self.old path.now indexes.items) }
+        ensures same { self.new ≡ self.old }
+        ensures above { let size = program_length self.old in
+            meter.new ≤ meter.old + path_visits size (length path.now) + size }
+        ensures steady { meter.old ≤ meter.new }
+    {
         let mut indexes = Vec::new(self.alloc);
-        self.matches_into(path, &mut indexes)?;
+        self.matches_into_metered(path, &mut indexes, meter)?;
         Ok(indexes)
     }
 
@@ -149,11 +171,34 @@ impl AnyMatcher<'_, '_> {
         ensures matches { IfOk result (λ _. AreMatches self.old path.now indexes.new.items) }
         ensures same { self.new ≡ self.old }
     {
+        let mut meter = Meter::new();
+        self.matches_into_metered(path, indexes, &mut meter)
+    }
+
+    /// Writes what `matches_into` does, and moves the meter as `matches_metered` does.
+    ///
+    /// # Errors
+    ///
+    /// Returns `NoMemory` if allocation fails. The matcher can be used for further paths after
+    /// that.
+    pub fn matches_into_metered(
+        &mut self,
+        path: &CandidatePath<'_>,
+        indexes: &mut Vec<usize>,
+        meter: &mut Meter,
+    ) -> Result<(), NoMemory>
+        ensures matches { IfOk result (λ _. AreMatches self.old path.now indexes.new.items) }
+        ensures same { self.new ≡ self.old }
+        ensures above { let size = program_length self.old in
+            meter.new ≤ meter.old + path_visits size (length path.now) + size }
+        ensures steady { meter.old ≤ meter.new }
+    {
         indexes.clear();
         if !self.any.may_match_quickly(path) {
             return Ok(());
         }
-        self.numbered.list_numbers(path.as_str(), indexes)
+        self.numbered
+            .list_numbers_metered(path.as_str(), indexes, meter)
     }
 
     /// Returns whether something below the folder with this path can match: whether one of the

@@ -83,15 +83,20 @@ impl<'t> Any<'t> {
         &mut self,
         path: &CandidatePath<'_>,
         indexes: &mut Vec<usize>,
+        meter: &mut Meter,
     ) -> Result<(), NoMemory>
         ensures matches { IfOk result (λ _. AreMatches self.old path.now indexes.new.items) }
         ensures same { self.new ≡ self.old }
+        ensures above { let size = program_length self.old in
+            meter.new ≤ meter.old + path_visits size (length path.now) + size }
+        ensures steady { meter.old ≤ meter.new }
     {
         indexes.clear();
         if !self.may_match_quickly(path) {
             return Ok(());
         }
-        self.numbered.list_numbers(path.as_str(), indexes)
+        self.numbered
+            .list_numbers_metered(path.as_str(), indexes, meter)
     }
 
     /// Returns whether one of the patterns matches the whole path, and whether one matches the path of
@@ -184,8 +189,29 @@ impl<'t> OwnedAnyMatcher<'t> {
         ensures matches { IfOk result (λ indexes. AreMatches self.old path.now indexes.items) }
         ensures same { self.new ≡ self.old }
     {
+        let mut meter = Meter::new();
+        self.matches_metered(path, &mut meter)
+    }
+
+    /// Returns what `matches` does, and moves the meter as `AnyMatcher::matches_metered` does.
+    ///
+    /// # Errors
+    ///
+    /// Returns `NoMemory` if allocation fails. The matcher can be used for further paths after
+    /// that.
+    pub fn matches_metered(
+        &mut self,
+        path: &CandidatePath<'_>,
+        meter: &mut Meter,
+    ) -> Result<Vec<usize>, NoMemory>
+        ensures matches { IfOk result (λ indexes. AreMatches self.old path.now indexes.items) }
+        ensures same { self.new ≡ self.old }
+        ensures above { let size = program_length self.old in
+            meter.new ≤ meter.old + path_visits size (length path.now) + size }
+        ensures steady { meter.old ≤ meter.new }
+    {
         let mut indexes = Vec::new(self.alloc);
-        self.matches_into(path, &mut indexes)?;
+        self.matches_into_metered(path, &mut indexes, meter)?;
         Ok(indexes)
     }
 
@@ -204,7 +230,29 @@ impl<'t> OwnedAnyMatcher<'t> {
         ensures matches { IfOk result (λ _. AreMatches self.old path.now indexes.new.items) }
         ensures same { self.new ≡ self.old }
     {
-        self.any.list_matches(path, indexes)
+        let mut meter = Meter::new();
+        self.matches_into_metered(path, indexes, &mut meter)
+    }
+
+    /// Writes what `matches_into` does, and moves the meter as `matches_metered` does.
+    ///
+    /// # Errors
+    ///
+    /// Returns `NoMemory` if allocation fails. The matcher can be used for further paths after
+    /// that.
+    pub fn matches_into_metered(
+        &mut self,
+        path: &CandidatePath<'_>,
+        indexes: &mut Vec<usize>,
+        meter: &mut Meter,
+    ) -> Result<(), NoMemory>
+        ensures matches { IfOk result (λ _. AreMatches self.old path.now indexes.new.items) }
+        ensures same { self.new ≡ self.old }
+        ensures above { let size = program_length self.old in
+            meter.new ≤ meter.old + path_visits size (length path.now) + size }
+        ensures steady { meter.old ≤ meter.new }
+    {
+        self.any.list_matches(path, indexes, meter)
     }
 
     /// Returns whether something below the folder with this path can match: whether one of the

@@ -17,7 +17,8 @@ shared-requires-clause-numbers c =
     subst (λ t. IsNumbered t c.in_ok-numbered.numbered.0)
     (c.as_ref-2.ensures.same ∙ sym c.as_ref-3.ensures.same)
     (numbers_branches c.branches_of.result.now c.as_ref-2.result.now c.in_ok-numbered.numbered.0
-    c.branches_of.ensures c.in_ok-numbered.ensures.means c.in_ok-numbered.ensures.closed)
+    c.branches_of.ensures c.in_ok-numbered.ensures.means c.in_ok-numbered.ensures.closed
+    c.in_ok-numbered.ensures.shorter)
 
 pub invariant_of-result : goal.invariant_of-result
 invariant_of-result c = record {
@@ -26,6 +27,7 @@ invariant_of-result c = record {
   numbers = subst (IsNumbered c.args.token)
       (sym c.with_most.ensures) (subst (λ t. IsNumbered t c.in_ok-numbered.numbered.0) c.as_ref-2.ensures.same
       (numbers_branches c.branches_of.result.now c.as_ref-2.result.now c.in_ok-numbered.numbered.0
-      c.branches_of.ensures c.in_ok-numbered.ensures.means c.in_ok-numbered.ensures.closed));
+      c.branches_of.ensures c.in_ok-numbered.ensures.means c.in_ok-numbered.ensures.closed
+      c.in_ok-numbered.ensures.shorter));
   alternates = c.requires;
 }
