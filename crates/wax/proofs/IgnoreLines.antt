@@ -1,5 +1,5 @@
 -- The lines of an ignore list that were read, and the first that isn't.
-use Rattle.std.proofs.Common.{◌≡◌, ◌∙◌, ◌<◌, ◌≤◌, ◌+◌, ◌++◌, ◌∷◌, ℕ, List, [], false, ap, drop, get_or}
+use Rattle.std.proofs.Common.{◌≡◌, ◌∙◌, ◌<◌, ◌≤◌, ◌+◌, ◌++◌, ◌∷◌, ℕ, List, [], ap, drop, get_or}
 use Rattle.std.proofs.Common.{length, map, refl, subst, sym, take}
 use Rattle.std.specs.List.{AllZip}
 use Rattle.std.proofs.lemmas.List.{map-append, take_more, drop_more, take_all, take-append-drop}
@@ -9,8 +9,7 @@ use Rattle.wax_exclude.specs.declared.lines.WrittenLine.{WrittenLine}
 use Rattle.wax_token.specs.Reads.{Span}
 use Rattle.wax_tree.specs.Begins.{Begins, behavior_range}
 use Rattle.wax_tree.specs.declared.behavior.WalkBehavior.{WalkBehavior}
-use Rattle.wax_walk.specs.Ruled.{ruled_view}
-use Rattle.wax_walk.specs.View.{IsSeenAs, WalkView}
+use Rattle.wax_walk.specs.View.{WalkView}
 use Rattle.wax_exclude.specs.Ignored.{Line}
 use Rattle.wax.specs.Ignoring.{IsFirstUnread, IsNoList, IsReadAs, IsUnread, refused_at}
 use Rattle.wax_set.specs.declared.error.build_error.BuildError.{BuildError}

@@ -17,6 +17,7 @@ pub use Rattle.wax_exclude.specs.Deciding.{DecidingLineDecides, IsDecidingLine, 
 pub use Rattle.wax_exclude.specs.Deciding.{SaysLines, ignores_at, ignores_if}
 pub use Rattle.wax_exclude.specs.Ignored.{IgnoresBelow, Line, ignore_mark, is_ignored}
 pub use Rattle.wax_exclude.specs.Kept.{KeepsUnignored, PlainRequest, unignored_request}
+pub use Rattle.wax_exclude.specs.Length.{list_length}
 pub use Rattle.wax_exclude.specs.Lines.{written_lines, written_of}
 pub use Rattle.wax_exclude.specs.Unignored.{GivesUnignored, LosesIgnored}
 

@@ -11,7 +11,7 @@ pub use Rattle.wax_lazy.specs.Cost.{first_visits, list_visits, match_visits, mos
 pub use Rattle.wax_lazy.specs.Numbers.{AreNumbers, AreNumbersFrom}
 pub use Rattle.wax_lazy.specs.Numbers.{IsLastNumber, IsLastNumberFrom, IsLastWhere}
 pub use Rattle.wax_lazy.specs.Verdict.{AcceptsBelow, IsVerdict}
-pub use Rattle.wax_match.specs.Numbered.{MeansNumbered}
+pub use Rattle.wax_match.specs.Numbered.{MeansNumbered, numbered_length}
 pub use Rattle.wax_lines.specs.Counts.{greatest_count}
 pub use Rattle.wax_lines.specs.Lines.{Filtered, Filters, Stopped, StoppedShort, WritesCaptures, WritesMeant}
 pub use Rattle.wax_lines.specs.Lines.{lines}

@@ -1,5 +1,5 @@
 //! Ignore lists: texts whose lines select what to exclude from a walk.
-ghost use Rattle.std.specs.Prelude.{◌≡◌, ◌≤◌, ◌↔◌, ◌+◌, ◌*◌, ◌++◌, ◌∷◌, [], ℕ, IsTrue, List, IfOk};
+ghost use Rattle.std.specs.Prelude.{◌≡◌, ◌<◌, ◌≤◌, ◌↔◌, ◌+◌, ◌*◌, ◌++◌, ◌∷◌, [], ℕ, IsTrue, List, IfOk};
 ghost use Rattle.std.specs.Prelude.{All, MatchResult, false, filter, length, map, true};
 ghost use Rattle.wax_directory.specs.Shown.{Shown};
 ghost use Rattle.wax_exclude.specs.Candidates.{NoSlashAfterNames, folder_at};
@@ -7,7 +7,9 @@ ghost use Rattle.wax_exclude.specs.Deciding.{IsDecidingLine, SaysLines, ignores_
 ghost use Rattle.wax_exclude.specs.Idle.{AreIdle};
 ghost use Rattle.wax_exclude.specs.GlobRequests.{walk_for};
 ghost use Rattle.wax_exclude.specs.Kept.{KeepsUnignored, unignored_request};
+ghost use Rattle.wax_exclude.specs.Length.{list_length};
 ghost use Rattle.wax_exclude.specs.Lines.{written_of};
+ghost use Rattle.wax_lazy.specs.Cost.{path_visits};
 ghost use Rattle.wax_exclude.specs.RuledWalks.{with_rule};
 ghost use Rattle.wax_exclude.specs.Told.{KeepsAnswered, LeavesAnswered};
 ghost use Rattle.wax_exclude.specs.TreeRequests.{tree_request};
@@ -33,6 +35,7 @@ use wax_exclude::{
     DecidingLines, IdleLine, IgnoreLine, IgnoreRule, TidyLines, WrittenLine, collect_unignored,
     written_lines,
 };
+use wax_match::encode::Meter;
 use wax_query::diagnostics::NoMemory;
 use wax_query::matching::CandidatePath;
 use wax_set::{BuildError, Pattern};
@@ -186,6 +189,31 @@ impl IgnoreList {
         self.rule.is_ignored_cached(alloc, path)
     }
 
+    /// Returns what `is_ignored_cached` does, and moves the meter by the number of instructions that the
+    /// list's program visits, whatever earlier paths led to: at most its length for each character and once
+    /// more at the end, or nine times that if its length exceeds 256; and at the end at most its length
+    /// once more. Paths that lead only to what earlier ones led to move it by nothing.
+    ///
+    /// The length of the program is at most that of the programs of all globs together, with 1 more for
+    /// each, and 2.
+    ///
+    /// # Errors
+    ///
+    /// Returns `NoMemory` if allocation fails. The list can be used for further paths after that.
+    pub fn is_ignored_cached_metered(
+        &mut self,
+        path: &CandidatePath<'_>,
+        meter: &mut Meter,
+    ) -> Result<bool, NoMemory>
+        ensures decides { IfOk result (λ answer. answer ≡ is_ignored self.old path.now) }
+        ensures same { self.new ≡ self.old }
+        ensures above { let size = list_length self.old in
+            meter.new ≤ meter.old + path_visits size (length path.now) + size }
+        ensures steady { meter.old ≤ meter.new }
+    {
+        self.rule.is_ignored_cached_metered(path, meter)
+    }
+
     /// Returns whether everything below the folder with this path is ignored: an alternative of a line
     /// that ignores covers the folder, and no line after it begins with `!`. A walk, a watcher or a sync
     /// of your own needn't open such a folder.
@@ -306,7 +334,8 @@ impl IgnoreList {
     /// }
     /// ```
     pub fn deciding_lines(&self, alloc: Global) -> Result<DecidingLines, NoMemory>
-        ensures { IfOk result (SaysLines self.now) }
+        ensures says { IfOk result (SaysLines self.now) }
+        ensures length { IfOk result (λ deciding. length deciding < list_length self.now) }
     {
         self.rule.deciding_lines(alloc)
     }
