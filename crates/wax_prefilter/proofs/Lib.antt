@@ -4,6 +4,7 @@ pub mod Deciding
 mod Ends
 pub mod Holding
 pub mod Lengths
+mod Lowered
 mod Marks
 pub mod MeantEdges
 pub mod MeantPieces

@@ -19,36 +19,29 @@ use mir.Val.{bits, hbits}
 
 -- ---- how the lanes differ from the bytes of a pair
 
-xored : (xs : List ℕ) (b k : ℕ) → length xs ≡ 32 → k < 32 → get_or xs k 0 ≡ b
+pub xored : (xs : List ℕ) (b k : ℕ) → length xs ≡ 32 → k < 32 → get_or xs k 0 ≡ b
     → get_or (zip2 bit_xor xs (replicate 32 b)) k 0 ≡ 0
 xored xs b k long lt is =
     get_or-zip2 bit_xor xs (replicate 32 b) k 0 0 0 (omega (arith, lt, long))
     (omega (arith, lt, length-replicate 32 b))
     ∙ (λ i. bit_xor (is i) (get_or-replicate 32 k b 0 lt i)) ∙ xor_self b
 
-length_xored : (xs : List ℕ) (b : ℕ) → length xs ≡ 32 → length (zip2 bit_xor xs (replicate 32 b)) ≡ 32
-length_xored xs b long = length-zip2 bit_xor xs (replicate 32 b) (long ∙ sym (length-replicate 32 b)) ∙ long
+-- with a bit added
+pub xored_with : (xs : List ℕ) (b bit k : ℕ) → length xs ≡ 32 → k < 32 → bit_or (get_or xs k 0) bit ≡ b
+    → get_or (zip2 bit_xor (zip2 bit_or xs (replicate 32 bit)) (replicate 32 b)) k 0 ≡ 0
+xored_with xs b bit k long lt is =
+    xored (zip2 bit_or xs (replicate 32 bit)) b k
+    (length-zip2 bit_or xs (replicate 32 bit) (long ∙ sym (length-replicate 32 bit)) ∙ long) lt
+    (get_or-zip2 bit_or xs (replicate 32 bit) k 0 0 0 (omega (arith, lt, long))
+    (omega (arith, lt, length-replicate 32 bit))
+    ∙ ap (bit_or (get_or xs k 0)) (get_or-replicate 32 k bit 0 lt) ∙ is)
 
-abbrev differences : Pair → List ℕ → List ℕ → List ℕ
-differences pair front back =
-    zip2 bit_or (zip2 bit_xor front (replicate 32 pair.first)) (zip2 bit_xor back (replicate 32 pair.last))
-
-pub length_differences : (pair : Pair) (front back : List ℕ) → length front ≡ 32 → length back ≡ 32
-    → length (differences pair front back) ≡ 32
-length_differences pair front back long wide =
-    let first = length_xored front pair.first long in
-    length-zip2 bit_or (zip2 bit_xor front (replicate 32 pair.first))
-    (zip2 bit_xor back (replicate 32 pair.last)) (first ∙ sym (length_xored back pair.last wide))
-    ∙ first
-
-pub zero_where : (pair : Pair) (front back : List ℕ) → length front ≡ 32 → length back ≡ 32
-    → ZeroWhere pair front back (differences pair front back)
-zero_where pair front back long wide k lt first last =
-    get_or-zip2 bit_or (zip2 bit_xor front (replicate 32 pair.first))
-    (zip2 bit_xor back (replicate 32 pair.last)) k 0 0 0
-    (omega (arith, lt, length_xored front pair.first long))
-    (omega (arith, lt, length_xored back pair.last wide))
-    ∙ (λ i. bit_or (xored front pair.first k long lt first i) (xored back pair.last k wide lt last i))
+-- a lane is 0 if it is in both vectors
+pub both_zero : (xs ys : List ℕ) (k : ℕ) → length xs ≡ 32 → length ys ≡ 32 → k < 32
+    → get_or xs k 0 ≡ 0 → get_or ys k 0 ≡ 0 → get_or (zip2 bit_or xs ys) k 0 ≡ 0
+both_zero xs ys k long wide lt first last =
+    get_or-zip2 bit_or xs ys k 0 0 0 (omega (arith, lt, long)) (omega (arith, lt, wide))
+    ∙ (λ i. bit_or (first i) (last i))
 
 -- ---- the lesser of two lanes
 

@@ -1,11 +1,9 @@
 //! Searching texts in any case.
-ghost use Rattle.std.specs.Prelude.{◌≡◌, ◌≤◌, ◌<◌, ℕ, IsTrue, List, OnOk, ◌++◌};
+ghost use Rattle.std.specs.Prelude.{◌≡◌, ◌≤◌, ◌<◌, ℕ, IsTrue, List, ◌++◌};
 ghost use Rattle.std.specs.Prelude.{chars, length, slice_index, true};
-ghost use Rattle.wax_prefilter.specs.inner.Forms.{HasAsciiForms, pairs_of_forms};
+ghost use Rattle.wax_prefilter.specs.inner.Forms.{HasAsciiForms};
 ghost use Rattle.wax_token.specs.Meaning.{SameText};
 
-use crate::pair::Pair;
-use std::alloc::AllocError;
 use unicode::case::simple_fold;
 use wax_program::instruction::folds_to;
 
@@ -47,8 +45,7 @@ pub fn contains_in_any_case(text: &str, held: &str) -> bool
     false
 }
 
-/// Returns how many of the first bytes are ASCII characters whose forms in any case are ASCII
-/// characters, too.
+/// Returns how many of the first bytes are ASCII characters that have no forms in any case past ASCII.
 pub fn ascii_forms_len(bytes: &[u8]) -> usize
     ensures inside { result ≤ length bytes.now }
     ensures forms { (k : ℕ) → k < result → HasAsciiForms (slice_index bytes.now k) }
@@ -66,31 +63,4 @@ fn has_ascii_forms(byte: u8) -> bool
 {
     let lower = byte.to_ascii_lowercase();
     byte.is_ascii() && lower != b'k' && lower != b's'
-}
-
-/// Appends the pairs of two ASCII characters in both cases.
-pub fn add_forms(pair: Pair, pairs: &mut Vec<Pair>) -> Result<(), AllocError>
-    ensures { OnOk result (pairs.new.items ≡ pairs.old.items ++ pairs_of_forms pair) }
-{
-    let lower = Pair {
-        first: pair.first.to_ascii_lowercase(),
-        last: pair.last.to_ascii_lowercase(),
-        distance: pair.distance,
-    };
-    let upper = Pair {
-        first: pair.first.to_ascii_uppercase(),
-        last: pair.last.to_ascii_uppercase(),
-        distance: pair.distance,
-    };
-    pairs.push(lower)?;
-    pairs.push(Pair {
-        last: upper.last,
-        ..lower
-    })?;
-    pairs.push(Pair {
-        first: upper.first,
-        ..lower
-    })?;
-    pairs.push(upper)?;
-    Ok(())
 }

@@ -35,14 +35,14 @@ impl EndPair {
         ensures { IfSome result (IsBeforeEnd bytes.now) }
     {
         if bytes.len() > MOST_SHORT {
-            let (position, pair) = Pair::rarest_of(bytes)?;
+            let (position, pair) = Pair::rarest_of(bytes, false)?;
             let back = bytes.len() - position;
             return Some(EndPair { pair, back });
         }
         if bytes.len() < 2 {
             return None;
         }
-        let at = rarest_but(if bytes[0] == b'.' { 0 } else { bytes.len() }, bytes);
+        let at = rarest_but(if bytes[0] == b'.' { 0 } else { bytes.len() }, bytes, false);
         let back = bytes.len() - at;
         let pair = Pair {
             first: bytes[at],
@@ -69,7 +69,7 @@ pub fn find_line_end(end: EndPair, needles: &[Needle], bytes: &[u8]) -> usize
 {
     let mut at = 0;
     while at < bytes.len() {
-        let position = at + end.pair.find(&bytes[at..]);
+        let position = at + end.pair.find(&bytes[at..], false);
         if bytes.len() - position <= end.back {
             return position;
         }

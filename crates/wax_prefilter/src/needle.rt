@@ -6,9 +6,9 @@ ghost use Rattle.wax_prefilter.specs.Facts.{ContainsAt};
 ghost use Rattle.wax_prefilter.specs.declared.needle.Anchor.{Anchor};
 ghost use Rattle.wax_prefilter.specs.inner.Ends.{ComesBefore, EndsWith};
 ghost use Rattle.wax_prefilter.specs.inner.Neighbors.{AreNeighbors};
-ghost use Rattle.wax_prefilter.specs.inner.Pairs.{AddsPairs};
+ghost use Rattle.wax_prefilter.specs.inner.Pairs.{IsPairOf};
 
-use crate::any_case::{add_forms, ascii_forms_len, begins_in_any_case, contains_in_any_case};
+use crate::any_case::{ascii_forms_len, begins_in_any_case, contains_in_any_case};
 use crate::line_end::{EndPair, is_end};
 use crate::neighbors::{Neighbors, may_contain};
 use crate::pair::Pair;
@@ -74,27 +74,23 @@ impl Needle {
         self.text.len() <= 2
     }
 
-    /// Appends pairs such that each text that has the needle anywhere has one of them: the two
-    /// rarest bytes of the needle. For a needle in any case, appends these bytes in both cases, and
-    /// looks only at the bytes before the first that has forms past ASCII. Returns `false` if there
-    /// are fewer than two bytes.
-    pub fn add_pairs(&self, pairs: &mut Vec<Pair>) -> Result<bool, AllocError>
-        ensures { IfOk result (λ known. AddsPairs pairs.old.items pairs.new.items known
-            (λ text. (anchor : Anchor) × ContainsAt anchor self.now text)) }
+    /// Returns a pair, perhaps in any case, that each text has which has the needle anywhere: the two
+    /// rarest bytes of the needle. For a needle in any case, looks only at the bytes before the first
+    /// that has forms past ASCII. Returns `None` if there are fewer than two, or if the needle is
+    /// searched for in any case and the pair isn't.
+    pub fn rarest_pair(&self, in_any_case: bool) -> Option<Pair>
+        ensures { IfSome result (IsPairOf self.now in_any_case) }
     {
         let bytes = self.text.as_str().as_bytes();
         if !self.is_case_insensitive {
-            let Some((_, pair)) = Pair::rarest_of(bytes) else {
-                return Ok(false);
-            };
-            pairs.push(pair)?;
-            return Ok(true);
+            let (_, pair) = Pair::rarest_of(bytes, in_any_case)?;
+            return Some(pair);
         }
-        let Some((_, pair)) = Pair::rarest_of(&bytes[..ascii_forms_len(bytes)]) else {
-            return Ok(false);
-        };
-        add_forms(pair, pairs)?;
-        Ok(true)
+        if !in_any_case {
+            return None;
+        }
+        let (_, pair) = Pair::rarest_of(&bytes[..ascii_forms_len(bytes)], true)?;
+        Some(pair)
     }
 
     /// Returns a pair that is found before the end of all lines that have the needle at their end.

@@ -13,7 +13,7 @@ use crate::least::least_of_each;
 use crate::line_end::{EndPair, FEED, find_line_end};
 use crate::literals::may_contain_one;
 use crate::needle::{Anchor, Needle};
-use crate::pair::{Pair, find_first};
+use crate::pair::SoughtPairs;
 use std::alloc::{AllocError, Global};
 use std::marker::Model;
 use wax_query::diagnostics::NoMemory;
@@ -21,6 +21,9 @@ use wax_token::token::{ExpressionMetadata, Token};
 
 /// The greatest number of pairs that are searched for, and of needles for which ends are tested.
 const MOST_PAIRS: usize = 8;
+
+/// The greatest number of pairs that are searched for in any case, which takes longer.
+const MOST_PAIRS_IN_ANY_CASE: usize = 4;
 
 /// The greatest number of texts that are searched for in less time than a matcher takes.
 const FEW_NEEDLES: usize = 4;
@@ -78,20 +81,36 @@ impl Fact {
         }
     }
 
-    /// Returns pairs of which each text that has a needle has one, or `None` if they aren't known or
-    /// are too many.
-    fn pairs(&self, alloc: Global) -> Result<Option<Vec<Pair>>, AllocError>
+    /// Returns pairs of which each text that has a needle has one: one pair for each needle, in any case
+    /// if a needle is. Returns `None` if they aren't known or are too many.
+    fn pairs(&self, alloc: Global) -> Result<Option<SoughtPairs>, AllocError>
         ensures { IfOk result (λ known. IfSome known (λ pairs. (text : List ℕ) → IsUtf8 text
-            → ContainsOne self.now.0 self.now.1 (chars text) → LineHasOne pairs.items text)) }
+            → ContainsOne self.now.0 self.now.1 (chars text)
+            → LineHasOne pairs.in_any_case pairs.list.items text)) }
     {
+        let in_any_case = self
+            .needles
+            .iter()
+            .any(|needle| needle.is_case_insensitive());
+        let most = if in_any_case {
+            MOST_PAIRS_IN_ANY_CASE
+        } else {
+            MOST_PAIRS
+        };
+        if self.needles.len() > most {
+            return Ok(None);
+        }
         let mut pairs = Vec::new(alloc);
         for needle in &self.needles {
-            let is_known = needle.add_pairs(&mut pairs)?;
-            if !is_known || pairs.len() > MOST_PAIRS {
+            let Some(pair) = needle.rarest_pair(in_any_case) else {
                 return Ok(None);
-            }
+            };
+            pairs.push(pair)?;
         }
-        Ok(Some(pairs))
+        Ok(Some(SoughtPairs {
+            list: pairs,
+            in_any_case,
+        }))
     }
 
     /// Returns a position before which no line feed comes after one of the needles. The line feed is given
@@ -139,16 +158,16 @@ fn one_may_be_at(needles: &[Needle], anchor: Anchor, text: &str) -> bool
 
 /// Returns pairs of which each text has one that the facts hold of: those of the fact with the
 /// fewest. Returns `None` if no fact has any.
-fn fewest_pairs(alloc: Global, facts: &[Fact]) -> Result<Option<Vec<Pair>>, AllocError>
-    ensures { IfOk result (λ known. IfSome known (λ pairs. ArePairsOf facts.now pairs.items)) }
+fn fewest_pairs(alloc: Global, facts: &[Fact]) -> Result<Option<SoughtPairs>, AllocError>
+    ensures { IfOk result (λ known. IfSome known (λ pairs. ArePairsOf facts.now pairs)) }
 {
-    let mut fewest: Option<Vec<Pair>> = None;
+    let mut fewest: Option<SoughtPairs> = None;
     for fact in facts {
         let Some(pairs) = fact.pairs(alloc)? else {
             continue;
         };
         match &fewest {
-            Some(others) if others.len() <= pairs.len() => {}
+            Some(others) if others.list.len() <= pairs.list.len() => {}
             _ => fewest = Some(pairs),
         }
     }
@@ -157,12 +176,12 @@ fn fewest_pairs(alloc: Global, facts: &[Fact]) -> Result<Option<Vec<Pair>>, Allo
 
 /// Returns a pair that is found before the end of all lines for which the first fact holds, if it is
 /// about ends. Returns `None` if another fact has fewer pairs than this one has needles.
-fn end_of(facts: &[Fact], pairs: &Option<Vec<Pair>>) -> Option<EndPair>
+fn end_of(facts: &[Fact], pairs: &Option<SoughtPairs>) -> Option<EndPair>
     ensures { IfSome result (IsOfFirst facts.now) }
 {
     let fact = facts.first()?;
     match pairs {
-        Some(pairs) if pairs.len() < fact.needles.len() => None,
+        Some(pairs) if pairs.list.len() < fact.needles.len() => None,
         _ => fact.end_pair(),
     }
 }
@@ -175,7 +194,7 @@ pub struct Prefilter {
     least: usize,
     facts: Vec<Fact>,
     /// Pairs of which each of the texts has one, if they are known.
-    pairs: Option<Vec<Pair>>,
+    pairs: Option<SoughtPairs>,
     /// A pair that is found before the end of each of them, if the first fact is about ends.
     end: Option<EndPair>,
 }
@@ -190,7 +209,7 @@ impl Model for Prefilter {
 
     ghost view = { λ p. (p.least, p.facts.items) };
 
-    ghost invariant = { λ p. IfSome p.pairs (λ pairs. ArePairsOf p.facts.items pairs.items)
+    ghost invariant = { λ p. IfSome p.pairs (ArePairsOf p.facts.items)
         × IfSome p.end (IsOfFirst p.facts.items) };
 }
 
@@ -244,7 +263,7 @@ impl Prefilter {
             return fact.find_line_end(end, bytes);
         }
         match &self.pairs {
-            Some(pairs) => find_first(pairs, bytes),
+            Some(pairs) => pairs.find_first(bytes),
             None => 0,
         }
     }

@@ -1,10 +1,23 @@
 -- Two bytes at a distance. Only private functions cite this file.
-use Rattle.std.specs.Prelude.{◌≡◌, ℕ, ◌+◌, ◌<◌, ◌==◌, List, [], ◌∷◌, ◌++◌, length, slice_index}
-use Rattle.std.specs.Prelude.{chars, IsTrue, Bool}
+use Rattle.std.specs.Prelude.{◌≡◌, ℕ, ◌+◌, ◌<◌, ◌==◌, List, [], ◌∷◌, ◌++◌, length, map, slice_index}
+use Rattle.std.specs.Prelude.{chars, Bool, true, false}
+use Rattle.std.specs.Char.{to_ascii_lowercase}
 use Rattle.std.specs.List.{Any}
 use Rattle.std.specs.Str.{IsUtf8}
-use Rattle.wax_prefilter.specs.Facts.{FactView, FactsHold}
+use Rattle.wax_prefilter.specs.Facts.{ContainsAt, FactView, FactsHold, NeedleView}
+use Rattle.wax_prefilter.specs.declared.needle.Anchor.{Anchor}
 use Rattle.wax_prefilter.specs.declared.pair.Pair.{Pair}
+use Rattle.wax_prefilter.specs.declared.pair.SoughtPairs.{SoughtPairs}
+
+-- the byte as it is or, in any case, in lower case
+abbrev pub lowered_byte : Bool → ℕ → ℕ
+lowered_byte false b = b
+lowered_byte true b = to_ascii_lowercase b
+
+-- the bytes as they are or, in any case, in lower case
+abbrev pub lowered : Bool → List ℕ → List ℕ
+lowered false bytes = bytes
+lowered true bytes = map to_ascii_lowercase bytes
 
 -- the pair is at this position
 pub record PairIsAt (pair : Pair) (bytes : List ℕ) (position : ℕ) : Type 0 where
@@ -20,18 +33,20 @@ ContainsPair bytes pair = (position : ℕ) × PairIsAt pair bytes position
 abbrev pub OneIsAt : List Pair → List ℕ → ℕ → Type 0
 OneIsAt pairs bytes position = Any (λ pair. PairIsAt pair bytes position) pairs
 
--- one of the pairs is in the text or, with its last byte, in the line feed after it
-abbrev pub LineHasOne : List Pair → List ℕ → Type 0
-LineHasOne pairs text = (position : ℕ) × OneIsAt pairs (text ++ 10 ∷ []) position
+-- one of the pairs, perhaps in any case, is in the text or, with its last byte, in the line feed after it
+abbrev pub LineHasOne : Bool → List Pair → List ℕ → Type 0
+LineHasOne in_any_case pairs text =
+    (position : ℕ) × OneIsAt pairs (lowered in_any_case (text ++ 10 ∷ [])) position
+
+-- each text that has the needle has the pair, perhaps in any case
+abbrev pub IsPairOf : NeedleView → Bool → Pair → Type 0
+IsPairOf needle in_any_case pair = (text : List ℕ) → IsUtf8 text
+    → (anchor : Anchor) × ContainsAt anchor needle (chars text) → LineHasOne in_any_case (pair ∷ []) text
 
 -- each text of which the facts hold has one of the pairs
-abbrev pub ArePairsOf : List FactView → List Pair → Type 0
-ArePairsOf facts pairs = (text : List ℕ) → IsUtf8 text → FactsHold facts (chars text) → LineHasOne pairs text
-
--- pairs were added and, if the test answered true, each text so has one of these
-abbrev pub AddsPairs : List Pair → List Pair → Bool → (List ℕ → Type 0) → Type 0
-AddsPairs old new known IsSo = (added : List Pair) × (new ≡ old ++ added)
-    × (IsTrue known → (text : List ℕ) → IsUtf8 text → IsSo (chars text) → LineHasOne added text)
+abbrev pub ArePairsOf : List FactView → SoughtPairs → Type 0
+ArePairsOf facts pairs = (text : List ℕ) → IsUtf8 text → FactsHold facts (chars text)
+    → LineHasOne pairs.in_any_case pairs.list.items text
 
 -- the pair doesn't stand before this position
 abbrev pub NoPairBefore : Pair → List ℕ → ℕ → Type 0

@@ -2,8 +2,9 @@ use Rattle.std.proofs.Common.{◌≡◌, ◌+◌, ◌≤◌, drop, get_or, lengt
 use Rattle.std.proofs.lemmas.Bool.{cases_lt}
 use Rattle.std.proofs.lemmas.List.{get_or_default}
 use Rattle.wax_prefilter.specs.declared.pair.Pair.{Pair}
-use Rattle.wax_prefilter.specs.inner.Pairs.{NoPairBefore, ZeroWhere}
+use Rattle.wax_prefilter.specs.inner.Pairs.{NoPairBefore, ZeroWhere, lowered}
 use lib.Lanes.{chunk}
+use Rattle.wax_prefilter.proofs.Lowered.{length_lowered, zero_lowered}
 use Rattle.wax_prefilter.proofs.Marks.{before_lane, few_lanes, length_lesser, lesser_zero}
 use Rattle.wax_prefilter.proofs.pair.first_position.Goals as goal
 
@@ -14,8 +15,9 @@ loop-pair-preserved c =
     let i = c.loop-pair.pair-index in
     let this : Pair = get_or pairs i (record { first = 0; last = 0; distance = 0 }) in
     let wide : length c.differences.result ≡ 32 = c.differences.ensures.lanes in
-    let marked : ZeroWhere this (chunk 0 32 bytes)
-    (chunk 0 32 (drop this.distance bytes)) c.differences.result = c.differences.ensures.zero in (
+    let low = lowered c.args.in_any_case in
+    let marked : ZeroWhere this (low (chunk 0 32 bytes))
+    (low (chunk 0 32 (drop this.distance bytes))) c.differences.result = c.differences.ensures.zero in (
       length_lesser c.loop-pair.least c.differences.result c.loop-pair.invariant.0 wide,
       λ k pair below is j lt first last. lesser_zero c.loop-pair.least c.differences.result j
           c.loop-pair.invariant.0 wide lt (elim (cases_lt k i) [
@@ -25,21 +27,27 @@ loop-pair-preserved c =
                 let same : this ≡ pair =
                 sym (get_or_default pairs i pair (record { first = 0; last = 0; distance = 0 })
                 c.loop-pair-test.true) ∙ ap (λ n. get_or pairs n pair) (sym here) ∙ is in
-                inr (subst (λ p. ZeroWhere p (chunk 0 32 bytes) (chunk 0 32 (drop p.distance bytes))
-                c.differences.result) same marked j lt first last)
+                inr (subst (λ p. ZeroWhere p (low (chunk 0 32 bytes))
+                (low (chunk 0 32 (drop p.distance bytes))) c.differences.result) same marked j lt first last)
           ]),
     )
 
 pub returns-clause-before : goal.returns-clause-before
 returns-clause-before c = λ k lt (i, pair, below, is, stands).
     let bytes = c.args.bytes.now in
-    let room : pair.distance + 32 ≤ length bytes =
-    subst (λ p. p.distance + 32 ≤ length bytes) is (c.requires.room i pair below) in
-    subst (NoPairBefore pair bytes) (omega arith)
-    (before_lane pair bytes 0 (omega (arith, room)) (λ n none. absurd (omega (arith, none))) c.loop-pair.least
-    c.first_zero.result c.loop-pair.invariant.0
-    (c.loop-pair.invariant.1 i pair (omega (arith, below, c.loop-pair-test.false)) is) c.first_zero.ensures) k
-    lt stands
+    let low = lowered c.args.in_any_case in
+    let room : pair.distance + 32 ≤ length (low bytes) =
+    omega (
+      arith,
+      subst (λ p. p.distance + 32 ≤ length bytes) is (c.requires.room i pair below),
+      length_lowered c.args.in_any_case bytes,
+    ) in
+    subst (NoPairBefore pair (low bytes)) (omega arith)
+    (before_lane pair (low bytes) 0 (omega (arith, room)) (λ n none. absurd (omega (arith, none)))
+    c.loop-pair.least c.first_zero.result c.loop-pair.invariant.0
+    (zero_lowered c.args.in_any_case pair bytes 0 c.loop-pair.least
+    (c.loop-pair.invariant.1 i pair (omega (arith, below, c.loop-pair-test.false)) is)) c.first_zero.ensures)
+    k lt stands
 
 pub returns-clause-inside : goal.returns-clause-inside
 returns-clause-inside c =

@@ -3,7 +3,7 @@ use Rattle.std.specs.Option.{IfSome}
 use Rattle.wax_prefilter.specs.Facts.{FactsHold, ContainsOne}
 use Rattle.wax_prefilter.specs.declared.needle.Anchor.TheVariants.{End}
 use Rattle.wax_prefilter.specs.inner.Ends.{IsOfFirst, NoneEndsBefore}
-use Rattle.wax_prefilter.specs.inner.Pairs.{ArePairsOf, NoPairsBefore}
+use Rattle.wax_prefilter.specs.inner.Pairs.{ArePairsOf, NoPairsBefore, lowered}
 use Rattle.wax_prefilter.proofs.Ends.{line_ends_after}
 use Rattle.wax_prefilter.proofs.Pairs.{ends_after}
 use Rattle.wax_prefilter.proofs.prefilter.Prefilter.earliest_end.Goals as goal
@@ -11,16 +11,16 @@ use Rattle.wax_prefilter.proofs.prefilter.Prefilter.earliest_end.Goals as goal
 pub returns-in-Some : goal.returns-in-Some
 returns-in-Some c = λ x y z e utf8 passes.
     let facts = c.self.inside.facts.items in
-    let pairs = c.in-Some.pairs.items in
+    let pairs = c.in-Some.pairs in
     let known : ArePairsOf facts pairs =
-    subst (λ p. IfSome p (λ pairs. ArePairsOf facts pairs.items)) c.in-Some.is c.self.invariant.0 in
+    subst (λ p. IfSome p (ArePairsOf facts)) c.in-Some.is c.self.invariant.0 in
     let holds : FactsHold facts (chars y) =
     subst (λ p. FactsHold p.1 (chars y)) (sym c.self.view_is) passes.1 in
-    let none : NoPairsBefore pairs c.args.text.now c.find_first.result =
-    subst (λ ps. NoPairsBefore ps c.args.text.now c.find_first.result) c.deref-in-Some.ensures.value
-    (subst (λ b. NoPairsBefore c.deref-in-Some.result.now b c.find_first.result)
-    c.as_bytes-bytes.ensures.value c.find_first.ensures.before) in
-    ends_after pairs c.args.text.now x y z c.find_first.result e
+    let low = lowered pairs.in_any_case in
+    let none : NoPairsBefore pairs.list.items (low c.args.text.now) c.find_first.result =
+    subst (λ b. NoPairsBefore pairs.list.items (low b) c.find_first.result)
+    c.as_bytes-bytes.ensures.value c.find_first.ensures.before in
+    ends_after pairs.in_any_case pairs.list.items c.args.text.now x y z c.find_first.result e
     (omega (arith, c.find_first.ensures.inside, ap length c.as_bytes-bytes.ensures.value))
     none (known y utf8 holds)
 
