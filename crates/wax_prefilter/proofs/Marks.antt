@@ -8,40 +8,70 @@ use Rattle.std.proofs.lemmas.List.{get_or-drop}
 use Rattle.std.proofs.lemmas.List.Sums.{prefix_len-le-length, fails_before_first}
 use Rattle.std.proofs.lemmas.Simd.{tops_compared, length-sel_l, length-zip2, length-replicate, get_or-sel_l}
 use Rattle.std.proofs.lemmas.Simd.{get_or-zip2, get_or-replicate, get_or-chunk, leading_from_mask_l}
-use Rattle.std.proofs.lemmas.Simd.{trailing_mask_l}
+use Rattle.std.proofs.lemmas.Simd.{trailing_mask_l, Each1-get_or}
+use Rattle.std.specs.Char.{to_ascii_lowercase}
 use Rattle.std.specs.List.{position_or_len}
 use Rattle.wax_prefilter.specs.declared.pair.Pair.{Pair}
-use Rattle.wax_prefilter.specs.inner.Pairs.{NoPairBefore, ZeroWhere, is_zero}
+use Rattle.wax_prefilter.specs.inner.Pairs.{NoPairBefore, ZeroWhere, is_zero, lowered}
+use Rattle.wax_prefilter.proofs.Lowered.{get_lowered}
 use lib.Bits.{bit_or, bit_xor, xor_self}
 use lib.Count.{count_trailing_zeros}
-use lib.Lanes.{chunk, mask_l, sel_l, top, zip2}
-use mir.Val.{bits, hbits}
+use lib.Lanes.{Each1, chunk, mask_l, sel_l, top, zip2}
+use mir.Val.{Fits, bits, hbits}
 
 -- ---- how the lanes differ from the bytes of a pair
 
-pub xored : (xs : List ℕ) (b k : ℕ) → length xs ≡ 32 → k < 32 → get_or xs k 0 ≡ b
+xored : (xs : List ℕ) (b k : ℕ) → length xs ≡ 32 → k < 32 → get_or xs k 0 ≡ b
     → get_or (zip2 bit_xor xs (replicate 32 b)) k 0 ≡ 0
 xored xs b k long lt is =
     get_or-zip2 bit_xor xs (replicate 32 b) k 0 0 0 (omega (arith, lt, long))
     (omega (arith, lt, length-replicate 32 b))
     ∙ (λ i. bit_xor (is i) (get_or-replicate 32 k b 0 lt i)) ∙ xor_self b
 
--- with a bit added
-pub xored_with : (xs : List ℕ) (b bit k : ℕ) → length xs ≡ 32 → k < 32 → bit_or (get_or xs k 0) bit ≡ b
-    → get_or (zip2 bit_xor (zip2 bit_or xs (replicate 32 bit)) (replicate 32 b)) k 0 ≡ 0
-xored_with xs b bit k long lt is =
-    xored (zip2 bit_or xs (replicate 32 bit)) b k
-    (length-zip2 bit_or xs (replicate 32 bit) (long ∙ sym (length-replicate 32 bit)) ∙ long) lt
-    (get_or-zip2 bit_or xs (replicate 32 bit) k 0 0 0 (omega (arith, lt, long))
-    (omega (arith, lt, length-replicate 32 bit))
-    ∙ ap (bit_or (get_or xs k 0)) (get_or-replicate 32 k bit 0 lt) ∙ is)
+length_xored : (xs : List ℕ) (b : ℕ) → length xs ≡ 32 → length (zip2 bit_xor xs (replicate 32 b)) ≡ 32
+length_xored xs b long = length-zip2 bit_xor xs (replicate 32 b) (long ∙ sym (length-replicate 32 b)) ∙ long
 
--- a lane is 0 if it is in both vectors
-pub both_zero : (xs ys : List ℕ) (k : ℕ) → length xs ≡ 32 → length ys ≡ 32 → k < 32
-    → get_or xs k 0 ≡ 0 → get_or ys k 0 ≡ 0 → get_or (zip2 bit_or xs ys) k 0 ≡ 0
-both_zero xs ys k long wide lt first last =
-    get_or-zip2 bit_or xs ys k 0 0 0 (omega (arith, lt, long)) (omega (arith, lt, wide))
-    ∙ (λ i. bit_or (first i) (last i))
+abbrev differences : Pair → List ℕ → List ℕ → List ℕ
+differences pair front back =
+    zip2 bit_or (zip2 bit_xor front (replicate 32 pair.first)) (zip2 bit_xor back (replicate 32 pair.last))
+
+pub length_differences : (pair : Pair) (front back : List ℕ) → length front ≡ 32 → length back ≡ 32
+    → length (differences pair front back) ≡ 32
+length_differences pair front back long wide =
+    let first = length_xored front pair.first long in
+    length-zip2 bit_or (zip2 bit_xor front (replicate 32 pair.first))
+    (zip2 bit_xor back (replicate 32 pair.last)) (first ∙ sym (length_xored back pair.last wide))
+    ∙ first
+
+pub zero_where : (pair : Pair) (front back : List ℕ) → length front ≡ 32 → length back ≡ 32
+    → ZeroWhere pair front back (differences pair front back)
+zero_where pair front back long wide k lt first last =
+    get_or-zip2 bit_or (zip2 bit_xor front (replicate 32 pair.first))
+    (zip2 bit_xor back (replicate 32 pair.last)) k 0 0 0
+    (omega (arith, lt, length_xored front pair.first long))
+    (omega (arith, lt, length_xored back pair.last wide))
+    ∙ (λ i. bit_or (xored front pair.first k long lt first i) (xored back pair.last k wide lt last i))
+
+-- ---- the same in any case
+
+abbrev pub with_bit : List ℕ → ℕ → List ℕ
+with_bit xs bit = zip2 bit_or xs (replicate 32 bit)
+
+pub length_with_bit : (xs : List ℕ) (bit : ℕ) → length xs ≡ 32 → length (with_bit xs bit) ≡ 32
+length_with_bit xs bit long =
+    length-zip2 bit_or xs (replicate 32 bit) (long ∙ sym (length-replicate 32 bit)) ∙ long
+
+-- with a bit that turns what is the byte in lower case into it, a lane is the byte
+pub lane_with_bit : (xs : List ℕ) (b bit k : ℕ) → length xs ≡ 32 → Each1 (Fits w8) xs
+    → ((a : ℕ) → a < 256 → to_ascii_lowercase a ≡ b → bit_or a bit ≡ b) → k < 32
+    → get_or (lowered true xs) k 0 ≡ b
+    → get_or (with_bit xs bit) k 0 ≡ b
+lane_with_bit xs b bit k long fit turns lt is =
+    let inside : k < length xs = omega (arith, lt, long) in
+    get_or-zip2 bit_or xs (replicate 32 bit) k 0 0 0 inside (omega (arith, lt, length-replicate 32 bit))
+    ∙ ap (bit_or (get_or xs k 0)) (get_or-replicate 32 k bit 0 lt)
+    ∙ turns (get_or xs k 0) (Each1-get_or (Fits w8) xs k 0 inside fit).fits
+    (sym (get_lowered true xs k inside) ∙ is)
 
 -- ---- the lesser of two lanes
 

@@ -1,7 +1,6 @@
 //! Searching bytes for two of them at a distance.
 ghost use Rattle.std.specs.List.{position_or_len};
-ghost use Rattle.std.specs.Prelude.{◌≡◌, ◌<◌, ◌≤◌, ◌+◌, ℕ, All, IfSome, bit_or, length, map};
-ghost use Rattle.std.specs.Prelude.{slice_index, true};
+ghost use Rattle.std.specs.Prelude.{◌≡◌, ◌<◌, ◌≤◌, ◌+◌, ℕ, All, IfSome, bit_or, length, map, true};
 ghost use Rattle.std.specs.Char.{to_ascii_lowercase};
 ghost use Rattle.std.specs.Simd.Lanes.{mask_l};
 ghost use Rattle.wax_prefilter.specs.inner.Pairs.{NoPairBefore, NoPairsBefore, PairIsAt};
@@ -184,20 +183,6 @@ pub fn rarest_but(other: usize, bytes: &[u8], in_any_case: bool) -> usize
     rarest
 }
 
-// Returns 0 in each lane that has the byte or, in any case, its upper case.
-#[inline(always)]
-fn differences_from(byte: u8, lanes: u8x32, in_any_case: bool) -> u8x32
-    ensures lanes { length result ≡ LANES }
-    ensures zero { (k : ℕ) → k < LANES → slice_index (lowered in_any_case lanes) k ≡ byte
-        → slice_index result k ≡ 0 }
-{
-    if in_any_case {
-        (lanes | u8x32::splat(case_bit(byte))) ^ u8x32::splat(byte)
-    } else {
-        lanes ^ u8x32::splat(byte)
-    }
-}
-
 // Returns the bit by which a letter in lower case differs from its upper case, or 0 for other bytes.
 #[inline(always)]
 fn case_bit(byte: u8) -> u8
@@ -237,10 +222,8 @@ impl Pair {
         };
         let mut at = 0;
         while lasts.len() - at >= LANES {
-            let (front, back) = (
-                u8x32::from_slice(&bytes[at..]),
-                u8x32::from_slice(&lasts[at..]),
-            );
+            let front = u8x32::from_slice(&bytes[at..]);
+            let back = u8x32::from_slice(&lasts[at..]);
             let lane = first_zero(self.differences(front, back, in_any_case));
             if lane < LANES {
                 return at + lane;
@@ -257,8 +240,13 @@ impl Pair {
         ensures lanes { length result ≡ LANES }
         ensures zero { ZeroWhere self (lowered in_any_case front) (lowered in_any_case back) result }
     {
-        let first = differences_from(self.first, front, in_any_case);
-        let last = differences_from(self.last, back, in_any_case);
-        first | last
+        let first = u8x32::splat(self.first);
+        let last = u8x32::splat(self.last);
+        if in_any_case {
+            let front = front | u8x32::splat(case_bit(self.first));
+            let back = back | u8x32::splat(case_bit(self.last));
+            return (front ^ first) | (back ^ last);
+        }
+        (front ^ first) | (back ^ last)
     }
 }
