@@ -2,6 +2,7 @@
 use Rattle.std.specs.Prelude.{◌≡◌, ◌⊎◌, ℕ, false, List, [], refl}
 use Rattle.std.specs.Coded.{Coded, code_by, coded×, coded_list, coded_ℕ}
 use Rattle.wax_capture.specs.Captures.{Captured}
+use Rattle.wax_capture.specs.Matched.{AreSpans}
 use Rattle.wax_capture.specs.Pieces.{ArePieces}
 use Rattle.wax_capture.specs.declared.piece.Piece.{Piece}
 use Rattle.wax_prefilter.specs.Compiled.{Instructions, IsCompiled}
@@ -44,3 +45,8 @@ IsMeant g text = Means g.tree false false text
 -- what the tokens of the glob capture of a text, with nothing around them
 abbrev pub HasCaptures : GlobView → List ℕ → List (List ℕ) → Type 0
 HasCaptures g text captures = Captured (members g.tree) false false text captures
+
+-- where what the tokens of the glob capture lies in the text of these bytes, with nothing around them: the
+-- first byte of each capture, and its number of bytes
+abbrev pub HasSpans : GlobView → List ℕ → List Span → Type 0
+HasSpans g bytes spans = AreSpans (members g.tree) bytes spans

@@ -38,8 +38,8 @@ pub use Rattle.wax_tree.specs.Whole.{EntriesAnswered, whole, yielded}
 pub use Rattle.wax_walk.specs.Opened.{opened_folders}
 -- ---- Matches (`Glob::is_match`): exactly the texts in the meaning of the tree (`IsMeant`, by `Means`).
 -- `is_match_counted` visits at most `program_length` instructions for each character, and as many once more
--- at the end. `HasCaptures` defines what `matched` captures.
-pub use Rattle.wax.specs.GlobView.{GlobView, HasCaptures, IsMeant}
+-- at the end. `HasCaptures` defines what `matched` captures, and `HasSpans` where it lies in the text.
+pub use Rattle.wax.specs.GlobView.{GlobView, HasCaptures, HasSpans, IsMeant}
 pub use Rattle.wax_token.specs.Meaning.{Means}
 -- ---- Expressions (`Glob::new`): accepted are exactly those that spell a tree (`Reads`) which breaks no rule
 -- (`broken`) and fits (`program_length`).

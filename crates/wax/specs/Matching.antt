@@ -3,8 +3,8 @@ use Rattle.std.specs.Prelude.{◌↔◌, ℕ, List}
 use Rattle.wax.specs.GlobView.{GlobView, IsMeant}
 pub use Rattle.wax_query.specs.Matched.{IsMatchOf, MatchedView, cube_visits, texts}
 pub use Rattle.wax_query.specs.Parts.{IsPart, NoLineEndsBefore, cut}
-pub use Rattle.wax_capture.specs.Captures.{Captured, First}
-pub use Rattle.wax_capture.specs.Matched.{AreOnly, IsMatched, square_visits}
+pub use Rattle.wax_capture.specs.Captures.{Captured, CapturedAt, First}
+pub use Rattle.wax_capture.specs.Matched.{AreOnly, AreSpans, IsMatched, ends_of, square_visits}
 pub use Rattle.wax_capture.specs.Pieces.{ArePieces}
 pub use Rattle.wax_prefilter.specs.Below.{MeansBelow, MeansWithin, goes_test, goes_tested}
 pub use Rattle.wax_lazy.specs.Cost.{first_visits, list_visits, match_visits, most_kept, path_visits}

@@ -18,7 +18,7 @@ ghost use Rattle.wax_token.specs.Cost.{program_length};
 ghost use Rattle.wax_token.specs.Decided.{means_test, means_tested};
 ghost use Rattle.wax_partition.specs.Partition.{spelled_rest};
 ghost use Rattle.wax_query.specs.Outcome.{MatchBuild};
-ghost use Rattle.wax.specs.GlobView.{HasCaptures, IsKept, IsMeant};
+ghost use Rattle.wax.specs.GlobView.{HasCaptures, HasSpans, IsKept, IsMeant};
 ghost use Rattle.wax.specs.Partition.{as_glob};
 
 mod matcher;
@@ -42,7 +42,7 @@ use wax_facts::{has_root, is_exhaustive, text};
 use wax_lazy::HasProgram;
 use wax_match::encode::{CompileError, CompiledProgram, Meter};
 use wax_prefilter::CompiledTokens;
-use wax_query::diagnostics::{NoMemory, Refusal};
+use wax_query::diagnostics::{NoMemory, Refusal, Span};
 use wax_query::matching::{CandidatePath, MatchedText, Program};
 use wax_query::query::{CapturingToken, DepthVariance, TextVariance, Variance, When};
 use wax_rule::rule::Checked;
@@ -188,6 +188,31 @@ impl<'t> Glob<'t> {
         ensures { IfOk result (λ tokens. tokens.items ≡ captures self.now.tree) }
     {
         captures(alloc, self.token())
+    }
+
+    /// Returns where the captures of a path lie in it, each as its first byte and its number of bytes, in
+    /// the order of `MatchedText::get` from 1 on, or `None` if the glob doesn't match the path. Takes as
+    /// much time and memory as `matched`.
+    ///
+    /// ```
+    /// let glob = Glob::new(alloc, "src/**/*.{c,rs}")?;
+    /// let path = CandidatePath::from("src/net/tcp.c");
+    /// println!(rt; "{:?}", glob.matched_spans(alloc, &path)?)?; // Some([(4, 4), (8, 3), (12, 1)])
+    /// ```
+    pub fn matched_spans(
+        &self,
+        alloc: Global,
+        path: &CandidatePath<'_>,
+    ) -> Result<Option<Vec<Span>>, NoMemory>
+        ensures { IfOk result (λ found. MatchOption found (IsMeant self.now path.now → ⊥)
+            (λ spans. IsMeant self.now path.now
+            × HasSpans self.now (encode_utf8_all path.now) spans.items)) }
+    {
+        let text = path.as_str();
+        if !self.compiled.may_match(text) {
+            return Ok(None);
+        }
+        self.pieces.spans(alloc, text)
     }
 
     /// Returns the warnings: one for each component whose text is `.` or `..`, of the glob and then

@@ -5,6 +5,7 @@ pub mod Choosing
 pub mod Counting
 pub mod Linking
 pub mod Parts
+pub mod Placing
 pub mod Rows
 pub mod Runs
 pub mod Sizeless

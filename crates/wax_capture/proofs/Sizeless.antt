@@ -1,6 +1,6 @@
 -- Pieces that come to nothing take the empty text alone.
-use Rattle.std.proofs.Common.{◌≡◌, ◌≤◌, ◌∙◌, ℕ, zero, suc, Bool, List, [], ◌∷◌, Some, slice_get, length, take}
-use Rattle.std.proofs.Common.{drop, refl, ap, inl, inr, arith, length-take, length-drop, min}
+use Rattle.std.proofs.Common.{◌≡◌, ◌≤◌, ℕ, zero, suc, Bool, List, [], ◌∷◌, Some, slice_get, length, take}
+use Rattle.std.proofs.Common.{drop, refl, ap, inl, inr, arith, length-take, length-drop}
 use Rattle.std.proofs.lemmas.List.{nil_from_length}
 use Rattle.std.proofs.lemmas.Option.{slice_get_within}
 use Rattle.wax_program.specs.declared.instruction.Instruction.{Instruction}

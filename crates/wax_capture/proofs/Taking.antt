@@ -130,7 +130,7 @@ chosen_length [] s (n ∷ ns) h = absurd h
 chosen_length (p ∷ ps) s [] h = absurd h
 chosen_length (p ∷ ps) s (n ∷ ns) h = ap (λ k. suc k) (chosen_length ps (drop n s) ns h.1)
 
-rest_done : (ps : List Piece) (s : List ℕ) (i : ℕ) → length ps ≤ i → Splits (drop i ps) s → s ≡ []
+pub rest_done : (ps : List Piece) (s : List ℕ) (i : ℕ) → length ps ≤ i → Splits (drop i ps) s → s ≡ []
 rest_done ps s i le h = subst (λ z. Splits z s) (drop_all i ps le) h
 
 pub lengths_end : (ps : List Piece) (s : List ℕ) (i at : ℕ) (ns : List ℕ) → length ps ≤ i

@@ -1,9 +1,10 @@
 -- The chosen split of a text over tokens that stand one after another, and what each token captures of it.
 use Rattle.std.specs.Prelude.{◌≡◌, ℕ, zero, suc, ◌≤◌, Bool, true, false, ◌||◌, List, [], ◌∷◌, ◌++◌}
-use Rattle.std.specs.Prelude.{length, take, drop, ◌==◌, if◌then◌else◌}
+use Rattle.std.specs.Prelude.{◌+◌, length, map, take, drop, ◌==◌, if◌then◌else◌}
 use Rattle.wax_lengths.specs.Prefers.{Prefers}
 use Rattle.wax_token.specs.declared.token.Evaluation.TheVariants.{Eager, Lazy}
 use Rattle.wax_token.specs.Meaning.{TreeMeans, LeafMeans, Means, MeansEach}
+use Rattle.wax_token.specs.Reads.{utf8_len}
 use Rattle.wax_token.specs.Syntax.{Leaf, literal, class, separator, one, zero_or_more, tree}
 use Rattle.wax_token.specs.Syntax.{Tree, leaf, alternation, concatenation, repetition, Trees, none, more}
 
@@ -32,6 +33,30 @@ token_captures (leaf a l) before x = leaf_captures l before x
 token_captures (alternation a ts) before x = x ∷ []
 token_captures (concatenation a ts) before x = []
 token_captures (repetition a t low high) before x = x ∷ []
+
+-- How many characters at the beginning of its piece a token doesn't capture: the `/` with which the piece of
+-- a tree wildcard begins after something.
+abbrev pub leaf_skips : Leaf → Bool → ℕ
+leaf_skips (literal _ _) before = 0
+leaf_skips separator before = 0
+leaf_skips (class _ _) before = 0
+leaf_skips one before = 0
+leaf_skips (zero_or_more _) before = 0
+leaf_skips (tree rooted) true = 1
+leaf_skips (tree rooted) false = 0
+
+abbrev pub token_skips : {A : Type 0} → Tree A → Bool → ℕ
+token_skips (leaf a l) before = leaf_skips l before
+token_skips (alternation a ts) before = 0
+token_skips (concatenation a ts) before = 0
+token_skips (repetition a t low high) before = 0
+
+-- Where what a token captures of its piece lies: the first byte, and the number of bytes. The piece begins at
+-- this byte.
+abbrev pub token_spans : {A : Type 0} → Tree A → Bool → ℕ → List ℕ → List (ℕ × ℕ)
+token_spans t before byte x =
+    map (λ capture. (byte + utf8_len (take (token_skips t before) x), utf8_len capture))
+    (token_captures t before x)
 
 -- ---- which piece is chosen
 
@@ -106,3 +131,12 @@ Captured (more t ts) before after s captures =
     (n : ℕ) × IsChosen t ts before after s n
     × (others : List (List ℕ)) × Captured ts true after (drop n s) others
     × (captures ≡ token_captures t before (take n s) ++ others)
+
+-- Where the captures of the tokens lie: the pieces are chosen from left to right, and one after another they
+-- are the whole text. So each begins where the one before it ends, and the first at this byte.
+abbrev pub CapturedAt : {A : Type 0} → Trees A → Bool → Bool → ℕ → List ℕ → List (ℕ × ℕ) → Type 0
+CapturedAt none before after byte s spans = (s ≡ []) × (spans ≡ [])
+CapturedAt (more t ts) before after byte s spans =
+    (n : ℕ) × IsChosen t ts before after s n
+    × (others : List (ℕ × ℕ)) × CapturedAt ts true after (byte + utf8_len (take n s)) (drop n s) others
+    × (spans ≡ token_spans t before byte (take n s) ++ others)

@@ -3,7 +3,8 @@ use Rattle.std.specs.Prelude.{◌≡◌, ◌↔◌, ℕ, ◌+◌, ◌≤◌, Boo
 use Rattle.std.specs.Prelude.{drop, Some, slice_get, ⊤}
 use Rattle.wax_token.specs.Cost.{cost}
 use Rattle.wax_token.specs.Syntax.{Tree, Trees, none, more}
-use Rattle.wax_capture.specs.Captures.{MeansByWay, has_more, is_lazy, token_captures, tree_capture}
+use Rattle.wax_capture.specs.Captures.{MeansByWay, has_more, is_lazy, token_captures, token_skips}
+use Rattle.wax_capture.specs.Captures.{tree_capture}
 use Rattle.wax_lengths.specs.Forms.{TakenBy, form_size}
 use Rattle.wax_lengths.specs.declared.form.Form.{Form}
 use Rattle.wax_capture.specs.declared.piece.Capture.{Capture}
@@ -32,6 +33,13 @@ captured_by WholePiece x = x ∷ []
 captured_by AfterFirst x = drop 1 x ∷ []
 captured_by UnlessSlash x = tree_capture false false x ∷ []
 
+-- how many characters at the beginning of its piece aren't captured, if there are so many
+abbrev pub skipped_by : Capture → ℕ
+skipped_by Nothing = 0
+skipped_by WholePiece = 0
+skipped_by AfterFirst = 1
+skipped_by UnlessSlash = 0
+
 abbrev pub size_of : List Form → ℕ
 size_of [] = 0
 size_of (form ∷ forms) = form_size form + size_of forms
@@ -41,6 +49,7 @@ pub record IsPiece {A : Type 0} (t : Tree A) (before after : Bool) (p : Piece) :
   pub ways : (k : ℕ) (x : List ℕ) → MeansByWay t k before after x ↔ WayOf p k x
   pub lazy : p.is_lazy ≡ is_lazy t
   pub captures : (x : List ℕ) → captured_by p.capture x ≡ token_captures t before x
+  pub skips : skipped_by p.capture ≡ token_skips t before
   pub few : size_of (forms_of p.ways) ≤ cost t
 
 -- the pieces of tokens that stand one after another

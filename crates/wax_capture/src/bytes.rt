@@ -1,8 +1,8 @@
 //! Converting places in the characters of a text to places in its bytes.
-ghost use Rattle.std.specs.Prelude.{◌≡◌, ◌+◌, ◌^◌, ◌<◌, ◌≤◌, IfOk, chars, length, map};
+ghost use Rattle.std.specs.Prelude.{◌≡◌, ◌+◌, ◌^◌, ◌<◌, ◌≤◌, ℕ, IfOk, chars, length, map};
 ghost use Rattle.std.specs.List.{All};
 ghost use Rattle.wax_token.specs.Reads.{utf8_len};
-ghost use Rattle.wax_capture.specs.inner.Bytes.{byte_at, in_bytes};
+ghost use Rattle.wax_capture.specs.inner.Bytes.{byte_at, in_bytes, span_between};
 ghost use Rattle.wax_capture.specs.inner.Parts.{IsWithin};
 
 use std::alloc::{AllocError, Global};
@@ -77,4 +77,17 @@ pub fn to_bytes(
         return Ok(parts);
     }
     count_bytes(alloc, characters, parts.as_slice())
+}
+
+/// Returns each part as its beginning and its length, instead of its end.
+pub fn to_spans(alloc: Global, places: &[(usize, usize)]) -> Result<Vec<(usize, usize)>, AllocError>
+    requires { All (λ (p : ℕ × ℕ). p.0 ≤ p.1) places.now }
+    ensures { IfOk result (λ r. r.items ≡ map span_between places.now) }
+{
+    let mut spans = Vec::with_capacity(alloc, places.len())?;
+    for index in 0..places.len() {
+        let (start, end) = places[index];
+        spans.push((start, end - start))?;
+    }
+    Ok(spans)
 }

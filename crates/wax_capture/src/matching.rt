@@ -1,16 +1,17 @@
 //! Matching texts with captures.
-ghost use Rattle.std.specs.Prelude.{◌+◌, ◌*◌, ◌<◌, ◌≤◌, false, IfOk, IfSome, chars, length};
+ghost use Rattle.std.specs.Prelude.{◌+◌, ◌*◌, ◌<◌, ◌≤◌, false, IfOk, IfSome, MatchOption, chars, length};
 ghost use Rattle.wax_query.specs.Outcome.{MatchBuild};
 ghost use Rattle.wax_token.specs.Cost.{costs};
+ghost use Rattle.wax_token.specs.Meaning.{MeansEach};
 ghost use Rattle.wax_token.specs.Reads.{Span};
 ghost use Rattle.wax_token.specs.Syntax.{Trees};
 ghost use Rattle.wax_token.specs.Words.{trees};
 ghost use Rattle.wax_query.specs.Matched.{cube_visits};
-ghost use Rattle.wax_capture.specs.Matched.{AreOnly, IsMatched, square_visits};
+ghost use Rattle.wax_capture.specs.Matched.{AreOnly, AreSpans, IsMatched, square_visits};
 ghost use Rattle.wax_capture.specs.Pieces.{ArePieces};
 
 use crate::build::pieces_of;
-use crate::bytes::to_bytes;
+use crate::bytes::{to_bytes, to_spans};
 use crate::piece::Piece;
 use crate::size::size_of_all;
 use crate::split::split;
@@ -124,5 +125,28 @@ impl Pieces {
         visits.add_text(&characters);
         let captures = to_bytes(alloc, text, &characters, parts)?;
         Ok((Some(MatchedText::new(text, captures)), visits.count()))
+    }
+    /// Returns where the captures lie in the text, each as its first byte and its number of bytes, or
+    /// `None` if the tokens don't match the text. Takes as many visits as `matched_counted`, and memory
+    /// proportional to the number of tokens times that of characters.
+    #[inline(never)]
+    pub fn spans(&self, alloc: Global, text: &str) -> Result<Option<Vec<(usize, usize)>>, NoMemory>
+        ensures { (ts : Trees Span) → ArePieces ts false false self.now
+            → IfOk result (λ found. MatchOption found (MeansEach ts false false (chars text.now) → ⊥)
+            (λ spans. AreSpans ts text.now spans.items)) }
+    {
+        let characters = Text::new(alloc, text)?;
+        let found = split(
+            alloc,
+            self.pieces.as_slice(),
+            &characters,
+            limit(self.size, characters.len()),
+            &mut Visits::new(),
+        )?;
+        let Some(parts) = found else {
+            return Ok(None);
+        };
+        let places = to_bytes(alloc, text, &characters, parts)?;
+        Ok(Some(to_spans(alloc, places.as_slice())?))
     }
 }

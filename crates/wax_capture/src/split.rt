@@ -5,7 +5,8 @@ ghost use Rattle.std.specs.List.{All};
 ghost use Rattle.wax_capture.specs.Captures.{tree_capture};
 ghost use Rattle.wax_capture.specs.Pieces.{captured_by};
 ghost use Rattle.wax_capture.specs.inner.Parts.{IsWithin, part_between, parts};
-ghost use Rattle.wax_capture.specs.inner.Splits.{AreChosen, CapturedBy, Splits, all_sizes, split_visits};
+ghost use Rattle.wax_capture.specs.inner.Splits.{AreChosen, CapturedBy, PlacedBy, Splits, all_sizes};
+ghost use Rattle.wax_capture.specs.inner.Splits.{placed_by, split_visits};
 ghost use Rattle.wax_capture.specs.inner.Trials.{lengths_of};
 
 use crate::piece::{Capture, Piece};
@@ -37,6 +38,8 @@ fn add_capture(
     requires { at + n ≤ length text.now }
     ensures added { OnOk result (parts text.now captures.new.items
         ≡ parts text.now captures.old.items ++ captured_by capture (take n (drop at text.now))) }
+    ensures placed { OnOk result (captures.new.items
+        ≡ captures.old.items ++ placed_by capture at (take n (drop at text.now))) }
     ensures within { All (IsWithin text.now) captures.old.items
         → OnOk result (All (IsWithin text.now) captures.new.items) }
 {
@@ -62,6 +65,7 @@ fn captures_of(
     requires { AreChosen pieces.now text.now (lengths_of chosen.now) }
     ensures captured { IfOk result (λ captures.
         CapturedBy pieces.now text.now (parts text.now captures.items)) }
+    ensures placed { IfOk result (λ captures. PlacedBy pieces.now 0 text.now captures.items) }
     ensures within { IfOk result (λ captures. All (IsWithin text.now) captures.items) }
 {
     let mut captures = Vec::with_capacity(alloc, pieces.len())?;
@@ -108,6 +112,7 @@ pub fn split(
     requires { limit ≤ all_sizes pieces.now * ((length text.now + 1) * (length text.now + 1)) }
     ensures captured { IfOk result (λ r. MatchOption r (Splits pieces.now text.now → ⊥)
         (λ captures. CapturedBy pieces.now text.now (parts text.now captures.items))) }
+    ensures placed { IfOk result (λ r. IfSome r (λ captures. PlacedBy pieces.now 0 text.now captures.items)) }
     ensures within { IfOk result (λ r. IfSome r (λ captures. All (IsWithin text.now) captures.items)) }
     ensures above { visits.new ≤ visits.old + split_visits (all_sizes pieces.now) (length text.now) }
     ensures steady { visits.old ≤ visits.new }

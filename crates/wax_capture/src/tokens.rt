@@ -3,8 +3,10 @@ ghost use Rattle.std.specs.Prelude.{◌≡◌, ◌∷◌, [], ℕ, List, IfSome,
 ghost use Rattle.wax_token.specs.View.{leaf_of, wildcard_leaf};
 ghost use Rattle.wax_token.specs.Words.{is_leaf_tree};
 ghost use Rattle.wax_capture.specs.Captures.{is_lazy, is_lazy_leaf};
-ghost use Rattle.wax_capture.specs.Captures.{leaf_captures, token_captures, tree_capture};
-ghost use Rattle.wax_capture.specs.Pieces.{captured_by};
+ghost use Rattle.wax_capture.specs.Captures.{leaf_captures, leaf_skips, token_captures, token_skips};
+ghost use Rattle.wax_capture.specs.Captures.{tree_capture};
+ghost use Rattle.wax_capture.specs.Pieces.{captured_by, skipped_by};
+ghost use Rattle.wax_token.specs.Syntax.{tree};
 ghost use Rattle.wax_capture.specs.inner.Ways.{IsTreeToken, is_single};
 
 use crate::piece::Capture;
@@ -12,7 +14,8 @@ use wax_token::token::{BranchKind, Evaluation, LeafKind, Sides, Token, Topology,
 
 /// Returns what a token captures of its piece, by what is around it.
 pub fn capture_of<'t, A>(token: &Token<'t, A>, sides: Sides) -> Capture
-    ensures { (x : List ℕ) → captured_by result x ≡ token_captures token.now sides.before x }
+    ensures captures { (x : List ℕ) → captured_by result x ≡ token_captures token.now sides.before x }
+    ensures skips { skipped_by result ≡ token_skips token.now sides.before }
 {
     match token.topology() {
         Topology::Branch(branch) => match branch {
@@ -25,7 +28,9 @@ pub fn capture_of<'t, A>(token: &Token<'t, A>, sides: Sides) -> Capture
 }
 
 fn capture_of_leaf(leaf: &LeafKind<'_>, sides: Sides) -> Capture
-    ensures { (x : List ℕ) → captured_by result x ≡ leaf_captures (leaf_of leaf.now) sides.before x }
+    ensures captures { (x : List ℕ)
+        → captured_by result x ≡ leaf_captures (leaf_of leaf.now) sides.before x }
+    ensures skips { skipped_by result ≡ leaf_skips (leaf_of leaf.now) sides.before }
 {
     match leaf {
         LeafKind::Class(_) => Capture::Piece,
@@ -36,8 +41,9 @@ fn capture_of_leaf(leaf: &LeafKind<'_>, sides: Sides) -> Capture
 }
 
 fn capture_of_wildcard(wildcard: &Wildcard, sides: Sides) -> Capture
-    ensures { (x : List ℕ)
+    ensures captures { (x : List ℕ)
         → captured_by result x ≡ leaf_captures (wildcard_leaf wildcard.now) sides.before x }
+    ensures skips { skipped_by result ≡ leaf_skips (wildcard_leaf wildcard.now) sides.before }
 {
     match wildcard {
         Wildcard::One => Capture::Piece,
@@ -47,7 +53,8 @@ fn capture_of_wildcard(wildcard: &Wildcard, sides: Sides) -> Capture
 }
 
 fn capture_of_tree(sides: Sides, has_root: bool) -> Capture
-    ensures { (x : List ℕ) → captured_by result x ≡ tree_capture sides.before has_root x ∷ [] }
+    ensures captures { (x : List ℕ) → captured_by result x ≡ tree_capture sides.before has_root x ∷ [] }
+    ensures skips { skipped_by result ≡ leaf_skips (tree has_root) sides.before }
 {
     if sides.before {
         return Capture::AfterFirst;

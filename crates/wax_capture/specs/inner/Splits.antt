@@ -1,7 +1,8 @@
 -- How pieces split a text: by nothing but their forms.
-use Rattle.std.specs.Prelude.{◌≡◌, ℕ, ◌+◌, ◌*◌, ◌≤◌, List, [], ◌∷◌, ◌++◌, length, take, drop}
+use Rattle.std.specs.Prelude.{◌≡◌, ℕ, ◌+◌, ◌*◌, ◌≤◌, List, [], ◌∷◌, ◌++◌, length, map, take, drop}
 use Rattle.wax_lengths.specs.Prefers.{Prefers}
-use Rattle.wax_capture.specs.Pieces.{WayOf, captured_by, forms_of, size_of}
+use Rattle.wax_capture.specs.Pieces.{WayOf, captured_by, forms_of, size_of, skipped_by}
+use Rattle.wax_capture.specs.declared.piece.Capture.{Capture}
 use Rattle.wax_capture.specs.declared.piece.Piece.{Piece}
 
 -- each piece takes a part of the text, one after another
@@ -32,6 +33,20 @@ CapturedBy (p ∷ ps) s captures =
     (n : ℕ) × IsChosenBy p ps s n
     × (others : List (List ℕ)) × CapturedBy ps (drop n s) others
     × (captures ≡ captured_by p.capture (take n s) ++ others)
+
+-- where what is captured of a piece lies that begins at this place: its beginning and its end in characters
+abbrev pub placed_by : Capture → ℕ → List ℕ → List (ℕ × ℕ)
+placed_by capture at x =
+    let start : ℕ = at + length (take (skipped_by capture) x) in
+    map (λ y. (start, start + length y)) (captured_by capture x)
+
+-- where what the pieces capture lies, if the first one begins at this place
+abbrev pub PlacedBy : List Piece → ℕ → List ℕ → List (ℕ × ℕ) → Type 0
+PlacedBy [] at s places = (s ≡ []) × (places ≡ [])
+PlacedBy (p ∷ ps) at s places =
+    (n : ℕ) × IsChosenBy p ps s n
+    × (others : List (ℕ × ℕ)) × PlacedBy ps (at + n) (drop n s) others
+    × (places ≡ placed_by p.capture at (take n s) ++ others)
 
 -- how much all pieces come to
 abbrev pub all_sizes : List Piece → ℕ

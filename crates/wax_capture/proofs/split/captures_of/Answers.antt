@@ -1,10 +1,11 @@
 use Rattle.std.proofs.Common.{◌≡◌, ◌+◌, ◌<◌, ◌++◌, ℕ, List, length, get_or, drop, take, arith, rules}
 use Rattle.wax_capture.specs.Pieces.{captured_by}
 use Rattle.wax_capture.specs.inner.Parts.{parts}
-use Rattle.wax_capture.specs.inner.Splits.{AreChosen, IsChosenBy}
+use Rattle.wax_capture.specs.inner.Splits.{AreChosen, IsChosenBy, placed_by}
 use Rattle.wax_capture.specs.inner.Trials.{lengths_of}
 use Rattle.wax_capture.specs.declared.piece.Piece.{Piece}
 use Rattle.wax_capture.specs.declared.trial.Frame.{Frame}
+use Rattle.wax_capture.proofs.Placing.{placed_end, taken_placed}
 use Rattle.wax_capture.proofs.Taking.{captured_end, chosen_at, chosen_length, taken_captured, taken_within}
 use Rattle.wax_capture.proofs.Trying.{length-lengths, lengths_at}
 use Rattle.wax_capture.proofs.split.captures_of.Goals as goal
@@ -26,6 +27,7 @@ loop-index-init c = record {
   within = omega arith;
   chosen = c.requires;
   captured = λ others h. rw c.in_ok-captures.ensures.items h;
+  placed = λ others h. rw c.in_ok-captures.ensures.items h;
   inside = search rules;
 }
 
@@ -59,6 +61,8 @@ loop-index-preserved c =
     c.loop-index.invariant.chosen in
     let added : parts text c.add_capture.new.captures.items ≡ parts text c.loop-index.captures.items
     ++ captured_by p.capture (take n (drop at text)) = search rules in
+    let placed : c.add_capture.new.captures.items ≡ c.loop-index.captures.items
+    ++ placed_by p.capture at (take n (drop at text)) = search rules in
     record {
       within = rw c.place_after-at.ensures
           (taken_within ps text i p lt c.index-pieces-index.is at n c.loop-index.invariant.within r.0);
@@ -66,6 +70,9 @@ loop-index-preserved c =
       captured = rw c.place_after-at.ensures
           (taken_captured ps text i p lt c.index-pieces-index.is at n c.loop-index.invariant.within r.0
           c.loop-index.captures.items c.add_capture.new.captures.items added c.loop-index.invariant.captured);
+      placed = rw c.place_after-at.ensures
+          (taken_placed ps text i p lt c.index-pieces-index.is at n r.0 c.loop-index.captures.items
+          c.add_capture.new.captures.items placed c.loop-index.invariant.placed);
       inside = c.in_ok-add_capture.ensures.within c.loop-index.invariant.inside;
     }
 
@@ -102,3 +109,9 @@ returns-clause-captured c =
     captured_end c.args.pieces.now c.args.text.now c.loop-index.index c.loop-index.at
     c.loop-index.captures.items (drop c.loop-index.index (lengths_of c.args.chosen.now))
     c.loop-index-test.false c.loop-index.invariant.chosen c.loop-index.invariant.captured
+
+pub returns-clause-placed : goal.returns-clause-placed
+returns-clause-placed c =
+    placed_end c.args.pieces.now c.args.text.now c.loop-index.index c.loop-index.at
+    c.loop-index.captures.items (drop c.loop-index.index (lengths_of c.args.chosen.now))
+    c.loop-index-test.false c.loop-index.invariant.chosen c.loop-index.invariant.placed
