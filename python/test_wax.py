@@ -99,6 +99,41 @@ class Capturing(unittest.TestCase):
                     with self.assertRaises(IndexError):
                         matched[index]
 
+    def test_spans(self):
+        for expression, path, spans in [
+            ("src/**/*.{c,rs}", "src/net/tcp.c", [(0, 13), (4, 8), (8, 11), (12, 13)]),
+            ("src/**/*.rs", "src/mod.rs", [(0, 10), (4, 4), (4, 7)]),
+            ("?é*", "€é銀", [(0, 3), (0, 1), (2, 3)]),
+            ("é/**", "é/🐢/b", [(0, 5), (2, 5)]),
+            ("a/**", "a", [(0, 1), (1, 1)]),
+            ("", "", [(0, 0)]),
+        ]:
+            with self.subTest(expression):
+                matched = wax.Glob(expression).matched(path)
+                numbers = range(len(spans))
+                self.assertEqual([matched.span(number) for number in numbers], spans)
+                self.assertEqual([(matched.start(number), matched.end(number)) for number in numbers], spans)
+                self.assertEqual([path[start:end] for start, end in spans], [matched[number] for number in numbers])
+                self.assertEqual((matched.span(), matched.start(), matched.end()), (spans[0], *spans[0]))
+                for index in (-1, len(spans)):
+                    for call in (matched.span, matched.start, matched.end):
+                        with self.assertRaises(IndexError):
+                            call(index)
+
+    def test_spans_beside_re(self):
+        glob, expression = wax.Glob("*é?<b:1,>{c,d}"), re.compile("([^/]*)é([^/])(b+)([cd])")
+        for path in ["aéxbbc", "ééébd", "€🐢éé🐢bbbbd", "éébc"]:
+            matched, other = glob.matched(path), expression.fullmatch(path)
+            for number in range(5):
+                self.assertEqual(matched.span(number), other.span(number), path)
+                self.assertEqual(matched.start(number), other.start(number), path)
+                self.assertEqual(matched.end(number), other.end(number), path)
+
+    def test_repr(self):
+        matched = wax.Glob("a/*").matched("a/b")
+        self.assertEqual(repr(matched), "Matched('a/b', ((2, 3),))")
+        self.assertEqual(eval(repr(matched), {"Matched": wax.Matched}).captures, ("b",))
+
     def test_no_match(self):
         self.assertIsNone(wax.Glob("src/**/*.rs").matched("src/mod.c"))
         self.assertIsNone(wax.Glob("").matched("a"))
@@ -195,6 +230,36 @@ class Queries(unittest.TestCase):
                         self.assertIs(made.goes_on(folder), True, folder)
                     for folder in false_for:
                         self.assertIs(made.goes_on(folder), folder == "" and isinstance(made, wax.GlobSet), folder)
+
+
+    def test_warnings(self):
+        dots, dot = (f"`{text}` is matched as a text and stands for no folder" for text in ("..", "."))
+        separator = "the separator at the end matches only paths that end with one"
+        for expression, warnings in [
+            ("a/b", []),
+            ("", []),
+            ("../a/", [(dots, (0, 2)), (separator, (4, 5))]),
+            ("é/./{€/..,c}/", [(dot, (2, 3)), (dots, (7, 9)), (separator, (12, 13))]),
+            ("(?i)./a", [(dot, (0, 5))]),
+        ]:
+            with self.subTest(expression):
+                found = wax.Glob(expression).warnings
+                self.assertEqual(found, warnings)
+                self.assertTrue(all(isinstance(it, wax.GlobWarning) for it in found))
+
+    def test_sets(self):
+        for expressions, depth, text, has_root, is_exhaustive in [
+            (["src/*/mod.rs", "a/b"], (2, 3), None, False, False),
+            (["/a/**", "/b/**"], (1, None), None, True, True),
+            (["/a", "b/**"], (1, None), None, False, False),
+            (["a/[b]", "a/b"], (2, 2), "a/b", False, False),
+            (["é" * 200], (1, 1), "é" * 200, False, False),
+            ([], (0, 0), "", False, False),
+        ]:
+            with self.subTest(expressions):
+                globs = wax.GlobSet(expressions)
+                self.assertEqual((globs.depth, globs.text), (depth, text))
+                self.assertEqual((globs.has_root, globs.is_exhaustive), (has_root, is_exhaustive))
 
 
 class Sets(unittest.TestCase):
@@ -1162,8 +1227,10 @@ class Extension(unittest.TestCase):
         self.pairs = [(wax._Matcher, ("is_match", "goes_on")), (wax._IgnoreMatcher, ("is_ignored", "excludes_below"))]
 
     def test_in_use(self):
-        for kind, base in [(wax.Glob, "Matcher"), (wax.GlobSet, "Matcher"), (wax.IgnoreList, "IgnoreMatcher")]:
-            self.assertEqual(kind.__mro__[1:], (wax._Value, getattr(wax._extension, base), object))
+        queried = (wax._Value, wax._Queried, wax._extension.Matcher, object)
+        ignoring = (wax._Value, wax._extension.IgnoreMatcher, object)
+        for kind, bases in [(wax.Glob, queried), (wax.GlobSet, queried), (wax.IgnoreList, ignoring)]:
+            self.assertEqual(kind.__mro__[1:], bases)
 
     def test_documents(self):
         for kind, names in self.pairs:

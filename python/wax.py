@@ -49,6 +49,7 @@ from typing import (
     Iterable,
     Iterator,
     List,
+    NamedTuple,
     NoReturn,
     Optional,
     Sequence,
@@ -64,6 +65,7 @@ __all__ = [
     "Error",
     "Glob",
     "GlobSet",
+    "GlobWarning",
     "IgnoreList",
     "LineError",
     "MOST_STATES",
@@ -96,6 +98,16 @@ _MESSAGES = {
     20: "a text isn't UTF-8",
     21: "the output is too small",
 }
+
+
+# the warnings, by their kinds in the header `wax.h`
+_WARNINGS = {
+    1: "`.` is matched as a text and stands for no folder",
+    2: "`..` is matched as a text and stands for no folder",
+    3: "the separator at the end matches only paths that end with one",
+}
+
+_NO_CAPTURE = "captures are counted from 0, which is the path"
 
 
 class Error(ValueError):
@@ -175,6 +187,12 @@ class _Span(ctypes.Structure):
     _fields_ = [("start", ctypes.c_size_t), ("length", ctypes.c_size_t)]
 
 
+class _Warning(ctypes.Structure):
+    span: _Span
+    kind: int
+    _fields_ = [("span", _Span), ("kind", ctypes.c_int32)]
+
+
 class _Facts(ctypes.Structure):
     least_depth: int
     greatest_depth: int
@@ -198,6 +216,7 @@ def _loaded(library: ctypes.CDLL, keeps_lock: bool) -> ctypes.CDLL:
     text, size, number = ctypes.c_char_p, ctypes.c_size_t, ctypes.c_int32
     handle, sizes = ctypes.c_void_p, ctypes.POINTER(ctypes.c_size_t)
     handles, spans, facts = ctypes.POINTER(handle), ctypes.POINTER(_Span), ctypes.POINTER(_Facts)
+    warnings = ctypes.POINTER(_Warning)
     output: List[Any] = [handle, size, sizes]
     two: List[Any] = [text, size, text, size, size, *output, sizes, spans]
     calls: List[Tuple[str, Any, List[Any]]] = [
@@ -212,7 +231,8 @@ def _loaded(library: ctypes.CDLL, keeps_lock: bool) -> ctypes.CDLL:
     ]
     of_handles: List[Tuple[str, Any, List[Any]]] = [
         ("wax_glob_filter", number, [handle, text, size, *output]),
-        ("wax_glob_captures", number, [handle, text, size, handle, size, sizes, size, sizes]),
+        ("wax_glob_spans", number, [handle, text, size, spans, size, sizes]),
+        ("wax_glob_warnings", number, [handle, warnings, size, sizes]),
         ("wax_glob_facts", number, [handle, facts]),
         ("wax_glob_expression", number, [handle, *output]),
         ("wax_glob_text", number, [handle, *output]),
@@ -220,6 +240,8 @@ def _loaded(library: ctypes.CDLL, keeps_lock: bool) -> ctypes.CDLL:
         ("wax_glob_overlap", number, [handle, handle, size, *output]),
         ("wax_glob_free", None, [handle]),
         ("wax_set_matches", number, [handle, text, size, sizes, size, sizes]),
+        ("wax_set_facts", number, [handle, facts]),
+        ("wax_set_text", number, [handle, *output]),
         ("wax_set_overlap", number, [handle, handle, size, *output]),
         ("wax_set_free", None, [handle]),
         ("wax_ignore_filter", number, [handle, text, size, *output]),
@@ -260,10 +282,16 @@ def _raise_built(number: int, expression: str, span: _Span) -> NoReturn:
     if number == 9:
         raise BuildError(number, expression)
     text = _bytes(expression)
-    start = len(text[: span.start].decode())
-    end = start + len(text[span.start : span.start + span.length].decode())
     picture = _written(_library.wax_picture, text, len(text), room=4 * len(text) + 64)[1]
-    raise BuildError(number, expression, (start, end), picture)
+    raise BuildError(number, expression, _part(text, span), picture)
+
+
+def _part(text: bytes, span: _Span) -> Tuple[int, int]:
+    """Returns a part of a text in characters: the index of its first, and that of the one after its last."""
+    start, end = span.start, span.start + span.length
+    if text.isascii():
+        return start, end
+    return len(text[:start].decode()), len(text[:end].decode())
 
 
 def _written(
@@ -607,25 +635,113 @@ class Matched:
 
     `text` is the path, and `captures` has the part of it that each capture matched: that of each class, wildcard,
     alternation and repetition of the expression that isn't inside another token. Each capture has a part, which may be
-    empty. `matched[0]` is the path, and `matched[1]` the part of the first capture.
+    empty. `matched[0]` is the path, and `matched[1]` the part of the first capture. `span`, `start` and `end` say where it
+    is in the path, as those of a match of `re` do.
+
+        >>> matched = Glob("src/**/*.{c,rs}").matched("src/net/tcp.c")
+        >>> matched[2], matched.span(2), matched.text[matched.start(2) :]
+        ('tcp', (8, 11), 'tcp.c')
     """
 
-    __slots__ = ("text", "captures")
+    __slots__ = ("text", "captures", "_spans")
 
-    def __init__(self, text: str, captures: Tuple[str, ...]) -> None:
+    def __init__(self, text: str, spans: Tuple[Tuple[int, int], ...]) -> None:
         self.text = text
-        self.captures = captures
+        self.captures = tuple(text[start:end] for start, end in spans)
+        self._spans = spans
 
     def __getitem__(self, index: int) -> str:
         if index < 0:
-            raise IndexError("captures are counted from 0, which is the path")
+            raise IndexError(_NO_CAPTURE)
         return self.captures[index - 1] if index else self.text
 
+    def span(self, index: int = 0) -> Tuple[int, int]:
+        """Returns where a capture is in the path: the index of its first character, and that of the character after its
+        last. Both are equal if the capture is empty.
+
+        Raises `IndexError` if there is no such capture.
+        """
+        if index < 0:
+            raise IndexError(_NO_CAPTURE)
+        return self._spans[index - 1] if index else (0, len(self.text))
+
+    def start(self, index: int = 0) -> int:
+        """Returns the index of the first character of a capture, as `span` does."""
+        return self.span(index)[0]
+
+    def end(self, index: int = 0) -> int:
+        """Returns the index of the character after a capture, as `span` does."""
+        return self.span(index)[1]
+
     def __repr__(self) -> str:
-        return f"Matched({self.text!r}, {self.captures!r})"
+        return f"Matched({self.text!r}, {self._spans!r})"
 
 
-class Glob(_Value, _MatcherBase):
+class GlobWarning(NamedTuple):
+    """A warning of a glob that builds, but may not match what its author expects. `text` says why, and `span` is the
+    part of the expression: the index of its first character, and that of the character after its last."""
+
+    text: str
+    span: Tuple[int, int]
+
+
+class _Queried(_MatcherBase):
+    """A glob or a set, with what is known of all paths that it matches."""
+
+    _facts_call: Any = None
+    _text_call: Any = None
+
+    def _facts(self) -> _Facts:
+        facts = _Facts()
+        self._facts_call(self._handle, ctypes.byref(facts))
+        return facts
+
+    @property
+    def depth(self) -> Tuple[int, Optional[int]]:
+        """The least and the greatest number of components that a match can have. The greatest is None if there is none.
+
+        `*`, `$` and a class count as one character, so a match that is empty, or has a `/` at an end, may have fewer.
+
+            >>> Glob("src/*/mod.rs").depth, Glob("a/**/b").depth, GlobSet(["*.md", "src/*/mod.rs"]).depth
+            ((3, 3), (2, None), (1, 3))
+        """
+        facts = self._facts()
+        has_greatest = facts.greatest_depth != ctypes.c_size_t(-1).value
+        return facts.least_depth, facts.greatest_depth if has_greatest else None
+
+    @property
+    def has_root(self) -> bool:
+        """Whether it is certain that each match begins with `/`.
+
+        >>> Glob("/usr/**").has_root, Glob("**").has_root, GlobSet(["/usr/**", "/opt"]).has_root
+        (True, False, True)
+        """
+        return self._facts().has_root == 2
+
+    @property
+    def is_exhaustive(self) -> bool:
+        """Whether it is certain that everything below a match matches, too.
+
+        >>> Glob("src/**").is_exhaustive, Glob("src/*").is_exhaustive, GlobSet(["src/**", "doc/**"]).is_exhaustive
+        (True, False, True)
+        """
+        return self._facts().is_exhaustive == 2
+
+    @property
+    def text(self) -> Optional[str]:
+        """The only path that matches, if the expressions are written so that there is only one; otherwise None. Of a set
+        without expressions, it is the empty text.
+
+        >>> Glob("<a/:3>x").text, GlobSet(["a/b", "a/[b]"]).text
+        ('a/a/a/x', 'a/b')
+        >>> Glob("a*").text is None
+        True
+        """
+        status, text = _written(self._text_call, self._handle, room=256)
+        return text if status else None
+
+
+class Glob(_Value, _Queried):
     """A glob, built from an expression, which `str` returns.
 
     Globs are equal if they are built from equal expressions.
@@ -643,6 +759,7 @@ class Glob(_Value, _MatcherBase):
     _given: Optional[Tuple[str, int]] = None
     _most_captures = 0
     _refused = staticmethod(_raise)  # (the extension calls it)
+    _facts_call, _text_call = _using.wax_glob_facts, _using.wax_glob_text
 
     def __init__(self, expression: str) -> None:
         self._build((expression, 0))
@@ -691,18 +808,13 @@ class Glob(_Value, _MatcherBase):
             ('src/net/tcp.c', 'tcp')
         """
         text, count = _bytes(path), ctypes.c_size_t()
-        texts = ctypes.create_string_buffer(max(len(text), 1))
-        lengths = (ctypes.c_size_t * self._most_captures)()
-        status = _using.wax_glob_captures(
-            self._handle, text, len(text), texts, len(text), lengths, self._most_captures, ctypes.byref(count)
+        found = (_Span * self._most_captures)()
+        status = _using.wax_glob_spans(
+            self._handle, text, len(text), found, self._most_captures, ctypes.byref(count)
         )
         if status < 0:
             _raise(-status)
-        if not status:
-            return None
-        written, ends = texts.raw, list(itertools.accumulate(lengths[: count.value]))
-        parts = (written[start:end].decode() for start, end in zip([0, *ends], ends))
-        return Matched(path, tuple(parts))
+        return Matched(path, tuple(_part(text, span) for span in found[: count.value])) if status else None
 
     def filter(self, paths: Iterable[str]) -> Iterator[str]:
         """Returns an iterator over the paths that the glob matches, in order.
@@ -713,53 +825,24 @@ class Glob(_Value, _MatcherBase):
             return filter(super().is_match, paths)
         return _filtered(_using.wax_glob_filter, self._handle, super().is_match, paths)
 
-    def _facts(self) -> _Facts:
-        facts = _Facts()
-        _using.wax_glob_facts(self._handle, ctypes.byref(facts))
-        return facts
-
     @property
-    def depth(self) -> Tuple[int, Optional[int]]:
-        """The least and the greatest number of components that a match can have. The greatest is None if there is none.
+    def warnings(self) -> List[GlobWarning]:
+        """The warnings: one for each component that is `.` or `..`, and a last one if the glob ends with a `/`.
 
-        `*`, `$` and a class count as one character, so a match that is empty, or has a `/` at an end, may have fewer.
+        Reading it raises `MemoryError` if an allocation fails.
 
-            >>> Glob("src/*/mod.rs").depth, Glob("a/**/b").depth
-            ((3, 3), (2, None))
+            >>> for warning in Glob("../src/").warnings:
+            ...     print(warning.span, warning.text)
+            (0, 2) `..` is matched as a text and stands for no folder
+            (6, 7) the separator at the end matches only paths that end with one
         """
-        facts = self._facts()
-        has_greatest = facts.greatest_depth != ctypes.c_size_t(-1).value
-        return facts.least_depth, facts.greatest_depth if has_greatest else None
-
-    @property
-    def has_root(self) -> bool:
-        """Whether it is certain that each match begins with `/`.
-
-        >>> Glob("/usr/**").has_root, Glob("**").has_root
-        (True, False)
-        """
-        return self._facts().has_root == 2
-
-    @property
-    def is_exhaustive(self) -> bool:
-        """Whether it is certain that everything below a match matches, too.
-
-        >>> Glob("src/**").is_exhaustive, Glob("src/*").is_exhaustive
-        (True, False)
-        """
-        return self._facts().is_exhaustive == 2
-
-    @property
-    def text(self) -> Optional[str]:
-        """The only path that the glob matches, if the expression is written so that there is only one; otherwise None.
-
-        >>> Glob("<a/:3>x").text
-        'a/a/a/x'
-        >>> Glob("a*").text is None
-        True
-        """
-        status, text = _written(_using.wax_glob_text, self._handle, room=self._most_captures)
-        return text if status else None
+        expression, count = _bytes(self.expression), ctypes.c_size_t()
+        room = len(expression) + 1
+        found = (_Warning * room)()
+        status = _using.wax_glob_warnings(self._handle, found, room, ctypes.byref(count))
+        if status:
+            _raise(-status)
+        return [GlobWarning(_WARNINGS[it.kind], _part(expression, it.span)) for it in found[: count.value]]
 
     def partition(self) -> Tuple[str, Optional[Glob]]:
         """Returns the prefix with which each match begins, and a glob of the rest, or None if there is no rest.
@@ -840,7 +923,7 @@ def _rest(whole: str, partitions: int) -> Optional[Glob]:
     return rest
 
 
-class GlobSet(_Value, _MatcherBase):
+class GlobSet(_Value, _Queried):
     """A set of globs, built from expressions.
 
     Sets are equal if they are built from equal expressions in the same order.
@@ -855,6 +938,7 @@ class GlobSet(_Value, _MatcherBase):
 
     _given: Optional[Tuple[str, ...]] = None
     _refused = staticmethod(_raise)
+    _facts_call, _text_call = _using.wax_set_facts, _using.wax_set_text
 
     def __init__(self, expressions: Iterable[str]) -> None:
         self._build(tuple(expressions))

@@ -216,6 +216,119 @@ static void captures(void) {
   wax_glob_free(glob);
 }
 
+// the place of each capture is where the text of wax_glob_captures lies
+static void spans(void) {
+  static const struct {
+    const char *expression, *path;
+    int32_t status;
+    size_t count;
+    wax_span spans[4];
+  } rows[] = {
+      {"src/**/*.{rs,toml}", "src/a/\xc3\xa9.rs", 1, 3, {{4, 2}, {6, 2}, {9, 2}}},
+      {"src/**/*.{rs,toml}", "src/.toml", 1, 3, {{4, 0}, {4, 0}, {5, 4}}},
+      {"src/**/*.{rs,toml}", "src/a/b.c", 0, 0, {{0, 0}}},
+      {"a", "a", 1, 0, {{0, 0}}},
+      {"", "", 1, 0, {{0, 0}}},
+      {"a/**", "a", 1, 1, {{1, 0}}},
+      {"a/**", "a/\xf0\x9f\x90\xa2/b", 1, 1, {{2, 6}}},
+      {"**", "/", 1, 1, {{0, 0}}},
+      {"/**", "/a", 1, 1, {{0, 2}}},
+      {"<a*/:1,><b:2>?[c]", "ax/a/bb\xc3\xa9" "c", 1, 4, {{0, 5}, {5, 2}, {7, 2}, {9, 1}}},
+      {"$a*", "aaa", 1, 2, {{0, 0}, {1, 2}}},
+  };
+  for (size_t at = 0; at < sizeof rows / sizeof *rows; at++) {
+    wax_glob *glob = NULL;
+    wax_span place, found[4];
+    const char *path = rows[at].path;
+    size_t number = rows[at].count, count = 77, lengths[4], all;
+    char texts[40];
+    CHECK(wax_glob_new(TEXT(rows[at].expression), &glob, &place) == 0);
+    for (size_t room = number ? number - 1 : 0; room <= 4; room++) {
+      for (size_t index = 0; index < 4; index++) found[index] = (wax_span){77, 78};
+      int32_t status = wax_glob_spans(glob, TEXT(path), found, room, &count);
+      CHECK(status == (room < number ? -21 : rows[at].status) && count == number);
+      for (size_t index = 0; index < 4; index++) {
+        wax_span expected = status == 1 && index < number ? rows[at].spans[index] : (wax_span){77, 78};
+        CHECK(found[index].start == expected.start && found[index].length == expected.length);
+      }
+    }
+    if (rows[at].status == 1) {
+      CHECK(wax_glob_captures(glob, TEXT(path), texts, sizeof texts, lengths, 4, &all) == 1 && all == number);
+      for (size_t index = 0, before = 0; index < number; before += lengths[index++]) {
+        CHECK(lengths[index] == found[index].length);
+        CHECK(!memcmp(texts + before, path + found[index].start, lengths[index]));
+      }
+    }
+    CHECK(wax_glob_spans(glob, "\xff", 1, found, 4, &count) == -20 && count == 0);
+    wax_glob_free(glob);
+  }
+}
+
+static void capturing(void) {
+  static const struct {
+    const char *expression;
+    size_t count;
+    wax_span spans[4];
+  } rows[] = {
+      {"src/**/*.{rs,toml}", 3, {{3, 4}, {7, 1}, {9, 9}}},
+      {"a/b", 0, {{0, 0}}},
+      {"\xc3\xa9[ab]<c:2>?$", 4, {{2, 4}, {6, 5}, {11, 1}, {12, 1}}},
+  };
+  for (size_t at = 0; at < sizeof rows / sizeof *rows; at++) {
+    wax_glob *glob = NULL;
+    wax_span place;
+    size_t number = rows[at].count, count = 77;
+    CHECK(wax_glob_new(TEXT(rows[at].expression), &glob, &place) == 0);
+    for (size_t room = number ? number - 1 : 0; room <= 4; room++) {
+      wax_span found[4] = {{77, 78}, {77, 78}, {77, 78}, {77, 78}};
+      int32_t status = wax_glob_capturing(glob, found, room, &count);
+      CHECK(status == (room < number ? -21 : 0) && count == number);
+      for (size_t index = 0; index < 4; index++) {
+        wax_span expected = status == 0 && index < number ? rows[at].spans[index] : (wax_span){77, 78};
+        CHECK(found[index].start == expected.start && found[index].length == expected.length);
+      }
+    }
+    wax_glob_free(glob);
+  }
+}
+
+// (the rows are also in crates/wax_vectors/data/tests_calls.tsv, or follow from docs/QUERIES.md)
+static void warnings(void) {
+  static const struct {
+    const char *expression;
+    size_t count;
+    wax_warning warnings[3];
+  } rows[] = {
+      {"a/b", 0, {{{0, 0}, 0}}},
+      {"../a/", 2, {{{0, 2}, 2}, {{4, 1}, 3}}},
+      {"a/./{b/..,c}/*/", 3, {{{2, 1}, 1}, {{7, 2}, 2}, {{14, 1}, 3}}},
+      {".a/...", 0, {{{0, 0}, 0}}},
+  };
+  for (size_t at = 0; at < sizeof rows / sizeof *rows; at++) {
+    wax_glob *glob = NULL;
+    wax_span place;
+    size_t number = rows[at].count, count = 77;
+    CHECK(wax_glob_new(TEXT(rows[at].expression), &glob, &place) == 0);
+    for (size_t room = number ? number - 1 : 0; room <= 3; room++) {
+      wax_warning found[3] = {{{77, 78}, 79}, {{77, 78}, 79}, {{77, 78}, 79}};
+      int32_t status = wax_glob_warnings(glob, found, room, &count);
+      CHECK(status == (room < number ? -21 : 0) && count == number);
+      for (size_t index = 0; index < 3; index++) {
+        wax_warning expected = status == 0 && index < number ? rows[at].warnings[index] : (wax_warning){{77, 78}, 79};
+        CHECK(found[index].span.start == expected.span.start && found[index].span.length == expected.span.length);
+        CHECK(found[index].kind == expected.kind);
+      }
+    }
+    CHECK(wax_glob_has_semantic_literals(glob) == (number > 0));
+    wax_glob_free(glob);
+  }
+  wax_glob *glob = NULL;
+  wax_span place;
+  CHECK(wax_glob_new(TEXT("a/"), &glob, &place) == 0);
+  CHECK(wax_glob_has_semantic_literals(glob) == 0); // though it has a warning
+  wax_glob_free(glob);
+}
+
 static void parts(void) {
   char prefix[20], text[20];
   size_t written = 77;
@@ -280,6 +393,36 @@ static void sets(void) {
   CHECK(wax_set_new("", 0, lengths, 0, &set, &which, &span) == 0 && which == 0);
   CHECK(wax_set_is_match(set, "", 0) == 0);
   wax_set_free(set);
+}
+
+static void facts_of_sets(void) {
+  static const struct {
+    const char *patterns;
+    size_t lengths[2], count;
+    wax_facts facts;
+    const char *text; // or none
+  } rows[] = {
+      {"src/*/mod.rsa/b", {12, 3}, 2, {2, 3, 0, 0}, NULL},
+      {"/a/**/b/**", {5, 5}, 2, {1, SIZE_MAX, 2, 2}, NULL},
+      {"/ab/**", {2, 4}, 2, {1, SIZE_MAX, 1, 1}, NULL},
+      {"a/[b]a/b", {5, 3}, 2, {2, 2, 0, 0}, "a/b"},
+      {"", {0, 0}, 0, {0, 0, 0, 0}, ""},
+  };
+  for (size_t at = 0; at < sizeof rows / sizeof *rows; at++) {
+    wax_set *set = NULL;
+    wax_facts facts = {77, 77, 77, 77}, wanted = rows[at].facts;
+    wax_span span;
+    size_t which, written = 77, length = rows[at].text ? strlen(rows[at].text) : 0;
+    char output[5] = "#####";
+    CHECK(wax_set_new(TEXT(rows[at].patterns), rows[at].lengths, rows[at].count, &set, &which, &span) == 0);
+    CHECK(wax_set_facts(set, &facts) == 0);
+    CHECK(facts.least_depth == wanted.least_depth && facts.greatest_depth == wanted.greatest_depth);
+    CHECK(facts.has_root == wanted.has_root && facts.is_exhaustive == wanted.is_exhaustive);
+    if (length) CHECK(wax_set_text(set, output, length - 1, &written) == -21 && written == length && output[0] == '#');
+    CHECK(wax_set_text(set, output, length, &written) == (rows[at].text != NULL) && written == length);
+    CHECK(!memcmp(output, rows[at].text ? rows[at].text : "", length) && output[length] == '#');
+    wax_set_free(set);
+  }
 }
 
 /* Looks for a path that two sets of two expressions of 4 bytes each match, with a room of so many bytes. */
@@ -424,6 +567,20 @@ static int calls(void) {
     status = wax_glob_captures(glob, TEXT("src/a/b.rs"), output, sizeof output, lengths, 4, &count);
     none += status == -10;
     CHECK(status == 1 ? count == 3 : status == -10 && count == 0);
+    wax_span spans[4];
+    status = wax_glob_spans(glob, TEXT("src/a/b.rs"), spans, 4, &count);
+    none += status == -10;
+    CHECK(status == 1 ? count == 3 : status == -10 && count == 0);
+    status = wax_glob_capturing(glob, spans, 4, &count);
+    none += status == -10;
+    CHECK(status == 0 ? count == 3 : status == -10 && count == 0);
+    wax_warning warned[4];
+    status = wax_glob_warnings(glob, warned, 4, &count);
+    none += status == -10;
+    CHECK((status == 0 || status == -10) && count == 0);
+    status = wax_glob_has_semantic_literals(glob);
+    none += status == -10;
+    CHECK(status == 0 || status == -10);
     status = wax_glob_text(glob, output, sizeof output, &written);
     none += status == -10;
     CHECK((status == 0 || status == -10) && written == 0);
@@ -468,6 +625,9 @@ static int calls(void) {
     status = wax_set_goes_on(set, TEXT("b"));
     none += status == -10;
     CHECK(status == 0 || status == -10);
+    status = wax_set_text(set, output, sizeof output, &written);
+    none += status == -10;
+    CHECK((status == 0 || status == -10) && written == 0);
     wax_set *other;
     status = wax_set_new(TEXT("a/b"), (size_t[]){3}, 1, &other, &line, &span);
     none += status == -10;
@@ -526,7 +686,7 @@ int main(int count, char **words) {
   if (count > 1 && !strcmp(words[1], "fail")) {
     failing();
   } else {
-    expressions(), errors(), filters(), texts(), comparisons(), comparison_errors(), globs(), captures(), parts(), sets(), globs_in_common(), sets_in_common(), large_set(), lists();
+    expressions(), errors(), filters(), texts(), comparisons(), comparison_errors(), globs(), captures(), spans(), capturing(), warnings(), parts(), sets(), facts_of_sets(), globs_in_common(), sets_in_common(), large_set(), lists();
     CHECK(wax_blocks() == 0);
   }
   printf("%ld checks failed\n", failures);

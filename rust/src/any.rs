@@ -4,8 +4,8 @@ use std::convert::Infallible;
 use std::fmt::{self, Debug, Formatter};
 use std::sync::Arc;
 
-use crate::query::{depth_between, DepthVariance, TextVariance, When, NO_GREATEST};
-use crate::sys::{self, Handle};
+use crate::query::{depth_between, only_text, when, DepthVariance, TextVariance, When};
+use crate::sys::{self, Facts, Handle};
 use crate::{BuildError, CandidatePath, Comparison, Glob, MatchedText, Pattern, Program};
 
 /// A set of patterns, built by [`any`]. It matches a path if one of them does.
@@ -96,6 +96,20 @@ impl<'t> Any<'t> {
         &self.set
     }
 
+    /// Calls a function for the handle of the set, if a pattern is in it.
+    fn if_in_set<R>(&self, call: impl FnOnce(&Handle<sys::Set>) -> R) -> Option<R> {
+        let has_some = self.globs.iter().any(|glob| !glob.is_rest());
+        has_some.then(|| call(&self.set))
+    }
+
+    /// Returns what is known of the patterns in the set, if there are some, and of each of the others.
+    fn facts(&self) -> impl Iterator<Item = Facts> + '_ {
+        let rests = self.rests().map(|glob| glob.handle().facts());
+        self.if_in_set(Handle::<sys::Set>::facts)
+            .into_iter()
+            .chain(rests)
+    }
+
     /// Returns the patterns that aren't in the set.
     pub(crate) fn rests(&self) -> impl Iterator<Item = &Glob<'t>> {
         self.globs.iter().filter(|glob| glob.is_rest())
@@ -126,17 +140,11 @@ impl<'t> Program<'t> for Any<'t> {
     fn matched<'p>(&self, path: &'p CandidatePath<'_>) -> Option<MatchedText<'p>> {
         let path = path.as_ref();
         self.is_match(path)
-            .then(|| MatchedText::new(path, path.to_string(), vec![path.len()]))
+            .then(|| MatchedText::new(path, vec![(0, path.len())]))
     }
 
     fn depth(&self) -> DepthVariance {
-        let ends = self.globs.iter().map(|glob| match glob.depth() {
-            DepthVariance::Invariant(depth) => (depth, depth),
-            DepthVariance::Variant(range) => (
-                range.lower().bounded().map_or(0, Into::into),
-                range.upper().bounded().map_or(NO_GREATEST, Into::into),
-            ),
-        });
+        let ends = self.facts().map(|it| (it.least_depth, it.greatest_depth));
         let (least, greatest) = ends
             .reduce(|a, b| (a.0.min(b.0), a.1.max(b.1)))
             .unwrap_or((0, 0));
@@ -144,7 +152,11 @@ impl<'t> Program<'t> for Any<'t> {
     }
 
     fn text(&self) -> TextVariance<'t> {
-        let mut texts = self.globs.iter().map(Glob::text);
+        let rests = self.rests().map(Glob::text);
+        let mut texts = self
+            .if_in_set(|set| only_text(set.text()))
+            .into_iter()
+            .chain(rests);
         match texts.next() {
             Some(first) if texts.all(|text| text == first) => first,
             _ => TextVariance::Variant(()),
@@ -152,11 +164,11 @@ impl<'t> Program<'t> for Any<'t> {
     }
 
     fn has_root(&self) -> When {
-        of_all(self.globs.iter().map(Glob::has_root))
+        of_all(self.facts().map(|it| when(it.has_root)))
     }
 
     fn is_exhaustive(&self) -> When {
-        of_all(self.globs.iter().map(Glob::is_exhaustive))
+        of_all(self.facts().map(|it| when(it.is_exhaustive)))
     }
 }
 

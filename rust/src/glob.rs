@@ -7,10 +7,11 @@ use std::path::PathBuf;
 use std::str::FromStr;
 use std::sync::Arc;
 
-use crate::literals;
-use crate::query::{depth_between, DepthVariance, TextVariance, When};
+use crate::query::{
+    depth_between, only_text, when, CapturingToken, DepthVariance, TextVariance, When,
+};
 use crate::sys::{self, Handle};
-use crate::{BuildError, CandidatePath, Comparison, MatchedText, Pattern, Program};
+use crate::{BuildError, CandidatePath, Comparison, MatchedText, Pattern, Program, Warning};
 
 /// A glob: build it once, to match many paths.
 ///
@@ -124,7 +125,47 @@ impl<'t> Glob<'t> {
     /// assert!(!Glob::new("src/..*").unwrap().has_semantic_literals());
     /// ```
     pub fn has_semantic_literals(&self) -> bool {
-        literals::has_semantic_literals(&self.expression)
+        self.handle.has_semantic_literals()
+    }
+
+    /// Returns the tokens that capture, in order: each class, wildcard, alternation and repetition that isn't inside another
+    /// token.
+    ///
+    /// ```
+    /// use wax::Glob;
+    ///
+    /// let glob = Glob::new("src/**/*.{c,rs}").unwrap();
+    /// let spans: Vec<_> = glob.captures().map(|token| token.span()).collect();
+    /// assert_eq!(spans, [(3, 4), (7, 1), (9, 6)]);
+    /// ```
+    pub fn captures(&self) -> impl Clone + Iterator<Item = CapturingToken> {
+        let spans = self.handle.capturing();
+        (1..)
+            .zip(spans)
+            .map(|(index, span)| CapturingToken::new(index, span))
+    }
+
+    /// Returns the warnings: one for each component that is `.` or `..`, and a last one if the glob ends with a `/`.
+    ///
+    /// ```
+    /// use wax::prelude::*;
+    /// use wax::Glob;
+    ///
+    /// let glob = Glob::new("../src/").unwrap();
+    /// let warnings = glob.diagnose();
+    /// assert_eq!(warnings[0].span(), (0, 2));
+    /// assert_eq!(
+    ///     warnings[0].to_string(),
+    ///     "`..` is matched as a text and stands for no folder",
+    /// );
+    /// assert_eq!(warnings[1].span(), (6, 1));
+    /// ```
+    #[must_use]
+    pub fn diagnose(&self) -> Vec<Warning> {
+        let warnings = self.handle.warnings().into_iter();
+        warnings
+            .map(|(span, kind)| Warning::new(span, kind))
+            .collect()
     }
 
     /// Finds a shortest path that this glob and another one match, among the same paths and within the same limit as
@@ -213,8 +254,8 @@ impl<'t> Program<'t> for Glob<'t> {
 
     fn matched<'p>(&self, path: &'p CandidatePath<'_>) -> Option<MatchedText<'p>> {
         let path = path.as_ref();
-        let (captured, lengths) = self.handle.captures(path)?;
-        Some(MatchedText::new(path, captured, lengths))
+        let spans = self.handle.spans(path)?;
+        Some(MatchedText::new(path, spans))
     }
 
     fn depth(&self) -> DepthVariance {
@@ -223,10 +264,7 @@ impl<'t> Program<'t> for Glob<'t> {
     }
 
     fn text(&self) -> TextVariance<'t> {
-        match self.handle.text() {
-            Some(text) => TextVariance::Invariant(text.into()),
-            None => TextVariance::Variant(()),
-        }
+        only_text(self.handle.text())
     }
 
     fn has_root(&self) -> When {
@@ -235,14 +273,5 @@ impl<'t> Program<'t> for Glob<'t> {
 
     fn is_exhaustive(&self) -> When {
         when(self.handle.facts().is_exhaustive)
-    }
-}
-
-/// Converts a number of `wax_facts`.
-fn when(number: i32) -> When {
-    match number {
-        2 => When::Always,
-        1 => When::Sometimes,
-        _ => When::Never,
     }
 }

@@ -21,11 +21,11 @@ mod comparing;
 mod error;
 mod glob;
 mod ignore;
-mod literals;
 mod path;
 pub mod query;
 mod sys;
 pub mod walk;
+mod warning;
 
 use std::borrow::Cow;
 
@@ -36,6 +36,7 @@ pub use crate::comparing::{compare, difference, overlap, Comparison, MOST_STATES
 pub use crate::error::{BuildError, GlobError};
 pub use crate::glob::Glob;
 pub use crate::path::{CandidatePath, MatchedText};
+pub use crate::warning::Warning;
 
 #[cfg(doctest)]
 #[doc = include_str!("../README.md")]

@@ -3,7 +3,10 @@
 use std::borrow::Cow;
 use std::ffi::OsStr;
 use std::fmt::{self, Debug, Display, Formatter};
+use std::ops::Range;
 use std::path::Path;
+
+use crate::query::Span;
 
 /// A path that is matched against patterns: a text.
 ///
@@ -84,18 +87,15 @@ impl<'b> From<&'b str> for CandidatePath<'b> {
 #[derive(Debug)]
 pub struct MatchedText<'t> {
     path: Cow<'t, str>,
-    /// the texts of the captures, one after another
-    captured: String,
-    /// the length of each, in bytes
-    lengths: Vec<usize>,
+    /// where the captures lie in the path
+    spans: Vec<Span>,
 }
 
 impl<'t> MatchedText<'t> {
-    pub(crate) fn new(path: &'t str, captured: String, lengths: Vec<usize>) -> Self {
+    pub(crate) fn new(path: &'t str, spans: Vec<Span>) -> Self {
         MatchedText {
             path: path.into(),
-            captured,
-            lengths,
+            spans,
         }
     }
 
@@ -103,8 +103,7 @@ impl<'t> MatchedText<'t> {
     pub fn into_owned(self) -> MatchedText<'static> {
         MatchedText {
             path: Cow::Owned(self.path.into_owned()),
-            captured: self.captured,
-            lengths: self.lengths,
+            spans: self.spans,
         }
     }
 
@@ -113,8 +112,7 @@ impl<'t> MatchedText<'t> {
     pub fn to_owned(&self) -> MatchedText<'static> {
         MatchedText {
             path: Cow::Owned(self.path.to_string()),
-            captured: self.captured.clone(),
-            lengths: self.lengths.clone(),
+            spans: self.spans.clone(),
         }
     }
 
@@ -125,12 +123,26 @@ impl<'t> MatchedText<'t> {
 
     /// Returns what a token captures: the first that captures has the index 1. At 0 is the whole path.
     pub fn get(&self, index: usize) -> Option<&str> {
+        self.range(index).map(|range| &self.path[range])
+    }
+
+    /// Returns where what a token captures lies in the path, in bytes, with the index of [`get`](Self::get).
+    ///
+    /// ```
+    /// use wax::{CandidatePath, Glob, Program};
+    ///
+    /// let path = CandidatePath::from("src/net/tcp.c");
+    /// let matched = Glob::new("src/**/*.{c,rs}").unwrap().matched(&path).unwrap();
+    /// assert_eq!(matched.range(0), Some(0..13));
+    /// assert_eq!(matched.range(2), Some(8..11));
+    /// assert_eq!(matched.range(4), None);
+    /// ```
+    pub fn range(&self, index: usize) -> Option<Range<usize>> {
         if index == 0 {
-            return Some(self.complete());
+            return Some(0..self.path.len());
         }
-        let length = self.lengths.get(index - 1)?;
-        let start: usize = self.lengths[..index - 1].iter().sum();
-        Some(&self.captured[start..start + length])
+        let (start, length) = *self.spans.get(index - 1)?;
+        Some(start..start + length)
     }
 
     /// Returns the whole path, to match it again.

@@ -10,7 +10,30 @@ pub use Boundedness::{Bounded, Unbounded};
 /// A part of an expression: where it begins, and how long it is, in bytes.
 pub type Span = (usize, usize);
 
-/// An error with a place in an expression.
+/// A token that captures: the index of its capture, and its place in the expression.
+#[derive(Clone, Copy, Debug)]
+pub struct CapturingToken {
+    index: usize,
+    span: Span,
+}
+
+impl CapturingToken {
+    pub(crate) fn new(index: usize, span: Span) -> Self {
+        CapturingToken { index, span }
+    }
+
+    /// Returns the index of the capture, from 1.
+    pub fn index(&self) -> usize {
+        self.index
+    }
+
+    /// Returns the place of the token.
+    pub fn span(&self) -> Span {
+        self.span
+    }
+}
+
+/// An error with a place in an expression, or a warning.
 pub trait LocatedError: Display {
     /// Returns the place.
     fn span(&self) -> Span;
@@ -156,7 +179,7 @@ impl<T, B> Variance<T, B> {
 pub type DepthVariance = Variance<usize, VariantRange>;
 
 /// What the C library writes in place of a greatest number if there is none.
-pub(crate) const NO_GREATEST: usize = usize::MAX;
+const NO_GREATEST: usize = usize::MAX;
 
 /// Returns the depth between two numbers, of which the second may be `NO_GREATEST`.
 pub(crate) fn depth_between(least: usize, greatest: usize) -> DepthVariance {
@@ -175,6 +198,13 @@ pub(crate) fn depth_between(least: usize, greatest: usize) -> DepthVariance {
 
 /// The text of all matches, if it is the same.
 pub type TextVariance<'t> = Variance<Cow<'t, str>, ()>;
+
+/// Returns the text of all matches, if the C library has found it.
+pub(crate) fn only_text<'t>(text: Option<String>) -> TextVariance<'t> {
+    text.map_or(Variance::Variant(()), |text| {
+        Variance::Invariant(text.into())
+    })
+}
 
 impl TextVariance<'_> {
     /// Returns the text as a path if all matches have it.
@@ -199,6 +229,15 @@ pub enum When {
     Sometimes,
     /// It is expected of no match.
     Never,
+}
+
+/// Converts a number of `wax_facts`.
+pub(crate) fn when(number: i32) -> When {
+    match number {
+        2 => When::Always,
+        1 => When::Sometimes,
+        _ => When::Never,
+    }
 }
 
 impl When {

@@ -31,6 +31,19 @@ mod c {
         pub length: usize,
     }
 
+    impl Span {
+        pub fn pair(&self) -> crate::query::Span {
+            (self.start, self.length)
+        }
+    }
+
+    #[repr(C)]
+    #[derive(Clone, Copy, Default)]
+    pub struct Warning {
+        pub span: Span,
+        pub kind: i32,
+    }
+
     #[repr(C)]
     #[derive(Default)]
     pub struct Facts {
@@ -101,16 +114,27 @@ mod c {
         ) -> i32;
         pub fn wax_glob_is_match(glob: *mut Glob, path: *const u8, length: usize) -> i32;
         pub fn wax_glob_goes_on(glob: *mut Glob, folder: *const u8, length: usize) -> i32;
-        pub fn wax_glob_captures(
+        pub fn wax_glob_spans(
             glob: *const Glob,
             path: *const u8,
             length: usize,
-            texts: *mut u8,
-            texts_room: usize,
-            lengths: *mut usize,
-            lengths_room: usize,
+            spans: *mut Span,
+            room: usize,
             count: *mut usize,
         ) -> i32;
+        pub fn wax_glob_capturing(
+            glob: *const Glob,
+            spans: *mut Span,
+            room: usize,
+            count: *mut usize,
+        ) -> i32;
+        pub fn wax_glob_warnings(
+            glob: *const Glob,
+            warnings: *mut Warning,
+            room: usize,
+            count: *mut usize,
+        ) -> i32;
+        pub fn wax_glob_has_semantic_literals(glob: *const Glob) -> i32;
         pub fn wax_glob_facts(glob: *const Glob, facts: *mut Facts) -> i32;
         pub fn wax_glob_expression(
             glob: *const Glob,
@@ -156,6 +180,13 @@ mod c {
             first: *const Set,
             second: *const Set,
             most_states: usize,
+            output: *mut u8,
+            room: usize,
+            written: *mut usize,
+        ) -> i32;
+        pub fn wax_set_facts(set: *const Set, facts: *mut Facts) -> i32;
+        pub fn wax_set_text(
+            set: *const Set,
             output: *mut u8,
             room: usize,
             written: *mut usize,
@@ -308,7 +339,7 @@ impl Handle<Glob> {
         };
         Handle::from_library(handle).ok_or(Failure {
             number: -status,
-            span: (span.start, span.length),
+            span: span.pair(),
         })
     }
 
@@ -325,32 +356,41 @@ impl Handle<Glob> {
         )
     }
 
-    /// Returns the texts of the captures, one after another, and the length of each; or `None` if the path doesn't match.
-    pub fn captures(&self, path: &str) -> Option<(String, Vec<usize>)> {
-        let mut texts = vec![0; path.len()];
-        let mut lengths = vec![0; 8];
-        let mut count = 0;
-        loop {
-            // SAFETY: the path and both outputs have these lengths, and no other call uses the handle.
-            let status = self.with(|glob| unsafe {
-                c::wax_glob_captures(
-                    glob,
-                    path.as_ptr(),
-                    path.len(),
-                    texts.as_mut_ptr(),
-                    texts.len(),
-                    lengths.as_mut_ptr(),
-                    lengths.len(),
-                    &mut count,
-                )
-            });
-            if status != NO_ROOM {
-                lengths.truncate(count);
-                texts.truncate(lengths.iter().sum());
-                return decided(status).then(|| (text_of(texts), lengths));
-            }
-            lengths.resize(count, 0);
-        }
+    /// Returns where the captures lie in the path, or `None` if it doesn't match.
+    pub fn spans(&self, path: &str) -> Option<Vec<Span>> {
+        let (is_match, spans) = listed(|spans, room, count| {
+            // SAFETY: the path and the list have these lengths, and no other call uses the handle.
+            self.with(|glob| unsafe {
+                c::wax_glob_spans(glob, path.as_ptr(), path.len(), spans, room, count)
+            })
+        });
+        is_match.then(|| spans.iter().map(c::Span::pair).collect())
+    }
+
+    /// Returns where the tokens that capture lie in the expression.
+    pub fn capturing(&self) -> Vec<Span> {
+        let (_, spans) = listed(|spans, room, count| {
+            // SAFETY: the list has this length, and no other call uses the handle.
+            self.with(|glob| unsafe { c::wax_glob_capturing(glob, spans, room, count) })
+        });
+        spans.iter().map(c::Span::pair).collect()
+    }
+
+    /// Returns the warnings, each with the number of its kind.
+    pub fn warnings(&self) -> Vec<(Span, i32)> {
+        let (_, warnings) = listed(|warnings: *mut c::Warning, room, count| {
+            // SAFETY: the list has this length, and no other call uses the handle.
+            self.with(|glob| unsafe { c::wax_glob_warnings(glob, warnings, room, count) })
+        });
+        warnings
+            .iter()
+            .map(|it| (it.span.pair(), it.kind))
+            .collect()
+    }
+
+    pub fn has_semantic_literals(&self) -> bool {
+        // SAFETY: no other call uses the handle.
+        decided(self.with(|glob| unsafe { c::wax_glob_has_semantic_literals(glob) }))
     }
 
     pub fn facts(&self) -> Facts {
@@ -439,6 +479,22 @@ impl Handle<Set> {
     pub fn goes_on(&self, folder: &str) -> bool {
         // SAFETY: the path has this length, and no other call uses the handle.
         decided(self.with(|set| unsafe { c::wax_set_goes_on(set, folder.as_ptr(), folder.len()) }))
+    }
+
+    pub fn facts(&self) -> Facts {
+        let mut facts = Facts::default();
+        // SAFETY: the call may write to `facts`, and no other call uses the handle.
+        decided(self.with(|set| unsafe { c::wax_set_facts(set, &mut facts) }));
+        facts
+    }
+
+    /// Returns the only text that matches, if all expressions are written as the same one.
+    pub fn text(&self) -> Option<String> {
+        let (is_one, text) = written(|output, room, written| {
+            // SAFETY: the output has this length, and no other call uses the handle.
+            self.with(|set| unsafe { c::wax_set_text(set, output, room, written) })
+        });
+        is_one.then_some(text)
     }
 
     /// Returns what is found that this set and another one match. The two are different handles.
@@ -532,7 +588,7 @@ pub fn compared(
             )
         }
     });
-    let span = (span.start, span.length);
+    let span = span.pair();
     found.map_err(|number| (which, Failure { number, span }))
 }
 
@@ -552,6 +608,21 @@ fn found(mut call: impl FnMut(*mut u8, usize, &mut usize) -> i32) -> Result<Comp
             number => return Err(-number),
         }
     }
+}
+
+/// Passes a list to a call, which has to be large enough at the second time, and returns what the call decides and lists.
+fn listed<T: Clone + Default>(
+    mut call: impl FnMut(*mut T, usize, &mut usize) -> i32,
+) -> (bool, Vec<T>) {
+    let mut list = vec![T::default(); 8];
+    let mut count = 0;
+    let mut status = call(list.as_mut_ptr(), list.len(), &mut count);
+    if status == NO_ROOM {
+        list.resize(count, T::default());
+        status = call(list.as_mut_ptr(), list.len(), &mut count);
+    }
+    list.truncate(count);
+    (decided(status), list)
 }
 
 /// Passes an output to a call, which has to be large enough at the second time, and returns what the call decides and writes.

@@ -3,10 +3,11 @@
 
 use std::fs;
 
-use wax::query::{DepthVariance, TextVariance, When};
+use wax::query::{DepthVariance, LocatedError, TextVariance, When};
 use wax::walk::{DepthMinMax, FileIterator, IgnoreList};
 use wax::{
     any, compare, difference, overlap, Any, BuildError, CandidatePath, Comparison, Glob, Program,
+    Warning,
 };
 
 mod folder;
@@ -339,6 +340,19 @@ fn branches(expression: &str) -> Option<Vec<&str>> {
     is_plain.then(|| inner.split(',').collect())
 }
 
+/// Returns a warning as the tables have it.
+fn shown_warning(warning: &Warning) -> String {
+    let kind = match warning {
+        Warning::SemanticLiteral { literal, .. } => {
+            assert!(matches!(*literal, "." | ".."));
+            "semantic literal"
+        }
+        Warning::TerminatingSeparator { .. } => "terminating separator",
+    };
+    let (start, length) = warning.span();
+    format!("warning {kind} {start} {length}")
+}
+
 #[test]
 fn queries() {
     let (mut sets, mut semantic) = (0, 0);
@@ -357,7 +371,10 @@ fn queries() {
             assert_eq!(facts(&any(patterns).unwrap()), wanted, "{}", row[0]);
             sets += 1;
         }
-        let is_semantic = row[7..].iter().any(|it| it.starts_with("warning semantic"));
+        assert_eq!(format!("captures {}", glob.captures().count()), row[7]);
+        let warned: Vec<_> = glob.diagnose().iter().map(shown_warning).collect();
+        assert_eq!(warned, row[8..], "{}", row[0]);
+        let is_semantic = row[8..].iter().any(|it| it.starts_with("warning semantic"));
         assert_eq!(glob.has_semantic_literals(), is_semantic, "{}", row[0]);
         semantic += usize::from(is_semantic);
         let (prefix, rest) = glob.partition();

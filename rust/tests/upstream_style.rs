@@ -56,6 +56,7 @@ fn reads_captures() {
     assert_eq!(matched.complete(), path.as_ref());
     assert_eq!(matched.get(0), Some("var/log/main-042.log"));
     assert_eq!(matched.get(1), Some("var/log/"));
+    assert_eq!(matched.range(1), Some(0..8));
     assert_eq!(matched.get(2), Some("main"));
     assert_eq!(matched.get(3), Some("042"));
     assert!(matched.get(4).is_none());

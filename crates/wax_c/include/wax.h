@@ -110,11 +110,24 @@ int32_t wax_glob_filter(const wax_glob *glob, const char *input, size_t input_le
 /* Returns 1 if the glob matches the path, 0 if not. If it matches, writes the texts of its captures to the beginning of
  * `texts`, one after another, how many bytes each has to the beginning of `lengths`, and the number of captures to
  * `count`. Each class, wildcard, alternation and repetition that isn't inside another token captures. An output of
- * path_length bytes, with as many lengths as the expression has bytes, is always large enough. After the error 21,
- * `count` is the number of captures; if the glob doesn't match, and after other errors, it is 0. `texts` and `lengths`
- * are unchanged in all these cases. */
+ * path_length bytes, with as many lengths as wax_glob_capturing counts, is always large enough; the expression has at least
+ * so many bytes. After the error 21, `count` is the number of captures; if the glob doesn't match, and after other errors, it is
+ * 0. `texts` and `lengths` are unchanged in all these cases. */
 int32_t wax_glob_captures(const wax_glob *glob, const char *path, size_t path_length, char *texts, size_t texts_length,
                           size_t *lengths, size_t lengths_length, size_t *count);
+
+/* Returns 1 if the glob matches the path, 0 if not. If it matches, writes the place of each capture in the path, in bytes, to
+ * the beginning of `spans`, and the number of captures to `count`. They are those of wax_glob_captures, in the same order; a
+ * capture of no text has a place, too. As many elements as wax_glob_capturing counts are always enough. Errors leave `spans`
+ * and `count` as for wax_glob_captures. */
+int32_t wax_glob_spans(const wax_glob *glob, const char *path, size_t path_length, wax_span *spans, size_t spans_length,
+                       size_t *count);
+
+/* Writes the place in the expression of each token that captures, in bytes, to the beginning of `spans`, and the number of
+ * these tokens to `count`. So many captures has each path that the glob matches. If there are more than `spans_length` (21),
+ * `spans` is unchanged and `count` is how many there are; after the error 10 it is 0. It has no other error. Of the rest that
+ * wax_glob_partition makes, the places are those in its own expression. */
+int32_t wax_glob_capturing(const wax_glob *glob, wax_span *spans, size_t spans_length, size_t *count);
 
 /* What is known of all paths that a glob matches. The depths are numbers of components, where `*`, `$` and a class are
  * one character; `greatest_depth` is SIZE_MAX if there is no greatest. `has_root` is 2 if each match begins with `/`, and
@@ -136,6 +149,23 @@ int32_t wax_glob_expression(const wax_glob *glob, char *output, size_t output_le
  * beginning of the output, and the number of its bytes to `written`. Otherwise returns 0, and `written` is 0. Errors
  * leave the output and `written` as for wax_filter. */
 int32_t wax_glob_text(const wax_glob *glob, char *output, size_t output_length, size_t *written);
+
+/* A warning of an expression that builds. `kind` is 1 or 2 if the component at this place is `.` or `..`, which is matched as
+ * a text and leads to no other folder, and 3 if the expression ends with the `/` at this place, so that it matches only paths
+ * that end with one. */
+typedef struct {
+    wax_span span;
+    int32_t kind;
+} wax_warning;
+
+/* Writes the warnings of the glob to the beginning of `warnings`, and their number to `count`. If there are more than
+ * `warnings_length` (21), `count` is how many there are; after the error 10 it is 0. It has no other error. `warnings` is
+ * unchanged after any error. */
+int32_t wax_glob_warnings(const wax_glob *glob, wax_warning *warnings, size_t warnings_length, size_t *count);
+
+/* Returns 1 if a component of the glob is `.` or `..`, that is, if the glob has a warning of the kind 1 or 2, and 0 if not. It
+ * has only the error 10. */
+int32_t wax_glob_has_semantic_literals(const wax_glob *glob);
 
 /* Writes the prefix of the glob, with which each match begins, to the beginning of `prefix`, the number of its bytes to
  * `written`, and a new handle of the rest of the glob to `rest`, or null if there is none. The first handle stays as it
@@ -171,6 +201,14 @@ int32_t wax_set_matches(wax_set *set, const char *path, size_t path_length, size
 
 /* Returns 1 if one of the expressions matches the path of something below the folder with this path, 0 if not. */
 int32_t wax_set_goes_on(wax_set *set, const char *folder, size_t folder_length);
+
+/* Writes what is known of all paths that the set matches to `facts`, as wax_glob_facts does for a glob. It has no errors. Of a
+ * set without expressions, all are 0. */
+int32_t wax_set_facts(const wax_set *set, wax_facts *facts);
+
+/* If all expressions are written as one and the same text, returns 1 and writes this text, as wax_glob_text does for a glob.
+ * Otherwise returns 0. A set without expressions, which matches nothing, counts as written as the empty text. */
+int32_t wax_set_text(const wax_set *set, char *output, size_t output_length, size_t *written);
 
 /* Looks for a path that both sets match, as wax_glob_overlap does for two globs. */
 int32_t wax_set_overlap(const wax_set *first, const wax_set *second, size_t most_states, char *output,

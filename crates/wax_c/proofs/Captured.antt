@@ -1,5 +1,5 @@
 -- The captures of a path are parts of it, one after another.
-use Rattle.std.proofs.Common.{◌≡◌, ◌≤◌, ◌+◌, ◌∷◌, ◌∙◌, ◌==◌, ℕ, ℤ, Bool, true, false, Result, Ok}
+use Rattle.std.proofs.Common.{◌≡◌, ◌≤◌, ◌+◌, ◌∷◌, ◌∙◌, ◌==◌, ℕ, Bool, true, false, Result, Ok}
 use Rattle.std.proofs.Common.{Err, List, [], length, take, drop, chars, encode_utf8_all, length-append}
 use Rattle.std.proofs.Common.{take-append-drop, le_refl, neg_ℤ, nat_abs, pos, inl, inr, ap, arith, map}
 use Rattle.std.proofs.Common.{refl, subst, suc, sym}
@@ -12,7 +12,7 @@ use Rattle.wax.specs.GlobView.{GlobView}
 use Rattle.wax.specs.Language.{Leaf, Span, Tree, Trees, alternation, class, concatenation, leaf, literal}
 use Rattle.wax.specs.Language.{members, more, none, one, repetition, separator, tree, zero_or_more}
 use Rattle.wax_capture.specs.Captures.{Captured, leaf_captures, token_captures, tree_capture}
-use Rattle.wax_c.specs.Captures.{Captures, CapturesAs, Texts}
+use Rattle.wax_c.specs.Captures.{Captures, Texts}
 use Rattle.wax_c.specs.Numbers.{answer_number}
 use Rattle.wax_c.specs.declared.error.CallError.{CallError}
 use Rattle.wax_c.specs.declared.error.CallError.TheVariants.{Build, NotText, NoRoom}
@@ -105,15 +105,3 @@ captures_fit g path before after count (Err NotText) ends few enough is = omega 
 captures_fit g path before after count (Err (Build error)) (memory, same, zero) few enough is =
     let ten = subst (λ error. answer_number (Err (Build error)) ≡ neg_ℤ (pos 21)) memory is in
     omega (arith, ap nat_abs ten)
-
-pub captures_as : (g g' : GlobView) (path : List ℕ) (before after : Texts) (count : ℕ)
-    (outcome : Result Bool CallError) (number : ℤ) → g' ≡ g → Captures g' path before after count outcome
-    → number ≡ answer_number outcome → CapturesAs g path before after count number
-captures_as g g' path before after count outcome number same ends is =
-    let ends' = subst (λ g. Captures g path before after count outcome) same ends in (
-      outcome,
-      ends',
-      is,
-      λ few enough wrong.
-          captures_fit g path before after count outcome ends' few enough (sym is ∙ wrong),
-    )

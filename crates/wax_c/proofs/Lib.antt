@@ -1,6 +1,8 @@
 mod Arguments
+mod Asking
 mod Captured
 mod Collected
+mod Counted
 mod CutEach
 mod Exports
 mod Filled
@@ -12,6 +14,7 @@ mod Held
 mod Lending
 mod Making
 mod Numbered
+mod Opening
 mod Pairs
 mod Room
 mod Shapes

@@ -25,11 +25,11 @@ use Rattle.std.proofs.alloc.Global.TheLaws as heap_laws
 abbrev handle_ty : Sym → Ty
 handle_ty ν = ty_struct ν (tcons ty_ptr (tcons (layout Z) tnil))
 
-abbrev handle_val : Ptr → Val → Val
+abbrev pub handle_val : Ptr → Val → Val
 handle_val p z = vstruct (of_list (ptr_val p ∷ z ∷ []))
 
 -- what a handle's fields own: the pointer p, and the allocator x, whose machine value is z
-abbrev Within : Ptr → Z.Denot → Val → Valss (RawPtr ∷ Z ∷ []) → Fml
+abbrev pub Within : Ptr → Z.Denot → Val → Valss (RawPtr ∷ Z ∷ []) → Fml
 Within p x z vss =
     fsep (feq (List Val) (handle_val p z ∷ []) (vstruct (of_list (vss.0 ++ (vss.1.0 ++ []))) ∷ []))
     (fsep (RawPtr.own_val p vss.0) (fsep (Z.own_val x vss.1.0) ftrue))

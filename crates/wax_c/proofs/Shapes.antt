@@ -151,6 +151,17 @@ module _ {M : Type 1} {𝓤 : Ura M} {𝓛 : Logic 𝓤} {K : Type 0} {Γ : List
         Walks K 𝓛 Γ₁ E sp (field 1 ∷ []) (ty_int w64, c, 8)) (sym is) (fld t refl (stop t))) size)
         (no_more t)))) (from t (stop t)) (init t (cell (l + 1) Γ₁) free' fit') $ s)
 
+pub on_alone : Forwards []
+on_alone M 𝓤 𝓛 C Λ fm f R μ P Y κs t fits z b o tz =
+    enter ! C Λ _ _ _ $ alloc_all ! (λ l. pass_all ! refl (tz, ((tt, tt), fits)) $ await ! tt $
+    sets ! (of_opd ! (get ! refl)) refl (tt, tt) $ lent ! refl refl (tt, tt) $ calls ! fm (answer 𝓛 P Y)
+    (more ! refl (more ! refl (no_more !))) (λ v.
+    answered 𝓛 P Y v (λ r n s. lands_as ! refl refl n $ returns ! (look_at ! 0 refl) $ free_all ! refl $ s)))
+
+-- nothing
+abbrev pub alone : Shape
+alone = record { args = []; forwards = on_alone }
+
 pub on_path : Forwards (text ∷ [])
 on_path M 𝓤 𝓛 C Λ fm f R μ P Y κs t fits z b o tz =
     enter ! C Λ _ _ _ $ alloc_all ! (λ l. pass_all ! refl (tz, ((tt, tt), fits)) $ await ! tt $
@@ -184,17 +195,21 @@ on_placing S M 𝓤 𝓛 C Λ fm f R μ P Y κs t fits z b o tz =
 abbrev pub placing : RattleType → Shape
 placing S = record { args = text ∷ out S ∷ []; forwards = on_placing S }
 
-pub on_writing : Forwards (list_out u8 ∷ out usize ∷ [])
-on_writing M 𝓤 𝓛 C Λ fm f R μ P Y κs t fits z b o tz =
+pub on_items : (S : RattleType) → Forwards (list_out S ∷ out usize ∷ [])
+on_items S M 𝓤 𝓛 C Λ fm f R μ P Y κs t fits z b o tz =
     enter ! C Λ _ _ _ $ alloc_all ! (λ l. pass_all ! refl (tz, ((tt, tt), fits)) $ await ! tt $
     sets ! (of_opd ! (get ! refl)) refl (tt, tt) $ lent ! refl refl (tt, tt) $
     lent_slice ! refl refl refl (tt, tt) refl refl refl fits.0 $ lent ! refl refl (tt, tt) $
     calls ! fm (answer 𝓛 P Y) (more ! refl (more ! refl (more ! refl (more ! refl (no_more !))))) (λ v.
     answered 𝓛 P Y v (λ r n s. lands_as ! refl refl n $ returns ! (look_at ! 0 refl) $ free_all ! refl $ s)))
 
+-- what is found, and the number of these
+abbrev pub items : RattleType → Shape
+items S = record { args = list_out S ∷ out usize ∷ []; forwards = on_items S }
+
 -- a text that is written, and the number of its bytes
 abbrev pub writing : Shape
-writing = record { args = list_out u8 ∷ out usize ∷ []; forwards = on_writing }
+writing = items u8
 
 pub on_listing : (S : RattleType) → Forwards (text ∷ list_out S ∷ out usize ∷ [])
 on_listing S M 𝓤 𝓛 C Λ fm f R μ P Y κs t fits z b o tz =

@@ -4,6 +4,7 @@ use Rattle.std.specs.Prelude.{List, length, map, IsUtf8, chars, encode_utf8_all}
 use Rattle.std.specs.List.{flat_map}
 use Rattle.wax.specs.GlobView.{GlobView, HasCaptures, IsMeant}
 use Rattle.wax.specs.Language.{Memory}
+use Rattle.wax.specs.Queries.{captures}
 use Rattle.wax_c.specs.Numbers.{answer_number}
 use Rattle.wax_c.specs.Outcomes.{HoldsFirst}
 use Rattle.wax_c.specs.declared.error.CallError.{CallError}
@@ -49,9 +50,12 @@ Captures g path before after count (Err NotText) = (IsUtf8 path → ⊥) × (aft
 Captures g path before after count (Err (Build error)) = (error ≡ Memory) × (after ≡ before) × (count ≡ 0)
 
 -- The number is that of such an outcome. As many bytes as the path has are enough for the texts: if there are
--- no more captures than lengths, the outputs aren't too small.
+-- no more captures than lengths, the outputs aren't too small. As many lengths as the glob has tokens that
+-- capture are enough.
 abbrev pub CapturesAs : GlobView → List ℕ → Texts → Texts → ℕ → ℤ → Type 0
 CapturesAs g path before after count number =
     (outcome : Result Bool CallError) × Captures g path before after count outcome
     × (number ≡ answer_number outcome)
     × (length path ≤ length before.bytes → count ≤ length before.lengths → number ≡ neg_ℤ (pos 21) → ⊥)
+    × (length path ≤ length before.bytes → length (captures g.tree) ≤ length before.lengths
+    → number ≡ neg_ℤ (pos 21) → ⊥)

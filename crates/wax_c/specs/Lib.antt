@@ -9,7 +9,10 @@ pub mod ListOwned
 pub mod Numbers
 pub mod Outcomes
 pub mod Overlaps
+pub mod Sessions
 pub mod SetOwned
 pub mod Sets
+pub mod Spans
 pub mod Texts
+pub mod Warnings
 pub mod inner

@@ -47,10 +47,24 @@ pub data OfExpression {A : Type 0} (e : List ℕ) (OfGlob : GlobView → Result 
 abbrev pub AreLines : GlobView → List ℕ → List ℕ → Type 0
 AreLines g input out = (bad : ℕ) × Filters (WritesMeant (IsMeant g)) (lines input) out bad
 
--- the list begins with these numbers now, and goes on as before
-abbrev pub HoldsFirst : List ℕ → List ℕ → List ℕ → Type 0
-HoldsFirst numbers before after =
-    (length numbers ≤ length before) × (after ≡ numbers ++ drop (length numbers) before)
+-- the list begins with these items now, and goes on as before
+abbrev pub HoldsFirst : {A : Type 0} → List A → List A → List A → Type 0
+HoldsFirst items before after =
+    (length items ≤ length before) × (after ≡ items ++ drop (length items) before)
+
+-- a list begins with these items, and the count is their number; or the list is as before
+abbrev pub ListsAll : {A : Type 0} → List A → List A → List A → ℕ → Result (Unit {0}) CallError → Type 0
+ListsAll items before after count (Ok done) = HoldsFirst items before after × (count ≡ length items)
+ListsAll items before after count (Err NoRoom) =
+    (length before < length items) × (after ≡ before) × (count ≡ length items)
+ListsAll items before after count (Err NotText) = ⊥
+ListsAll items before after count (Err (Build error)) = (error ≡ Memory) × (after ≡ before) × (count ≡ 0)
+
+-- the number is that of such an outcome
+abbrev pub ListsAllAs : {A : Type 0} → List A → List A → List A → ℕ → ℤ → Type 0
+ListsAllAs items before after count number =
+    (outcome : Result (Unit {0}) CallError) × ListsAll items before after count outcome
+    × (number ≡ status_number outcome)
 
 -- What a call leaves of an output and of the number of bytes written.
 pub record Output : Type 0 where

@@ -1,18 +1,21 @@
 //! What is known of all paths that a glob matches.
-ghost use Rattle.std.specs.Prelude.{◌≡◌, pos};
+ghost use Rattle.std.specs.Prelude.{◌≡◌, IfOk, pos};
 ghost use Rattle.wax.specs.GlobView.{GlobView};
+ghost use Rattle.wax.specs.Language.{Span, Tree};
+ghost use Rattle.wax.specs.Queries.{bounds, text_of};
 ghost use Rattle.wax_c.specs.Facts.{AreFacts, HasExpression, HasExpressionAs, HasText, HasTextAs};
 ghost use Rattle.wax_c.specs.Facts.{bound_or_greatest, when_number};
 ghost use Rattle.wax_c.specs.GlobOwned.{glob_at};
 ghost use Rattle.wax_c.specs.Outcomes.{KeepsAfterError};
+ghost use Rattle.wax_c.specs.inner.Showing.{ShowsText};
 ghost use types.Logic.{sem};
 
 use crate::error::{CallError, answer_of, status_of};
 use crate::handle::HeldGlob;
 use crate::output::put;
 use std::alloc::Global;
-use wax::query::{Variance, When};
-use wax::{BuildError, Glob, Program};
+use wax::query::{DepthVariance, TextVariance, Variance, When};
+use wax::{BuildError, Glob, NoMemory, Program};
 
 /// What is known of all paths that a glob matches.
 #[repr(C)]
@@ -34,7 +37,7 @@ pub unsafe extern "C" fn wax_glob_facts(alloc: Global, glob: *const u8, facts: &
     ghost held: { GlobView }
     requires* { sem 𝓛 (glob_at alloc glob held) }
     ensures* back { sem 𝓛 (glob_at alloc glob held) }
-    ensures facts { AreFacts held facts.new × (result ≡ pos 0) }
+    ensures facts { AreFacts held.tree facts.new × (result ≡ pos 0) }
 {
     facts_held(alloc, &*(glob as *const HeldGlob), facts)
 }
@@ -81,27 +84,32 @@ pub unsafe extern "C" fn wax_glob_text(
     ghost held: { GlobView }
     requires* { sem 𝓛 (glob_at alloc glob held) }
     ensures* back { sem 𝓛 (glob_at alloc glob held) }
-    ensures text { HasTextAs held output.old (record { bytes = output.new; written = written.new }) result }
+    ensures text { HasTextAs held.tree output.old
+        (record { bytes = output.new; written = written.new }) result }
 {
     text_held(alloc, &*(glob as *const HeldGlob), output, written)
 }
 
 fn facts_held(_alloc: Global, held: &HeldGlob, facts: &mut WaxFacts) -> i32
-    ensures { AreFacts held.now.matcher facts.new × (result ≡ pos 0) }
+    ensures { AreFacts held.now.matcher.tree facts.new × (result ≡ pos 0) }
 {
-    *facts = facts_of(held.matcher.glob());
+    let glob = held.matcher.glob();
+    *facts = facts_of(glob.depth(), glob.has_root(), glob.is_exhaustive());
     0
 }
 
-fn facts_of(glob: &Glob<'_>) -> WaxFacts
-    ensures { AreFacts glob.now result }
+/// Returns what is known of paths with these depths.
+pub(crate) fn facts_of(depth: DepthVariance, has_root: When, is_exhaustive: When) -> WaxFacts
+    ensures least { result.least_depth ≡ (bounds depth).0 }
+    ensures greatest { result.greatest_depth ≡ bound_or_greatest (bounds depth).1 }
+    ensures root { result.has_root ≡ when_number has_root }
+    ensures exhaustive { result.is_exhaustive ≡ when_number is_exhaustive }
 {
-    let depth = glob.depth();
     WaxFacts {
         least_depth: depth.lower(),
         greatest_depth: or_greatest(depth.upper()),
-        has_root: number_of_when(glob.has_root()),
-        is_exhaustive: number_of_when(glob.is_exhaustive()),
+        has_root: number_of_when(has_root),
+        is_exhaustive: number_of_when(is_exhaustive),
     }
 }
 
@@ -140,24 +148,31 @@ fn write_expression(
 }
 
 fn text_held(alloc: Global, held: &HeldGlob, output: &mut [u8], written: &mut usize) -> i32
-    ensures { HasTextAs held.now.matcher output.old
+    ensures { HasTextAs held.now.matcher.tree output.old
         (record { bytes = output.new; written = written.new }) result }
 {
-    answer_of(&write_text(alloc, held.matcher.glob(), output, written))
+    let text = held.matcher.glob().text(alloc);
+    answer_of(&write_text(text, output, written))
 }
 
-fn write_text(
-    alloc: Global,
-    glob: &Glob<'_>,
+/// Writes the text to the beginning of the output, if there is one, and the number of its bytes to
+/// `written`, which is 0 if there is none. Returns whether there is one.
+///
+/// # Errors
+///
+/// Returns `Memory` (10) if allocation failed; `written` is 0 then. Returns `NoRoom` (21) if the output
+/// is too small. The output is unchanged in both cases.
+pub(crate) fn write_text(
+    text: Result<TextVariance<'static>, NoMemory>,
     output: &mut [u8],
     written: &mut usize,
 ) -> Result<bool, CallError>
-    ensures text { HasText glob.now output.old
-        (record { bytes = output.new; written = written.new }) result }
+    ensures text { (t : Tree Span) → IfOk text.entry (λ text. ShowsText t (text_of text))
+        → HasText t output.old (record { bytes = output.new; written = written.new }) result }
     ensures kept { KeepsAfterError output.old (record { bytes = output.new; written = written.new }) result }
 {
     *written = 0;
-    let Ok(text) = glob.text(alloc) else {
+    let Ok(text) = text else {
         return Err(CallError::Build(BuildError::Memory));
     };
     let Variance::Invariant(text) = text else {

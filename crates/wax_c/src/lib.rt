@@ -16,9 +16,13 @@ mod matching;
 mod output;
 mod overlaps;
 mod parts;
+mod session;
+mod set_facts;
 mod set_handle;
 mod sets;
+mod spans;
 mod texts;
+mod warnings;
 
 pub use captures::wax_glob_captures;
 pub use comparing::{Finding, wax_compare, wax_difference, wax_overlap};
@@ -37,6 +41,9 @@ pub use lists::{
 pub use matching::{wax_filter, wax_is_match};
 pub use overlaps::{wax_glob_overlap, wax_set_overlap};
 pub use parts::wax_glob_partition;
+pub use set_facts::{wax_set_facts, wax_set_text};
 pub use set_handle::{HeldSet, SetHandle};
 pub use sets::{wax_set_free, wax_set_goes_on, wax_set_is_match, wax_set_matches, wax_set_new};
+pub use spans::{wax_glob_capturing, wax_glob_spans};
 pub use texts::{wax_escape, wax_picture};
+pub use warnings::{WaxWarning, wax_glob_has_semantic_literals, wax_glob_warnings};

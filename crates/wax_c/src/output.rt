@@ -1,8 +1,9 @@
 //! Writing to the outputs of a caller.
-ghost use Rattle.std.specs.Prelude.{◌≡◌, ◌≤◌, ◌++◌, IfErr, OnErr, drop, length};
-ghost use Rattle.wax_c.specs.Outcomes.{Fills};
+ghost use Rattle.std.specs.Prelude.{◌≡◌, ◌≤◌, ◌++◌, IfErr, IfOk, List, OnErr, drop, length};
+ghost use Rattle.wax_c.specs.Outcomes.{Fills, ListsAll};
 
 use crate::error::CallError;
+use wax::{BuildError, NoMemory};
 
 /// Writes the bytes to the beginning of the output, and their number to `written`.
 ///
@@ -30,4 +31,30 @@ pub(crate) fn write_over<T: Copy>(items: &[T], output: &mut [T])
 {
     let (room, _) = output.split_at_mut(items.len());
     room.copy_from_slice(items);
+}
+
+/// Writes the items to the beginning of the list, and their number to `count`.
+///
+/// # Errors
+///
+/// Returns `Memory` (10) if they weren't found since allocation failed; `count` is 0 then. Returns `NoRoom`
+/// (21) if the list is too small. It is unchanged in both cases.
+pub(crate) fn list_found<T: Copy>(
+    found: &Result<Vec<T>, NoMemory>,
+    list: &mut [T],
+    count: &mut usize,
+) -> Result<(), CallError>
+    ensures { (items : List T) → IfOk found.now (λ found. found.items ≡ items)
+        → ListsAll items list.old list.new count.new result }
+{
+    *count = 0;
+    let Ok(found) = found else {
+        return Err(CallError::Build(BuildError::Memory));
+    };
+    *count = found.len();
+    if found.len() > list.len() {
+        return Err(CallError::NoRoom);
+    }
+    write_over(found, list);
+    Ok(())
 }

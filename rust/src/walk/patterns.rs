@@ -45,8 +45,8 @@ impl Matcher for GlobMatcher {
 
     fn entry(&self, entry: TreeEntry) -> GlobEntry {
         let path = &entry.candidate;
-        let (captured, lengths) = self.0.captures(path).expect("the glob matches the path");
-        let matched = MatchedText::new(path, captured, lengths).into_owned();
+        let spans = self.0.spans(path).expect("the glob matches the path");
+        let matched = MatchedText::new(path, spans).into_owned();
         GlobEntry { entry, matched }
     }
 }

@@ -1,7 +1,7 @@
 -- The texts of the captures are no more bytes than the path, so they fit.
 use Rattle.std.proofs.Common.{w32, ◌∙◌}
 use mir.ValLaws.{to_z-of_z}
-use Rattle.wax_c.proofs.Captured.{captures_as}
+use Rattle.wax_c.proofs.Counted.{captures_as}
 use Rattle.wax_c.proofs.captures.capture_held.Goals as goal
 
 pub returns : goal.returns

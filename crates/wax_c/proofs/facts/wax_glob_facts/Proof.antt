@@ -6,7 +6,7 @@ use Rattle.wax_c.proofs.facts.wax_glob_facts.Code as code
 
 pub wax_glob_facts_spec : {M : Type 1} → statement M
 wax_glob_facts_spec 𝓤 𝓛 𝓜 𝓡 wired =
-    follows (facts Facts) glob (λ κs g t e r. AreFacts g e.0.now × (r ≡ pos 0))
+    follows (facts Facts) glob (λ κs g t e r. AreFacts g.tree e.0.now × (r ≡ pos 0))
     𝓤 𝓛 𝓜 𝓡 (by_shr 𝓛 glob) _ (code.unfolded 𝓤 𝓛.H 𝓜 𝓡 wired) (λ κs qs x t g b o α γ.
     met 𝓤 𝓛 𝓜 𝓡 (code.calls-wax_c::facts::facts_held 𝓡.env wired)
     (passed (facts Facts) κs qs x t (shr_at glob b o g) b o α))
