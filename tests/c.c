@@ -67,6 +67,8 @@ static void filters(void) {
   CHECK(wax_filter("\xff", 1, TEXT(lines), output, sizeof output, &written) == -20 && written == 0);
   CHECK(wax_filter(TEXT("*"), "a", 1, output, 2, &written) == 0 && written == 2 && memcmp(output, "a\n", 2) == 0);
   CHECK(wax_filter(TEXT("*"), "", 0, output, 1, &written) == 0 && written == 0);
+  CHECK(wax_count_not_text(TEXT(lines)) == 1 && wax_count_not_text("", 0) == 0 && wax_count_not_text("\n\n", 2) == 0);
+  CHECK(wax_count_not_text("\xff", 1) == 1 && wax_count_not_text("a\n\xc3\n\xa9\n\n\xff\xff\nb", 13) == 3);
 }
 
 static void texts(void) {
@@ -425,56 +427,134 @@ static void facts_of_sets(void) {
   }
 }
 
-/* Looks for a path that two sets of two expressions of 4 bytes each match, with a room of so many bytes. */
-static int32_t common_path(const char *first, const char *second, size_t most_states, size_t room, char *output,
-                           size_t *written) {
-  static const size_t lengths[] = {4, 4};
-  wax_set *one, *other;
-  size_t which;
-  wax_span span;
-  CHECK(wax_set_new(first, 8, lengths, 2, &one, &which, &span) == 0);
-  CHECK(wax_set_new(second, 8, lengths, 2, &other, &which, &span) == 0);
-  int32_t status = wax_set_overlap(one, other, most_states, output, room, written);
-  CHECK(wax_set_is_match(one, TEXT("a/bc")) == !memcmp(first, "a/b*", 4));
-  wax_set_free(one);
-  wax_set_free(other);
-  return status;
+/* Compares what lies at two handles: returns 0 if a call returns this number, and writes this path to an output that is
+ * exactly large enough, and says how many bytes are needed if it is too small. */
+typedef int32_t found_by(const void *one, const void *other, size_t most_states, char *output, size_t room, size_t *written);
+static void find(found_by *call, const void *one, const void *other, size_t most_states, int32_t wanted, const char *path) {
+  char output[33];
+  size_t length = strlen(path), written = 77;
+  memset(output, '#', sizeof output);
+  CHECK(length < 32 && call(one, other, most_states, output, length, &written) == wanted && written == length);
+  CHECK(!memcmp(output, path, length) && output[length] == '#');
+  if (length) {
+    memset(output, '#', sizeof output);
+    CHECK(call(one, other, most_states, output, length - 1, &written) == -21 && written == length && output[0] == '#');
+  }
 }
 
-static void globs_in_common(void) {
-  char output[9] = "########";
-  size_t written = 77;
+#define FINDERS(kind)                                                                                             \
+  static int32_t kind##_overlap(const void *one, const void *other, size_t most, char *output, size_t room, size_t *written) {    \
+    return wax_##kind##_overlap(one, other, most, output, room, written);                                                         \
+  }                                                                                                                                \
+  static int32_t kind##_difference(const void *one, const void *other, size_t most, char *output, size_t room, size_t *written) { \
+    return wax_##kind##_difference(one, other, most, output, room, written);                                                      \
+  }                                                                                                                                \
+  static int32_t kind##_compare(const void *one, const void *other, size_t most, char *output, size_t room, size_t *written) {    \
+    return wax_##kind##_compare(one, other, most, output, room, written);                                                         \
+  }
+FINDERS(glob)
+FINDERS(set)
+FINDERS(ignore)
+
+static void compared_globs(void) {
   wax_span span;
-  wax_glob *one, *other;
+  wax_glob *one, *other, *third;
   CHECK(wax_glob_new(TEXT("src/**/*.{go,rs}"), &one, &span) == 0);
   CHECK(wax_glob_new(TEXT("**/a*"), &other, &span) == 0);
-  CHECK(wax_glob_overlap(one, other, 100000, output, 7, &written) == -21 && written == 8);
-  CHECK(!memcmp(output, "########", 8));
-  CHECK(wax_glob_overlap(one, other, 100000, output, 8, &written) == 1 && written == 8);
-  CHECK(!memcmp(output, "src/a.go", 8));
-  CHECK(wax_glob_overlap(one, other, 1, output, 8, &written) == 2 && written == 0);
+  CHECK(wax_glob_new(TEXT("*.go"), &third, &span) == 0);
+  find(glob_overlap, one, other, 100000, 1, "src/a.go");
+  find(glob_difference, one, other, 100000, 1, "src/.go");
+  find(glob_difference, other, one, 100000, 1, "a");
+  find(glob_compare, one, other, 100000, 1, "a");
+  find(glob_overlap, third, one, 100000, 0, "");
+  find(glob_overlap, one, other, 1, 2, "");
+  find(glob_difference, one, other, 1, 2, "");
+  find(glob_compare, one, other, 1, 2, "");
   CHECK(wax_glob_is_match(one, TEXT("src/a.go")) == 1);
-  wax_glob_free(other);
-  CHECK(wax_glob_new(TEXT("*.go"), &other, &span) == 0);
-  CHECK(wax_glob_overlap(other, one, 100000, output, 8, &written) == 0 && written == 0);
-  CHECK(!memcmp(output, "src/a.go", 8));
-  wax_glob_free(one);
-  wax_glob_free(other);
+  wax_glob_free(third);
+  CHECK(wax_glob_new(TEXT("src/**/{*.rs,*.go}"), &third, &span) == 0);
+  find(glob_difference, third, one, 100000, 0, "");
+  find(glob_compare, third, one, 100000, 0, "");
+  wax_glob_free(one), wax_glob_free(other), wax_glob_free(third);
 }
 
-static void sets_in_common(void) {
-  char output[9] = "########";
-  size_t written = 77;
-  CHECK(common_path("a/b*c/d*", "*/xyc/dd", 100000, 8, output, &written) == 1);
-  CHECK(written == 4 && !memcmp(output, "c/dd####", 8));
-  memset(output, '#', 8);
-  CHECK(common_path("a/b*c/d*", "*/xyc/dd", 100000, 3, output, &written) == -21);
-  CHECK(written == 4 && !memcmp(output, "########", 8));
-  CHECK(common_path("a/b*c/d*", "x/b*y/d*", 100000, 8, output, &written) == 0);
-  CHECK(written == 0 && !memcmp(output, "########", 8));
-  written = 77;
-  CHECK(common_path("a/b*c/d*", "*/xyc/dd", 1, 8, output, &written) == 2);
-  CHECK(written == 0 && !memcmp(output, "########", 8));
+static wax_set *set_of(const char *patterns) { // two patterns of 4 bytes each
+  static const size_t lengths[] = {4, 4};
+  size_t which;
+  wax_span span;
+  wax_set *set = NULL;
+  CHECK(wax_set_new(patterns, 8, lengths, 2, &set, &which, &span) == 0);
+  return set;
+}
+
+static void compared_sets(void) {
+  wax_set *one = set_of("a/b*c/d*"), *other = set_of("*/xyc/dd"), *third = set_of("x/b*y/d*");
+  find(set_overlap, one, other, 100000, 1, "c/dd");
+  find(set_overlap, one, third, 100000, 0, "");
+  find(set_overlap, one, other, 1, 2, "");
+  find(set_difference, one, other, 100000, 1, "a/b");
+  find(set_compare, other, one, 100000, 1, "a/b");
+  find(set_difference, one, other, 1, 2, "");
+  find(set_compare, one, other, 1, 2, "");
+  CHECK(wax_set_is_match(one, TEXT("a/bc")) == 1);
+  wax_set_free(third);
+  third = set_of("c/d*a/b*");
+  find(set_difference, one, third, 100000, 0, "");
+  find(set_compare, one, third, 100000, 0, "");
+  wax_set_free(one), wax_set_free(other), wax_set_free(third);
+}
+
+static wax_ignore *list_of(const char *text) {
+  size_t line;
+  wax_ignore *list = NULL;
+  CHECK(wax_ignore_new(text, strlen(text), &list, &line) == 0 && line == 0);
+  return list;
+}
+
+static void compared_lists(void) {
+  wax_ignore *one = list_of("**/*.o\n!keep.o\n"), *other = list_of("**/*.o\n"), *third = list_of("a\n!keep.o\n**/*.o\n!keep.o\n!a\n");
+  find(ignore_overlap, one, other, 100000, 1, ".o");
+  find(ignore_difference, other, one, 100000, 1, "keep.o");
+  find(ignore_difference, one, other, 100000, 0, "");
+  find(ignore_compare, one, other, 100000, 1, "keep.o");
+  find(ignore_compare, other, one, 100000, 1, "keep.o");
+  find(ignore_compare, one, third, 100000, 0, "");
+  find(ignore_overlap, one, other, 0, 2, "");
+  find(ignore_difference, other, one, 0, 2, "");
+  find(ignore_compare, one, other, 0, 2, "");
+  CHECK(wax_ignore_is_ignored(one, TEXT("a/keep.o")) == 1 && wax_ignore_is_ignored(one, TEXT("keep.o")) == 0);
+  wax_ignore_free(one), wax_ignore_free(other), wax_ignore_free(third);
+}
+
+/* Calls that find lines of a list write what they find, if there is room for it, and how many that are. */
+typedef int32_t lines_by(const wax_ignore *list, size_t most_states, size_t *lines, size_t room, size_t *count);
+static void find_lines(lines_by *call, const wax_ignore *list, size_t most_states, int32_t wanted, size_t length, const size_t *lines) {
+  size_t found[9] = {7, 7, 7, 7, 7, 7, 7, 7, 7}, count = 7;
+  CHECK(length < 9 && call(list, most_states, found, length, &count) == wanted && count == length);
+  CHECK((!length || !memcmp(found, lines, length * sizeof *lines)) && found[length] == 7);
+  if (length) {
+    found[0] = 7, count = 7;
+    CHECK(call(list, most_states, found, length - 1, &count) == -21 && count == length && found[0] == 7);
+  }
+}
+
+static void found_lines(void) {
+  wax_ignore *list = list_of("docs/*.o\n# none\n!keep.c\n**/*.o\na\n");
+  find_lines(wax_ignore_idle_lines, list, 100000, 0, 2, (size_t[]){0, 1});
+  find_lines(wax_ignore_undecided_lines, list, 100000, 0, 0, NULL);
+  find_lines(wax_ignore_tidy, list, 100000, 0, 2, (size_t[]){2, 3});
+  find_lines(wax_ignore_idle_lines, list, 0, 2, 0, NULL);
+  find_lines(wax_ignore_undecided_lines, list, 0, 2, 4, (size_t[]){0, 1, 2, 3});
+  find_lines(wax_ignore_tidy, list, 0, 2, 4, (size_t[]){0, 1, 2, 3});
+  wax_ignore_free(list);
+  list = list_of("**/*.o\ndocs/a\n!docs/a\n"); // without the second line, the third one takes nothing back
+  find_lines(wax_ignore_idle_lines, list, 100000, 0, 1, (size_t[]){1});
+  find_lines(wax_ignore_tidy, list, 100000, 0, 1, (size_t[]){0});
+  wax_ignore_free(list);
+  list = list_of("");
+  find_lines(wax_ignore_undecided_lines, list, 0, 0, 0, NULL);
+  find_lines(wax_ignore_tidy, list, 0, 0, 0, NULL);
+  wax_ignore_free(list);
 }
 
 /* A set of so many patterns decides by the program that numbers them. */
@@ -529,13 +609,6 @@ static void lists(void) {
   CHECK(wax_ignore_filter(list, TEXT(input), output, sizeof output, &written) == 0 && written == 10);
   CHECK(memcmp(output, kept, written) == 0 && output[written] == '#');
   CHECK(wax_ignore_excludes_below(list, "\xff", 1) == -20);
-  wax_ignore_free(list);
-  CHECK(wax_ignore_new(TEXT("docs/*.o\n# none\n!keep.c\n**/*.o\na\n"), &list, &line) == 0);
-  size_t found[3] = {7, 7, 7}, count = 7;
-  CHECK(wax_ignore_idle_lines(list, 100000, found, 1, &count) == -21 && count == 2 && found[0] == 7);
-  CHECK(wax_ignore_idle_lines(list, 100000, found, 3, &count) == 0 && count == 2);
-  CHECK(found[0] == 0 && found[1] == 1 && found[2] == 7);
-  CHECK(wax_ignore_idle_lines(list, 0, found, 3, &count) == 2 && count == 0 && found[0] == 0);
   wax_ignore_free(list);
   wax_ignore_free(NULL);
   CHECK(wax_ignore_new(TEXT("a\n\n{b\n{c\n"), &list, &line) == -1 && list == NULL && line == 3);
@@ -636,6 +709,12 @@ static int calls(void) {
       status = wax_set_overlap(set, other, 1000, output, sizeof output, &written);
       none += status == -10;
       CHECK(status == 1 ? written == 3 : status == -10 && written == 0);
+      status = wax_set_difference(other, set, 1000, output, sizeof output, &written);
+      none += status == -10;
+      CHECK((status == 0 || status == -10) && written == 0);
+      status = wax_set_compare(set, other, 1000, output, sizeof output, &written);
+      none += status == -10;
+      CHECK(status == 1 ? written == 1 : status == -10 && written == 0);
     }
     wax_set_free(other);
   }
@@ -659,6 +738,22 @@ static int calls(void) {
     status = wax_ignore_idle_lines(list, 1000, lengths, 4, &count);
     none += status == -10;
     CHECK((status == 0 || status == -10) && count == 0);
+    status = wax_ignore_undecided_lines(list, 0, lengths, 4, &count);
+    none += status == -10;
+    CHECK(status == 2 ? count == 2 && lengths[1] == 1 : status == -10 && count == 0);
+    status = wax_ignore_tidy(list, 1000, lengths, 4, &count);
+    none += status == -10;
+    CHECK(status == 0 ? count == 2 && lengths[1] == 1 : status == -10 && count == 0);
+    wax_ignore *other;
+    status = wax_ignore_new(TEXT("**/*.log\n"), &other, &line);
+    none += status == -10;
+    CHECK(status == 0 ? other != NULL : status == -10 && other == NULL);
+    if (other) {
+      status = wax_ignore_compare(list, other, 1000, output, sizeof output, &written);
+      none += status == -10;
+      CHECK(status == 1 ? written == 6 : status == -10 && written == 0);
+    }
+    wax_ignore_free(other);
   }
   wax_ignore_free(list);
   return none;
@@ -686,7 +781,7 @@ int main(int count, char **words) {
   if (count > 1 && !strcmp(words[1], "fail")) {
     failing();
   } else {
-    expressions(), errors(), filters(), texts(), comparisons(), comparison_errors(), globs(), captures(), spans(), capturing(), warnings(), parts(), sets(), facts_of_sets(), globs_in_common(), sets_in_common(), large_set(), lists();
+    expressions(), errors(), filters(), texts(), comparisons(), comparison_errors(), globs(), captures(), spans(), capturing(), warnings(), parts(), sets(), facts_of_sets(), compared_globs(), compared_sets(), large_set(), lists(), compared_lists(), found_lines();
     CHECK(wax_blocks() == 0);
   }
   printf("%ld checks failed\n", failures);

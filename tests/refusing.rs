@@ -32,9 +32,15 @@ fn make_calls() -> Result<(), Box<dyn Error>> {
     assert_eq!(compare("a/*", "a/*", 1000)?, Comparison::Nothing);
     let (one, other) = (Glob::new("a/*")?, Glob::new("*/b")?);
     assert_eq!(one.overlap(&other, 1000)?, text("a/b"));
+    assert_eq!(one.difference(&other, 1000)?, text("a/a"));
     let (one, other) = (any(["a/*", "c"])?, any([other])?);
     assert_eq!(one.overlap(&other, 1000)?, text("a/b"));
     assert_eq!(one.overlap(&one, 1000)?, text("c"));
+    assert_eq!(one.compare(&other, 1000)?, text("c"));
+    assert_eq!(list.deciding_line("a/mod.rs"), Some(1));
+    assert!(list.idle_lines(1000)?.is_empty() && list.undecided_lines(0)?.len() == 2);
+    let tidy = list.tidied(1000)?;
+    assert_eq!(tidy.difference(&list, 1000)?, Comparison::Nothing);
     // (tests run in the folder of the crate)
     let sources = any(["walk/*.rs", "lib.*"])?.walk("src").not("walk/e*")?;
     assert!(sources.ignore(&list).flatten().count() > 1);

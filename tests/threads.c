@@ -33,20 +33,26 @@ static int wrong_comparisons(void) {
          is_wrong(wax_compare, "a/*", "a/**", "a") + is_wrong(wax_compare, "<**/a:1,>", "**/a", NULL);
 }
 
-/* Returns how many overlaps of two handles are wrong. */
-static int wrong_overlaps(wax_glob *glob, wax_set *set) {
+/* Returns how many comparisons of two handles, and lists of lines, are wrong. */
+static int wrong_pairs(wax_glob *glob, wax_set *set, wax_ignore *list) {
   wax_glob *other_glob;
   wax_set *other_set;
+  wax_ignore *other_list;
   wax_span span;
   char output[64];
-  size_t written, which;
+  size_t written, which, line, found[3], count;
   const size_t lengths[] = {7, 5};
   if (wax_glob_new("**/t_*", 6, &other_glob, &span)) return 1;
   if (wax_set_new("docs/**R*.md", 12, lengths, 2, &other_set, &which, &span)) return 1;
+  if (wax_ignore_new("**/*.log\n", 9, &other_list, &line)) return 1;
   int wrong = wax_glob_overlap(glob, other_glob, 1000, output, sizeof output, &written) != 1;
   wrong += written != 8 || memcmp(output, "src/t_.c", 8) != 0;
   wrong += wax_set_overlap(set, other_set, 1000, output, sizeof output, &written) != 1;
   wrong += written != 4 || memcmp(output, "R.md", 4) != 0;
+  wrong += wax_ignore_difference(other_list, list, 1000, output, sizeof output, &written) != 1;
+  wrong += written != 8 || memcmp(output, "keep.log", 8) != 0;
+  wrong += wax_ignore_tidy(list, 1000, found, 3, &count) != 0 || count != 3 || found[2] != 2;
+  wax_ignore_free(other_list);
   wax_glob_free(other_glob);
   wax_set_free(other_set);
   return wrong;
@@ -69,7 +75,7 @@ static int wrong_answers(void) {
     wrong += wax_set_is_match(set, PATHS[i], length) != IN_SET[i];
     wrong += wax_ignore_is_ignored(list, PATHS[i], length) != IGNORED[i];
   }
-  wrong += wrong_overlaps(glob, set) + wrong_comparisons();
+  wrong += wrong_pairs(glob, set, list) + wrong_comparisons();
   wax_glob_free(glob);
   wax_set_free(set);
   wax_ignore_free(list);

@@ -48,6 +48,10 @@ int32_t wax_is_match(const char *expression, size_t expression_length, const cha
 int32_t wax_filter(const char *expression, size_t expression_length, const char *input, size_t input_length,
                    char *output, size_t output_length, size_t *written);
 
+/* Returns how many lines of an input aren't UTF-8. wax_filter, wax_glob_filter and wax_ignore_filter exclude these, whatever
+ * else they keep. It has no errors. */
+size_t wax_count_not_text(const char *input, size_t input_length);
+
 /* Writes an expression that matches only this text to the beginning of the output, and the number of its bytes to
  * `written`. What is written for a text with a backslash is no expression, since a backslash can't be escaped. An output
  * of 2 * text_length bytes is always large enough. Errors leave the output and `written` as for wax_filter. */
@@ -177,6 +181,14 @@ int32_t wax_glob_partition(const wax_glob *glob, char *prefix, size_t prefix_len
 int32_t wax_glob_overlap(const wax_glob *first, const wax_glob *second, size_t most_states, char *output,
                          size_t output_length, size_t *written);
 
+/* Looks for a path that the first glob matches and the second one doesn't, as wax_glob_overlap does. */
+int32_t wax_glob_difference(const wax_glob *first, const wax_glob *second, size_t most_states, char *output,
+                            size_t output_length, size_t *written);
+
+/* Looks for a path that exactly one of the globs matches, as wax_glob_overlap does. */
+int32_t wax_glob_compare(const wax_glob *first, const wax_glob *second, size_t most_states, char *output,
+                         size_t output_length, size_t *written);
+
 /* Frees a handle. Does nothing if it is null. */
 void wax_glob_free(wax_glob *glob);
 
@@ -210,8 +222,13 @@ int32_t wax_set_facts(const wax_set *set, wax_facts *facts);
  * Otherwise returns 0. A set without expressions, which matches nothing, counts as written as the empty text. */
 int32_t wax_set_text(const wax_set *set, char *output, size_t output_length, size_t *written);
 
-/* Looks for a path that both sets match, as wax_glob_overlap does for two globs. */
+/* Look for a path that both sets match, that the first set matches and the second one doesn't, or that exactly one of them
+ * matches, as wax_glob_overlap does for two globs. */
 int32_t wax_set_overlap(const wax_set *first, const wax_set *second, size_t most_states, char *output,
+                        size_t output_length, size_t *written);
+int32_t wax_set_difference(const wax_set *first, const wax_set *second, size_t most_states, char *output,
+                           size_t output_length, size_t *written);
+int32_t wax_set_compare(const wax_set *first, const wax_set *second, size_t most_states, char *output,
                         size_t output_length, size_t *written);
 
 /* Frees a handle. Does nothing if it is null. */
@@ -250,6 +267,28 @@ int32_t wax_ignore_deciding_line(const wax_ignore *list, const char *path, size_
  * has lines are always enough. */
 int32_t wax_ignore_idle_lines(const wax_ignore *list, size_t most_states, size_t *lines, size_t lines_length,
                               size_t *count);
+
+/* Writes the indexes of the lines of which wax_ignore_idle_lines, within the same `most_states`, doesn't find out whether they
+ * decide: for these it returns 2. Returns 0 if there is none, and 2 if there is one. The order, `count` and the errors are those
+ * of wax_ignore_idle_lines. */
+int32_t wax_ignore_undecided_lines(const wax_ignore *list, size_t most_states, size_t *lines, size_t lines_length,
+                                   size_t *count);
+
+/* Writes the indexes of lines that are enough: a list of only these ignores the same paths of walks, and each of them decides
+ * one in that list. Without some lines others may decide nothing, too, so it may remove more than wax_ignore_idle_lines finds.
+ * Returns 0 if each is known to decide some path, and 2 if it takes more than `most_states` states, or what else that allows, to
+ * find that out of some line, which stays then. The order, `count` and the errors are those of wax_ignore_idle_lines. */
+int32_t wax_ignore_tidy(const wax_ignore *list, size_t most_states, size_t *lines, size_t lines_length, size_t *count);
+
+/* Look for a path that both lists ignore, that the first list ignores and the second one doesn't, or that exactly one of them
+ * ignores, as wax_glob_overlap does for what two globs match. If wax_ignore_compare finds none, both ignore the same
+ * paths of walks. */
+int32_t wax_ignore_overlap(const wax_ignore *first, const wax_ignore *second, size_t most_states, char *output,
+                           size_t output_length, size_t *written);
+int32_t wax_ignore_difference(const wax_ignore *first, const wax_ignore *second, size_t most_states, char *output,
+                              size_t output_length, size_t *written);
+int32_t wax_ignore_compare(const wax_ignore *first, const wax_ignore *second, size_t most_states, char *output,
+                           size_t output_length, size_t *written);
 
 /* Frees a handle. Does nothing if it is null. */
 void wax_ignore_free(wax_ignore *list);

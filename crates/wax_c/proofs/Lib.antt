@@ -5,6 +5,7 @@ mod Collected
 mod Counted
 mod CutEach
 mod Exports
+mod FewLines
 mod Filled
 mod Following
 mod FoundPath
@@ -13,6 +14,7 @@ mod Handles
 mod Held
 mod Lending
 mod Making
+mod NotText
 mod Numbered
 mod Opening
 mod Pairs

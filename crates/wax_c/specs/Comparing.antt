@@ -1,7 +1,8 @@
--- How calls that compare two expressions end.
-use Rattle.std.specs.Prelude.{◌≡◌, ◌⊎◌, ℕ, ℤ, pos, neg_ℤ, List, Result, Ok, Err, IsUtf8, chars, ⊤}
+-- How calls that compare two expressions, or what lies at two handles, end.
+use Rattle.std.specs.Prelude.{◌≡◌, ◌≤◌, ◌*◌, ◌⊎◌, ℕ, ℤ, pos, neg_ℤ, List, Result, Ok, Err, IsUtf8, chars}
+use Rattle.std.specs.Prelude.{length, ⊤}
 use Rattle.wax.specs.Comparing.{IsPath, IsShortest, ReachesMore, SelectsTexts}
-use Rattle.wax.specs.GlobView.{GlobView, IsMeant}
+use Rattle.wax.specs.GlobView.{GlobView}
 use Rattle.wax.specs.Matching.{Instruction}
 use Rattle.wax.specs.declared.Texts.{Texts}
 use Rattle.wax_c.specs.GlobHandles.{no_span, span_of}
@@ -13,23 +14,21 @@ use Rattle.wax_c.specs.declared.error.CallError.{CallError}
 use Rattle.wax_c.specs.declared.error.CallError.TheVariants.{Build, NotText, NoRoom}
 use Rattle.wax_c.specs.declared.globs.WaxSpan.{WaxSpan}
 
--- a path, as walks have them, that both globs match; only the first one; exactly one of both
-abbrev pub IsCommon : GlobView → GlobView → List ℕ → Type 0
-IsCommon one other path = IsPath path × IsMeant one path × IsMeant other path
+-- a path, as walks have them, that both select; only the first one; exactly one of both
+abbrev pub IsOfBoth : (List ℕ → Type 0) → (List ℕ → Type 0) → List ℕ → Type 0
+IsOfBoth Selects Selects' path = IsPath path × Selects path × Selects' path
 
-abbrev pub IsOfFirstOnly : GlobView → GlobView → List ℕ → Type 0
-IsOfFirstOnly one other path = IsPath path × IsMeant one path × (IsMeant other path → ⊥)
+abbrev pub IsOfFirstOnly : (List ℕ → Type 0) → (List ℕ → Type 0) → List ℕ → Type 0
+IsOfFirstOnly Selects Selects' path = IsPath path × Selects path × (Selects' path → ⊥)
 
-abbrev pub IsOfOneOnly : GlobView → GlobView → List ℕ → Type 0
-IsOfOneOnly one other path =
-    IsPath path × ((IsMeant one path × (IsMeant other path → ⊥))
-    ⊎ ((IsMeant one path → ⊥) × IsMeant other path))
+abbrev pub IsOfOneOnly : (List ℕ → Type 0) → (List ℕ → Type 0) → List ℕ → Type 0
+IsOfOneOnly Selects Selects' path =
+    IsPath path × ((Selects path × (Selects' path → ⊥)) ⊎ ((Selects path → ⊥) × Selects' path))
 
--- more is reached than so many states allow, of two programs that select what the globs match
-abbrev pub TakesMore : ℕ → GlobView → GlobView → Type 0
-TakesMore most one other = (code : List Instruction) × (code' : List Instruction)
-    × SelectsTexts (IsMeant one) code × SelectsTexts (IsMeant other) code'
-    × ReachesMore code code' Texts.Paths most
+-- more is reached than so many states allow, of two programs that select these texts
+abbrev pub SearchTakesMore : ℕ → (List ℕ → Type 0) → (List ℕ → Type 0) → Type 0
+SearchTakesMore most Selects Selects' = (code : List Instruction) × (code' : List Instruction)
+    × SelectsTexts Selects code × SelectsTexts Selects' code' × ReachesMore code code' Texts.Paths most
 
 -- the bytes of a shortest path that is wanted
 abbrev pub IsShortestPath : (List ℕ → Type 0) → List ℕ → Type 0
@@ -87,3 +86,24 @@ abbrev pub SearchEnds : List ℕ → List ℕ → (GlobView → GlobView → Res
 SearchEnds e e' OfGlobs fault number =
     (outcome : Result Finding CallError) × OfTwo e e' OfGlobs fault.which outcome
     × (fault.span ≡ span_in outcome) × (number ≡ finding_number outcome)
+
+-- ---- calls that follow two handles
+
+-- the number is that of such an outcome, and an output of 4 bytes for each state is large enough
+abbrev pub FindsAs : (List ℕ → Type 0) → Type 0 → ℕ → List ℕ → Output → ℤ → Type 0
+FindsAs Wanted TakesTooMuch most before output number =
+    (outcome : Result Finding CallError) × Finds Wanted TakesTooMuch before output outcome
+    × KeepsUnlessFound before output outcome × (number ≡ finding_number outcome)
+    × (4 * most ≤ length before → number ≡ neg_ℤ (pos 21) → ⊥)
+
+abbrev pub OverlapAs : (List ℕ → Type 0) → (List ℕ → Type 0) → ℕ → List ℕ → Output → ℤ → Type 0
+OverlapAs Selects Selects' most =
+    FindsAs (IsOfBoth Selects Selects') (SearchTakesMore most Selects Selects') most
+
+abbrev pub DifferenceAs : (List ℕ → Type 0) → (List ℕ → Type 0) → ℕ → List ℕ → Output → ℤ → Type 0
+DifferenceAs Selects Selects' most =
+    FindsAs (IsOfFirstOnly Selects Selects') (SearchTakesMore most Selects Selects') most
+
+abbrev pub CompareAs : (List ℕ → Type 0) → (List ℕ → Type 0) → ℕ → List ℕ → Output → ℤ → Type 0
+CompareAs Selects Selects' most =
+    FindsAs (IsOfOneOnly Selects Selects') (SearchTakesMore most Selects Selects') most

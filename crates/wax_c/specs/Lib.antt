@@ -6,9 +6,9 @@ pub mod GlobOwned
 pub mod Lines
 pub mod ListHandles
 pub mod ListOwned
+pub mod NotText
 pub mod Numbers
 pub mod Outcomes
-pub mod Overlaps
 pub mod Sessions
 pub mod SetOwned
 pub mod Sets

@@ -1,7 +1,7 @@
 -- What the lines of an ignore list decide.
 use Rattle.std.specs.Prelude.{◌≡◌, ℕ, ℤ, pos, neg_ℤ, List, Option, Some, None, Result, Ok, Err, IsUtf8, chars}
-use Rattle.std.specs.Prelude.{◌<◌, ◌==◌, Bool, true, false, filter, length, map}
-use Rattle.wax.specs.Comparing.{AreIdle, AreUndecided}
+use Rattle.std.specs.Prelude.{◌<◌, ◌≤◌, ◌==◌, All, Bool, true, false, filter, length, map, not}
+use Rattle.wax.specs.Comparing.{AreIdle, AreUndecided, IsUndecided, TidiesUp}
 use Rattle.wax.specs.Ignoring.{IsDecidingLine}
 use Rattle.wax.specs.Language.{Memory}
 use Rattle.wax.specs.declared.ignoring.IgnoreList.{IgnoreList}
@@ -45,9 +45,12 @@ is_sure (Covered covers) = true
 is_sure TakesNothingBack = true
 is_sure Unknown = false
 
--- the indexes of those of these lines of which it is known why they decide nothing
+-- the indexes of those of these lines of which it is known why they decide nothing, and of the others
 abbrev pub sure_indexes : List IdleLine → List ℕ
 sure_indexes idle = map (λ x. x.index) (filter (λ x. is_sure x.reason) idle)
+
+abbrev pub unsure_indexes : List IdleLine → List ℕ
+unsure_indexes idle = map (λ x. x.index) (filter (λ x. not (is_sure x.reason)) idle)
 
 -- These lines decide nothing about plain paths, and whether each of the others is known to decide. It isn't
 -- only if a comparison of the line with others takes more states than the limit, or too large a program.
@@ -58,27 +61,45 @@ pub record AreSure (list : IgnoreList) (most : ℕ) (indexes : List ℕ) (others
   pub indexes_are : indexes ≡ sure_indexes idle
   pub others : others_decide ≡ (length indexes == length idle)
 
--- The list begins with the indexes of the lines that decide nothing, and the count is their number; or it is
--- as before.
-abbrev pub ListsIdle : IgnoreList → ℕ → List ℕ → List ℕ → ℕ → Result Bool CallError → Type 0
-ListsIdle list most before after count (Ok others_decide) =
-    (indexes : List ℕ) × AreSure list most indexes others_decide × HoldsFirst indexes before after
-    × (count ≡ length indexes)
-ListsIdle list most before after count (Err NoRoom) =
-    (indexes : List ℕ) × (others_decide : Bool) × AreSure list most indexes others_decide
-    × (length before < length indexes) × (after ≡ before) × (count ≡ length indexes)
-ListsIdle list most before after count (Err NotText) = ⊥
-ListsIdle list most before after count (Err (Build error)) =
-    (error ≡ Memory) × (after ≡ before) × (count ≡ 0)
+-- Of these lines it isn't found whether they decide, since a comparison of each with others takes more states
+-- than the limit, or too large a program; and whether there are none. Each of the others decides, or it is
+-- known why it decides nothing.
+pub record AreUnsure (list : IgnoreList) (most : ℕ) (indexes : List ℕ) (are_none : Bool) : Type 0 where
+  pub idle : List IdleLine
+  pub are_idle : AreIdle list idle
+  pub undecided : AreUndecided list most idle
+  pub indexes_are : indexes ≡ unsure_indexes idle
+  pub none : are_none ≡ (length indexes == 0)
 
--- 0 if all other lines decide, 2 if that isn't known, or minus the number of an error
-abbrev pub idle_number : Result Bool CallError → ℤ
-idle_number (Ok true) = pos 0
-idle_number (Ok false) = pos 2
-idle_number (Err error) = neg_ℤ (error_number error)
+-- A list of only these lines ignores the same plain paths, and whether each of them is known to decide one in
+-- that list. It isn't only if a comparison of the line with others takes more states than the limit, or too
+-- large a program.
+pub record AreEnough (list : IgnoreList) (most : ℕ) (indexes : List ℕ) (all_decide : Bool) : Type 0 where
+  pub removed : List IdleLine
+  pub tidy : IgnoreList
+  pub unknown : List ℕ
+  pub tidies : TidiesUp list removed indexes tidy unknown
+  pub undecided : All (IsUndecided tidy most) unknown
+  pub others : all_decide ≡ (length unknown == 0)
 
--- the number is that of such an outcome
-abbrev pub ListsIdleAs : IgnoreList → ℕ → List ℕ → List ℕ → ℕ → ℤ → Type 0
-ListsIdleAs list most before after count number =
-    (outcome : Result Bool CallError) × ListsIdle list most before after count outcome
-    × (number ≡ idle_number outcome)
+-- The list begins with such indexes, and the count is their number; or it is as before.
+abbrev pub ListsFound : (List ℕ → Bool → Type 0) → List ℕ → List ℕ → ℕ → Result Bool CallError → Type 0
+ListsFound Found before after count (Ok is_all) =
+    (indexes : List ℕ) × Found indexes is_all × HoldsFirst indexes before after × (count ≡ length indexes)
+ListsFound Found before after count (Err NoRoom) =
+    (indexes : List ℕ) × (is_all : Bool) × Found indexes is_all × (length before < length indexes)
+    × (after ≡ before) × (count ≡ length indexes)
+ListsFound Found before after count (Err NotText) = ⊥
+ListsFound Found before after count (Err (Build error)) = (error ≡ Memory) × (after ≡ before) × (count ≡ 0)
+
+-- 0 if this is known of all lines, 2 if it isn't, or minus the number of an error
+abbrev pub lines_number : Result Bool CallError → ℤ
+lines_number (Ok true) = pos 0
+lines_number (Ok false) = pos 2
+lines_number (Err error) = neg_ℤ (error_number error)
+
+-- the number is that of such an outcome, and a list of so many elements is large enough
+abbrev pub ListsWithin : ℕ → (List ℕ → Bool → Type 0) → List ℕ → List ℕ → ℕ → ℤ → Type 0
+ListsWithin most Found before after count number =
+    (outcome : Result Bool CallError) × ListsFound Found before after count outcome
+    × (number ≡ lines_number outcome) × (most ≤ length before → number ≡ neg_ℤ (pos 21) → ⊥)

@@ -40,6 +40,10 @@ IsListHandle text handle line number =
     (outcome : Result (Unit {0}) CallError) × HasList text handle line outcome
     × (number ≡ status_number outcome)
 
+-- the list ignores the path
+abbrev pub Ignores : IgnoreList → List ℕ → Type 0
+Ignores list path = IsTrue (is_ignored list path)
+
 -- the answer is whether the list ignores the path
 abbrev pub SaysIgnored : IgnoreList → List ℕ → Bool → Type 0
 SaysIgnored list path answer = answer ≡ is_ignored list path

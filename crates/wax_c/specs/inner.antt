@@ -1,3 +1,4 @@
+pub mod FoundLines
 pub mod Searching
 pub mod Showing
 pub mod Spelled

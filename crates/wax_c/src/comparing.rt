@@ -1,7 +1,8 @@
 //! Calls that compare two expressions.
 ghost use Rattle.std.specs.Prelude.{◌≡◌, ◌≤◌, ◌*◌, IfErr, IfOk, length, neg_ℤ, pos};
-ghost use Rattle.wax_c.specs.Comparing.{Finds, IsCommon, IsOfFirstOnly, IsOfOneOnly, KeepsUnlessFound};
-ghost use Rattle.wax_c.specs.Comparing.{OfTwo, SearchEnds, TakesMore, finding_number, span_in};
+ghost use Rattle.wax.specs.GlobView.{IsMeant};
+ghost use Rattle.wax_c.specs.Comparing.{Finds, IsOfBoth, IsOfFirstOnly, IsOfOneOnly, KeepsUnlessFound};
+ghost use Rattle.wax_c.specs.Comparing.{OfTwo, SearchEnds, SearchTakesMore, finding_number, span_in};
 ghost use Rattle.wax_c.specs.inner.Searching.{IsAskedFor, IsSearchResult};
 
 use crate::calls::build;
@@ -9,11 +10,11 @@ use crate::error::{CallError, status_of};
 use crate::globs::{WaxSpan, place_of};
 use crate::output::put;
 use std::alloc::Global;
-use wax::{BuildError, Comparison, Glob, Texts, compare, difference, overlap};
+use wax::{BuildError, Compared, Comparison, Texts, compare, difference, overlap};
 
-// Which paths a search looks for: those that both globs match, only the first one, or one of both.
+/// Which paths a search looks for: those that both select, only the first one, or exactly one of both.
 #[derive(Clone, Copy)]
-enum Asked {
+pub(crate) enum Asked {
     Both,
     FirstOnly,
     OneOnly,
@@ -66,8 +67,9 @@ pub extern "C" fn wax_overlap(
     which: &mut usize,
     span: &mut WaxSpan,
 ) -> i32
-    ensures finds { SearchEnds first.now second.now (λ one other. Finds (IsCommon one other)
-        (TakesMore most_states one other) output.old
+    ensures finds { SearchEnds first.now second.now (λ one other.
+        Finds (IsOfBoth (IsMeant one) (IsMeant other))
+        (SearchTakesMore most_states (IsMeant one) (IsMeant other)) output.old
         (record { bytes = output.new; written = written.new }))
         (record { which = which.new; span = span.new }) result }
     ensures unchanged { (result ≡ pos 1 → ⊥) → output.new ≡ output.old }
@@ -107,8 +109,9 @@ pub extern "C" fn wax_difference(
     which: &mut usize,
     span: &mut WaxSpan,
 ) -> i32
-    ensures finds { SearchEnds first.now second.now (λ one other. Finds (IsOfFirstOnly one other)
-        (TakesMore most_states one other) output.old
+    ensures finds { SearchEnds first.now second.now (λ one other.
+        Finds (IsOfFirstOnly (IsMeant one) (IsMeant other))
+        (SearchTakesMore most_states (IsMeant one) (IsMeant other)) output.old
         (record { bytes = output.new; written = written.new }))
         (record { which = which.new; span = span.new }) result }
     ensures unchanged { (result ≡ pos 1 → ⊥) → output.new ≡ output.old }
@@ -148,8 +151,9 @@ pub extern "C" fn wax_compare(
     which: &mut usize,
     span: &mut WaxSpan,
 ) -> i32
-    ensures finds { SearchEnds first.now second.now (λ one other. Finds (IsOfOneOnly one other)
-        (TakesMore most_states one other) output.old
+    ensures finds { SearchEnds first.now second.now (λ one other.
+        Finds (IsOfOneOnly (IsMeant one) (IsMeant other))
+        (SearchTakesMore most_states (IsMeant one) (IsMeant other)) output.old
         (record { bytes = output.new; written = written.new }))
         (record { which = which.new; span = span.new }) result }
     ensures unchanged { (result ≡ pos 1 → ⊥) → output.new ≡ output.old }
@@ -207,8 +211,9 @@ fn search(
     output: &mut [u8],
     written: &mut usize,
 ) -> Searched
-    ensures finds { OfTwo first.now second.now (λ one other. Finds (IsAskedFor asked one other)
-        (TakesMore most_states one other) output.old
+    ensures finds { OfTwo first.now second.now (λ one other.
+        Finds (IsAskedFor asked (IsMeant one) (IsMeant other))
+        (SearchTakesMore most_states (IsMeant one) (IsMeant other)) output.old
         (record { bytes = output.new; written = written.new })) result.which result.outcome }
     ensures kept { KeepsUnlessFound output.old (record { bytes = output.new; written = written.new })
         result.outcome }
@@ -240,19 +245,23 @@ fn search(
     }
 }
 
-// Searches, and writes the path that is found.
-fn write_found(
+/// Searches, and writes the path that is found.
+///
+/// # Errors
+///
+/// Returns `Build(Memory)` (10) if allocation fails, and `NoRoom` (21) if the output is too small.
+pub(crate) fn write_found<A: Compared, B: Compared>(
     alloc: Global,
-    one: &Glob<'_>,
-    other: &Glob<'_>,
+    one: &A,
+    other: &B,
     asked: Asked,
     most_states: usize,
     output: &mut [u8],
     written: &mut usize,
 ) -> Result<Finding, CallError>
-    ensures finds { Finds (IsAskedFor asked one.now other.now)
-        (TakesMore most_states one.now other.now)
-        output.old (record { bytes = output.new; written = written.new }) result }
+    ensures finds { Finds (IsAskedFor asked (A.selects one.now) (B.selects other.now))
+        (SearchTakesMore most_states (A.selects one.now) (B.selects other.now)) output.old
+        (record { bytes = output.new; written = written.new }) result }
     ensures kept { KeepsUnlessFound output.old (record { bytes = output.new; written = written.new }) result }
     ensures room { 4 * most_states ≤ length output.old
         → IfErr result (λ error. error ≡ CallError.NoRoom → ⊥) }
@@ -269,16 +278,16 @@ fn write_found(
     }
 }
 
-fn find(
+fn find<A: Compared, B: Compared>(
     alloc: Global,
-    one: &Glob<'_>,
-    other: &Glob<'_>,
+    one: &A,
+    other: &B,
     asked: Asked,
     most_states: usize,
 ) -> Result<Found, CallError>
-    ensures found { IfOk result (IsSearchResult (IsAskedFor asked one.now other.now)
-        (TakesMore most_states one.now other.now)
-        most_states) }
+    ensures found { IfOk result (IsSearchResult
+        (IsAskedFor asked (A.selects one.now) (B.selects other.now))
+        (SearchTakesMore most_states (A.selects one.now) (B.selects other.now)) most_states) }
     ensures err { IfErr result (λ error. error ≡ CallError.Build BuildError.Memory) }
 {
     match asked {

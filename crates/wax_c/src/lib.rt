@@ -3,6 +3,7 @@
 
 mod calls;
 mod captures;
+mod compared;
 mod comparing;
 mod error;
 mod facts;
@@ -13,8 +14,8 @@ mod list_handle;
 mod lists;
 mod loose;
 mod matching;
+mod not_text;
 mod output;
-mod overlaps;
 mod parts;
 mod session;
 mod set_facts;
@@ -25,6 +26,11 @@ mod texts;
 mod warnings;
 
 pub use captures::wax_glob_captures;
+pub use compared::{
+    wax_glob_compare, wax_glob_difference, wax_glob_overlap, wax_ignore_compare,
+    wax_ignore_difference, wax_ignore_overlap, wax_set_compare, wax_set_difference,
+    wax_set_overlap,
+};
 pub use comparing::{Finding, wax_compare, wax_difference, wax_overlap};
 pub use error::CallError;
 pub use facts::{WaxFacts, wax_glob_expression, wax_glob_facts, wax_glob_text};
@@ -32,14 +38,16 @@ pub use globs::{
     WaxSpan, wax_glob_filter, wax_glob_free, wax_glob_goes_on, wax_glob_is_match, wax_glob_new,
 };
 pub use handle::{GlobHandle, HeldGlob};
-pub use lines::{wax_ignore_deciding_line, wax_ignore_idle_lines};
+pub use lines::{
+    wax_ignore_deciding_line, wax_ignore_idle_lines, wax_ignore_tidy, wax_ignore_undecided_lines,
+};
 pub use list_handle::ListHandle;
 pub use lists::{
     wax_ignore_excludes_below, wax_ignore_filter, wax_ignore_free, wax_ignore_is_ignored,
     wax_ignore_new,
 };
 pub use matching::{wax_filter, wax_is_match};
-pub use overlaps::{wax_glob_overlap, wax_set_overlap};
+pub use not_text::wax_count_not_text;
 pub use parts::wax_glob_partition;
 pub use set_facts::{wax_set_facts, wax_set_text};
 pub use set_handle::{HeldSet, SetHandle};

@@ -1,16 +1,19 @@
 //! What the lines of an ignore list decide, by its handle.
-ghost use Rattle.std.specs.Prelude.{◌≡◌, IfOk, MatchResult};
+ghost use Rattle.std.specs.Prelude.{◌≡◌, ◌≤◌, Bool, IfOk, Result, length};
 ghost use Rattle.wax.specs.declared.ignoring.IgnoreList.{IgnoreList};
-ghost use Rattle.wax_c.specs.Lines.{AreSure, FindsLine, FindsLineAs, ListsIdle, ListsIdleAs};
-ghost use Rattle.wax_c.specs.Lines.{idle_number, index_number, index_or_zero, is_sure, sure_indexes};
+ghost use Rattle.wax_c.specs.Lines.{AreEnough, AreSure, AreUnsure, FindsLine, FindsLineAs, ListsFound};
+ghost use Rattle.wax_c.specs.Lines.{ListsWithin, index_number, index_or_zero, is_sure, lines_number};
+ghost use Rattle.wax_c.specs.Lines.{sure_indexes, unsure_indexes};
 ghost use Rattle.wax_c.specs.ListOwned.{list_at};
+ghost use Rattle.wax_c.specs.declared.error.CallError.{CallError};
+ghost use Rattle.wax_c.specs.inner.FoundLines.{AreFoundLines};
 ghost use types.Logic.{sem};
 
 use crate::error::{CallError, number_of};
 use crate::output::write_over;
 use std::alloc::{AllocError, Global};
-use wax::walk::{IdleLine, IdleReason, IgnoreList};
-use wax::{BuildError, CandidatePath};
+use wax::walk::{IdleLine, IdleReason, IgnoreList, TidyList};
+use wax::{BuildError, CandidatePath, NoMemory};
 
 /// Returns 1 if a line of the list matches the path, and 0 if none does. The last such line decides
 /// whether the path is ignored; its index is in `line` then, from 0, without the lines that are skipped.
@@ -36,7 +39,8 @@ pub unsafe extern "C" fn wax_ignore_deciding_line(
 /// Writes the indexes of the lines that decide nothing about paths as walks have them, ascending, to the
 /// beginning of `lines`, and their number to `count`: without these lines, the list ignores the same such
 /// paths. Returns 0 if each other line is known to decide some path, and 2 if it takes more than
-/// `most_states` states to find that out of some line.
+/// `most_states` states to find that out of some line. As many elements as the list has lines are always
+/// enough.
 ///
 /// # Errors
 ///
@@ -53,9 +57,70 @@ pub unsafe extern "C" fn wax_ignore_idle_lines(
     ghost held: { IgnoreList }
     requires* { sem 𝓛 (list_at alloc list held) }
     ensures* back { sem 𝓛 (list_at alloc list held) }
-    ensures idle { ListsIdleAs held most_states lines.old lines.new count.new result }
+    ensures idle { ListsWithin (length held) (AreSure held most_states) lines.old lines.new count.new result }
 {
     list_idle(
+        alloc,
+        &*(list as *const IgnoreList),
+        most_states,
+        lines,
+        count,
+    )
+}
+
+/// Writes the indexes of the lines of which `wax_ignore_idle_lines` doesn't find out whether they decide
+/// some path, as it writes those that decide nothing. Returns 0 if there is none, and 2 if there is one.
+///
+/// # Errors
+///
+/// Returns the errors of `wax_ignore_idle_lines`.
+#[unsafe(no_mangle)]
+pub unsafe extern "C" fn wax_ignore_undecided_lines(
+    alloc: Global,
+    list: *const u8,
+    most_states: usize,
+    lines: &mut [usize],
+    count: &mut usize,
+) -> i32
+    ghost held: { IgnoreList }
+    requires* { sem 𝓛 (list_at alloc list held) }
+    ensures* back { sem 𝓛 (list_at alloc list held) }
+    ensures undecided { ListsWithin (length held) (AreUnsure held most_states) lines.old lines.new count.new
+        result }
+{
+    list_undecided(
+        alloc,
+        &*(list as *const IgnoreList),
+        most_states,
+        lines,
+        count,
+    )
+}
+
+/// Writes the indexes of lines that are enough, as `wax_ignore_idle_lines` writes those that decide
+/// nothing: with only these lines, the list ignores the same paths of walks, and each of them decides one
+/// then. Without some lines others may decide nothing, too, so there may be fewer than
+/// `wax_ignore_idle_lines` leaves. Returns 0 if each is known to decide, and 2 if it takes more than
+/// `most_states` states to find that out of some line.
+///
+/// # Errors
+///
+/// Returns the errors of `wax_ignore_idle_lines`.
+#[unsafe(no_mangle)]
+pub unsafe extern "C" fn wax_ignore_tidy(
+    alloc: Global,
+    list: *const u8,
+    most_states: usize,
+    lines: &mut [usize],
+    count: &mut usize,
+) -> i32
+    ghost held: { IgnoreList }
+    requires* { sem 𝓛 (list_at alloc list held) }
+    ensures* back { sem 𝓛 (list_at alloc list held) }
+    ensures tidy { ListsWithin (length held) (AreEnough held most_states) lines.old lines.new count.new
+        result }
+{
+    list_enough(
         alloc,
         &*(list as *const IgnoreList),
         most_states,
@@ -99,11 +164,11 @@ fn tell_index(outcome: &Result<Option<usize>, CallError>, line: &mut usize) -> i
     }
 }
 
-// The indexes of the lines that decide nothing, and whether each other line is known to decide.
+// Indexes of lines, and whether nothing is left open of any line.
 #[derive(Drop)]
-struct Sure {
+struct FoundLines {
     indexes: Vec<usize>,
-    others_decide: bool,
+    is_all_known: bool,
 }
 
 fn list_idle(
@@ -113,14 +178,50 @@ fn list_idle(
     lines: &mut [usize],
     count: &mut usize,
 ) -> i32
-    ensures { ListsIdleAs list.now most_states lines.old lines.new count.new result }
+    ensures { ListsWithin (length list.now) (AreSure list.now most_states) lines.old lines.new count.new
+        result }
 {
-    let outcome = write_idle(alloc, list, most_states, lines, count);
-    tell_idle(&outcome)
+    list_found(find_idle(alloc, list, most_states), lines, count)
 }
 
-fn tell_idle(outcome: &Result<bool, CallError>) -> i32
-    ensures { result ≡ idle_number outcome.now }
+fn list_undecided(
+    alloc: Global,
+    list: &IgnoreList,
+    most_states: usize,
+    lines: &mut [usize],
+    count: &mut usize,
+) -> i32
+    ensures { ListsWithin (length list.now) (AreUnsure list.now most_states) lines.old lines.new count.new
+        result }
+{
+    list_found(find_undecided(alloc, list, most_states), lines, count)
+}
+
+fn list_enough(
+    alloc: Global,
+    list: &IgnoreList,
+    most_states: usize,
+    lines: &mut [usize],
+    count: &mut usize,
+) -> i32
+    ensures { ListsWithin (length list.now) (AreEnough list.now most_states) lines.old lines.new count.new
+        result }
+{
+    list_found(find_enough(alloc, list, most_states), lines, count)
+}
+
+// Returns the number of the outcome.
+fn list_found(found: Result<FoundLines, NoMemory>, lines: &mut [usize], count: &mut usize) -> i32
+    ensures { (outcome : Result Bool CallError)
+        × ListsFound (AreFoundLines found) lines.old lines.new count.new outcome
+        × (result ≡ lines_number outcome) }
+{
+    let outcome = write_found(found, lines, count);
+    tell_lines(&outcome)
+}
+
+fn tell_lines(outcome: &Result<bool, CallError>) -> i32
+    ensures { result ≡ lines_number outcome.now }
 {
     match outcome {
         Ok(true) => 0,
@@ -129,40 +230,70 @@ fn tell_idle(outcome: &Result<bool, CallError>) -> i32
     }
 }
 
-fn write_idle(
-    alloc: Global,
-    list: &IgnoreList,
-    most_states: usize,
+fn write_found(
+    found: Result<FoundLines, NoMemory>,
     lines: &mut [usize],
     count: &mut usize,
 ) -> Result<bool, CallError>
-    ensures { ListsIdle list.now most_states lines.old lines.new count.new result }
+    ensures { ListsFound (AreFoundLines found) lines.old lines.new count.new result }
 {
     *count = 0;
-    let found = find_idle(alloc, list, most_states)?;
+    let Ok(found) = found else {
+        return Err(CallError::Build(BuildError::Memory));
+    };
     *count = found.indexes.len();
     if found.indexes.len() > lines.len() {
         return Err(CallError::NoRoom);
     }
     write_over(&found.indexes, lines);
-    Ok(found.others_decide)
+    Ok(found.is_all_known)
 }
 
-fn find_idle(alloc: Global, list: &IgnoreList, most_states: usize) -> Result<Sure, CallError>
-    ensures { MatchResult result
-        (λ sure. AreSure list.now most_states sure.indexes.items sure.others_decide)
-        (λ error. error ≡ CallError.Build BuildError.Memory) }
+fn find_idle(alloc: Global, list: &IgnoreList, most_states: usize) -> Result<FoundLines, NoMemory>
+    ensures found { IfOk result (λ found.
+        AreSure list.now most_states found.indexes.items found.is_all_known) }
+    ensures few { IfOk result (λ found. length found.indexes.items ≤ length list.now) }
 {
-    let Ok(idle) = list.idle_lines(alloc, most_states) else {
-        return Err(CallError::Build(BuildError::Memory));
-    };
-    let Ok(indexes) = sure_indexes(alloc, &idle) else {
-        return Err(CallError::Build(BuildError::Memory));
-    };
-    let others_decide = indexes.len() == idle.len();
-    Ok(Sure {
+    let idle = list.idle_lines(alloc, most_states)?;
+    let indexes = sure_indexes(alloc, &idle)?;
+    let is_all_known = indexes.len() == idle.len();
+    Ok(FoundLines {
         indexes,
-        others_decide,
+        is_all_known,
+    })
+}
+
+fn find_undecided(
+    alloc: Global,
+    list: &IgnoreList,
+    most_states: usize,
+) -> Result<FoundLines, NoMemory>
+    ensures found { IfOk result (λ found.
+        AreUnsure list.now most_states found.indexes.items found.is_all_known) }
+    ensures few { IfOk result (λ found. length found.indexes.items ≤ length list.now) }
+{
+    let idle = list.idle_lines(alloc, most_states)?;
+    let indexes = unsure_indexes(alloc, &idle)?;
+    let is_all_known = indexes.is_empty();
+    Ok(FoundLines {
+        indexes,
+        is_all_known,
+    })
+}
+
+fn find_enough(alloc: Global, list: &IgnoreList, most_states: usize) -> Result<FoundLines, NoMemory>
+    ensures found { IfOk result (λ found.
+        AreEnough list.now most_states found.indexes.items found.is_all_known) }
+    ensures few { IfOk result (λ found. length found.indexes.items ≤ length list.now) }
+{
+    let TidyList {
+        indexes,
+        unknown,
+        ..
+    } = list.tidied(alloc, most_states)?;
+    Ok(FoundLines {
+        indexes,
+        is_all_known: unknown.is_empty(),
     })
 }
 
@@ -171,6 +302,15 @@ fn sure_indexes(alloc: Global, idle: &[IdleLine]) -> Result<Vec<usize>, AllocErr
 {
     idle.iter()
         .filter(|line| is_sure(&line.reason))
+        .map(|line| line.index)
+        .collect(alloc)
+}
+
+fn unsure_indexes(alloc: Global, idle: &[IdleLine]) -> Result<Vec<usize>, AllocError>
+    ensures { IfOk result (λ unsure. unsure.items ≡ unsure_indexes idle.now) }
+{
+    idle.iter()
+        .filter(|line| !is_sure(&line.reason))
         .map(|line| line.index)
         .collect(alloc)
 }

@@ -1,10 +1,10 @@
 //! Calls that build, use and free handles of ignore lists.
-ghost use Rattle.std.specs.Prelude.{◌≡◌, IfErr, IfOk, MatchResult, Option};
+ghost use Rattle.std.specs.Prelude.{◌≡◌, ◌≤◌, ◌+◌, IfErr, IfOk, MatchResult, Option, length};
 ghost use Rattle.wax.specs.declared.ignoring.IgnoreList.{IgnoreList};
 ghost use Rattle.wax_c.specs.ListHandles.{AreUnignored, HasList, IsListHandle, IsListOfBytes};
 ghost use Rattle.wax_c.specs.ListHandles.{IsUnlistedAt, SaysIgnored, SaysIgnoredBelow};
 ghost use Rattle.wax_c.specs.ListOwned.{list_at, maybe_list_at};
-ghost use Rattle.wax_c.specs.Outcomes.{Decides, DecidesAs, FillsAs};
+ghost use Rattle.wax_c.specs.Outcomes.{Decides, DecidesAs, Fills, FillsWithin, KeepsAfterError};
 ghost use types.Logic.{sem};
 
 use crate::error::{CallError, answer_of, status_of};
@@ -81,7 +81,7 @@ pub unsafe extern "C" fn wax_ignore_filter(
     ghost held: { IgnoreList }
     requires* { sem 𝓛 (list_at alloc list held) }
     ensures* back { sem 𝓛 (list_at alloc list held) }
-    ensures fills { FillsAs (AreUnignored held input.now) output.old
+    ensures fills { FillsWithin (length input.now + 1) (AreUnignored held input.now) output.old
         (record { bytes = output.new; written = written.new }) result }
 {
     fill_unignored(
@@ -188,15 +188,30 @@ fn fill_unignored(
     output: &mut [u8],
     written: &mut usize,
 ) -> i32
-    ensures { FillsAs (AreUnignored list.old input.now) output.old
+    ensures { FillsWithin (length input.now + 1) (AreUnignored list.old input.now) output.old
         (record { bytes = output.new; written = written.new }) result × (list.new ≡ list.old) }
 {
-    *written = 0;
-    let outcome = match unignored(alloc, list, input) {
-        Ok(lines) => put(&lines, output, written),
-        Err(error) => Err(error),
-    };
+    let outcome = put_unignored(alloc, list, input, output, written);
     status_of(&outcome)
+}
+
+fn put_unignored(
+    alloc: Global,
+    list: &mut IgnoreList,
+    input: &[u8],
+    output: &mut [u8],
+    written: &mut usize,
+) -> Result<(), CallError>
+    ensures fills { Fills (AreUnignored list.old input.now) output.old
+        (record { bytes = output.new; written = written.new }) result }
+    ensures kept { KeepsAfterError output.old (record { bytes = output.new; written = written.new }) result }
+    ensures room { length input.now + 1 ≤ length output.old
+        → IfErr result (λ error. error ≡ CallError.NoRoom → ⊥) }
+    ensures same { list.new ≡ list.old }
+{
+    *written = 0;
+    let lines = unignored(alloc, list, input)?;
+    put(&lines, output, written)
 }
 
 // Collects the lines in memory, so that the output stays unchanged if they don't fit.

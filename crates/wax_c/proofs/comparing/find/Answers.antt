@@ -2,21 +2,20 @@
 use Rattle.std.proofs.Common.{chars, string_bytes, subst, sym}
 use Rattle.std.proofs.lemmas.Str.{IsUtf8-string_bytes}
 use Rattle.wax.specs.Comparing.{IsAnswer, IsShortest, IsWanted, KeepsLimitBy}
-use Rattle.wax.specs.GlobView.{IsMeant}
 use Rattle.wax_c.specs.inner.Searching.{IsAskedFor}
 use Rattle.wax_c.proofs.FoundPath.{both_at}
 use Rattle.wax_c.proofs.comparing.find.Goals as goal
 
 pub returns-in-Ok-Text-clause-found : goal.returns-in-Ok-Text-clause-found
-returns-in-Ok-Text-clause-found c =
-    let one = c.args.one.now in
-    let other = c.args.other.now in
+returns-in-Ok-Text-clause-found g c =
+    let one = g.A.Compared.selects c.args.one.now in
+    let other = g.B.Compared.selects c.args.other.now in
     let text = c.in-Ok-Text in
     let path = chars (string_bytes text.path) in
-    let facts = both_at (λ wanted texts. IsAnswer (IsWanted wanted texts (IsMeant one) (IsMeant other)))
-    (λ wanted texts. KeepsLimitBy (IsMeant one) (IsMeant other) wanted texts c.args.most_states)
+    let facts = both_at (λ wanted texts. IsAnswer (IsWanted wanted texts one other))
+    (λ wanted texts. KeepsLimitBy one other wanted texts c.args.most_states)
     text.field-0-is text.ensures.answer text.ensures.limit in
-    let found : IsShortest (IsWanted _ _ (IsMeant one) (IsMeant other)) path = facts.0 in (
+    let found : IsShortest (IsWanted _ _ one other) path = facts.0 in (
       (
         IsUtf8-string_bytes text.path,
         subst (λ asked. IsShortest (IsAskedFor asked one other) path) (sym c.in-Both.is) (
@@ -28,15 +27,15 @@ returns-in-Ok-Text-clause-found c =
     )
 
 pub returns-in-Ok-Text-difference-clause-found : goal.returns-in-Ok-Text-difference-clause-found
-returns-in-Ok-Text-difference-clause-found c =
-    let one = c.args.one.now in
-    let other = c.args.other.now in
+returns-in-Ok-Text-difference-clause-found g c =
+    let one = g.A.Compared.selects c.args.one.now in
+    let other = g.B.Compared.selects c.args.other.now in
     let text = c.in-Ok-Text-difference in
     let path = chars (string_bytes text.path) in
-    let facts = both_at (λ wanted texts. IsAnswer (IsWanted wanted texts (IsMeant one) (IsMeant other)))
-    (λ wanted texts. KeepsLimitBy (IsMeant one) (IsMeant other) wanted texts c.args.most_states)
+    let facts = both_at (λ wanted texts. IsAnswer (IsWanted wanted texts one other))
+    (λ wanted texts. KeepsLimitBy one other wanted texts c.args.most_states)
     text.field-0-is text.ensures.answer text.ensures.limit in
-    let found : IsShortest (IsWanted _ _ (IsMeant one) (IsMeant other)) path = facts.0 in (
+    let found : IsShortest (IsWanted _ _ one other) path = facts.0 in (
       (
         IsUtf8-string_bytes text.path,
         subst (λ asked. IsShortest (IsAskedFor asked one other) path) (sym c.in-FirstOnly.is) (
@@ -48,15 +47,15 @@ returns-in-Ok-Text-difference-clause-found c =
     )
 
 pub returns-in-Ok-Text-compare-clause-found : goal.returns-in-Ok-Text-compare-clause-found
-returns-in-Ok-Text-compare-clause-found c =
-    let one = c.args.one.now in
-    let other = c.args.other.now in
+returns-in-Ok-Text-compare-clause-found g c =
+    let one = g.A.Compared.selects c.args.one.now in
+    let other = g.B.Compared.selects c.args.other.now in
     let text = c.in-Ok-Text-compare in
     let path = chars (string_bytes text.path) in
-    let facts = both_at (λ wanted texts. IsAnswer (IsWanted wanted texts (IsMeant one) (IsMeant other)))
-    (λ wanted texts. KeepsLimitBy (IsMeant one) (IsMeant other) wanted texts c.args.most_states)
+    let facts = both_at (λ wanted texts. IsAnswer (IsWanted wanted texts one other))
+    (λ wanted texts. KeepsLimitBy one other wanted texts c.args.most_states)
     text.field-0-is text.ensures.answer text.ensures.limit in
-    let found : IsShortest (IsWanted _ _ (IsMeant one) (IsMeant other)) path = facts.0 in (
+    let found : IsShortest (IsWanted _ _ one other) path = facts.0 in (
       (
         IsUtf8-string_bytes text.path,
         subst (λ asked. IsShortest (IsAskedFor asked one other) path) (sym c.in-OneOnly.is) (

@@ -1,0 +1,15 @@
+-- What is found is written if there is room for it.
+use Rattle.std.proofs.Common.{length, w32, ◌∙◌}
+use mir.ValLaws.{to_z-of_z}
+use Rattle.wax_c.specs.Lines.{AreUnsure}
+use Rattle.wax_c.proofs.FewLines.{lists_within}
+use Rattle.wax_c.proofs.lines.list_undecided.Goals as goal
+
+pub returns : goal.returns
+returns c =
+    let list = c.args.list.now in
+    let found = c.find_undecided.ensures in
+    let call = c.list_found in
+    let number = to_z-of_z w32 call.result (record { sfits = call.type_inv }) in
+    lists_within (AreUnsure list c.args.most_states) (length list) _ _ _ _ _ found.found found.few
+    (call.ensures.0, call.ensures.1, number ∙ call.ensures.2)
