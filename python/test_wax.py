@@ -11,10 +11,12 @@ import functools
 import gc
 import importlib
 import inspect
+import itertools
 import multiprocessing
 import os
 import pathlib
 import pickle
+import random
 import re
 import resource
 import subprocess
@@ -443,6 +445,40 @@ class Comparing(unittest.TestCase):
                         self.assertTrue(wax.is_match(it, path) if isinstance(it, str) else it.is_match(path), path)
         self.assertEqual(wax.Glob("src/*/mod.rs").partition()[1].overlap("net/**", most_states=1_000), "net/mod.rs")
 
+    def test_differences_by_handles(self):
+        """Sets of one expression, and rests, differ as expressions do."""
+        for first, second in [
+            ("src/**", "**/*.rs"),
+            ("é?", "?è*"),
+            ("a/*/b", "a/*/{b,c}"),
+            ("{a,b}", "[ab]"),
+            ("/a/**", "[z-a]"),
+            ("**/*a<?:20>", "**/*b<?:20>"),
+        ]:
+            for name in ("difference", "compare"):
+                for one, other in [(first, second), (second, first), (first, first)]:
+                    call = getattr(wax, name)
+                    try:
+                        wanted = call(one, other, most_states=1000)
+                    except wax.Unknown:
+                        wanted = wax.Unknown
+                    rests = [wax.Glob(f"x/{it}").partition()[1] for it in (one, other) if it[:1] not in "/"]
+                    pairs = [(wax.GlobSet([one]), it) for it in (other, wax.Glob(other), wax.GlobSet([other]))]
+                    pairs += [(it, wax.GlobSet([other])) for it in (one, wax.Glob(one))]
+                    if len(rests) == 2:
+                        pairs += [rests] if "?" in first or "[" in second else []
+                    for pair in pairs:
+                        with self.subTest((name, pair)):
+                            if wanted is wax.Unknown:
+                                with self.assertRaises(wax.Unknown):
+                                    call(*pair, most_states=1000)
+                            else:
+                                found = call(*pair, most_states=1000)
+                                self.assertEqual(found and len(found), wanted and len(wanted))
+        for it in (wax.Glob("a*"), wax.GlobSet(["a*", "b"]), wax.Glob("a/b*").partition()[1], wax.IgnoreList("a*\n!ab\n")):
+            self.assertIsNone(it.difference(it))
+            self.assertIsNone(it.compare(it, most_states=0) if not isinstance(it, wax.Glob) else it.compare(it))
+
     def test_witnesses(self):
         """What is found matches as it should."""
         for first, second in [("src/**", "**/*.rs"), ("é?", "?è*"), ("a*", "*b"), ("[a-c]/x", "[b-d]/x"), ("(?i)ab", "Ab")]:
@@ -475,27 +511,25 @@ class Comparing(unittest.TestCase):
             with self.assertRaises(TypeError):
                 call("a", None)
         rest, patterns = wax.Glob("(?i)src/*.rs").partition()[1], wax.GlobSet(["src/**"])
-        refused = [(wax.difference, rest, "a"), (wax.difference, "a", rest), (wax.compare, rest, rest)]
-        for call, *arguments in [*refused, (wax.overlap, rest, patterns), (wax.GlobSet.overlap, patterns, rest)]:
-            with self.assertRaisesRegex(ValueError, "the rest of a partition has only an overlap with globs"):
-                call(*arguments)
-        for call in (wax.difference, wax.compare):
-            with self.assertRaises(TypeError):
-                call(patterns, "a")
-        for one in (patterns, rest):
-            for other, number in [("é//b", 2), ("{", 1), ("<a*:1000000>", 9)]:
-                for arguments in [(one, other), (other, one)]:
-                    with self.subTest(arguments), self.assertRaises(wax.Error) as raised:
-                        wax.overlap(*arguments)
-                    self.assertEqual(raised.exception.number, number)
-            with self.assertRaises(wax.Error) as raised:
-                one.overlap("\ud800")
-            self.assertEqual(raised.exception.number, 20)
-            for wrong in (None, b"a", ["a"], wax.IgnoreList("a")):
-                with self.subTest(wrong), self.assertRaises(TypeError):
-                    one.overlap(wrong)
-            with self.assertRaisesRegex(ValueError, "negative"):
-                one.overlap("a", most_states=-1)
+        for name in ("overlap", "difference", "compare"):
+            for call, *arguments in [(getattr(wax, name), rest, patterns), (getattr(wax.GlobSet, name), patterns, rest)]:
+                with self.assertRaisesRegex(ValueError, "the rest of a partition is compared only with globs"):
+                    call(*arguments)
+            for one in (patterns, rest):
+                for other, number in [("é//b", 2), ("{", 1), ("<a*:1000000>", 9)]:
+                    for arguments in [(one, other), (other, one)]:
+                        with self.subTest(arguments), self.assertRaises(wax.Error) as raised:
+                            getattr(wax, name)(*arguments)
+                        self.assertEqual(raised.exception.number, number)
+                with self.assertRaises(wax.Error) as raised:
+                    getattr(one, name)("\ud800")
+                self.assertEqual(raised.exception.number, 20)
+                for wrong in (None, b"a", ["a"], wax.IgnoreList("a")):
+                    with self.subTest(wrong), self.assertRaises(TypeError):
+                        getattr(one, name)(wrong)
+                for other in ("a", one):
+                    with self.assertRaisesRegex(ValueError, "negative"):
+                        getattr(one, name)(other, most_states=-1)
 
     def test_limits(self):
         with self.assertRaises(wax.Unknown) as raised:
@@ -585,6 +619,76 @@ class Ignoring(unittest.TestCase):
             ignored = wax.IgnoreList(text)
             with self.subTest(text):
                 self.assertEqual([it for it in true_for + false_for if ignored.excludes_below(it)], true_for)
+
+    def test_lines(self):
+        for text, idle, tidied in [
+            ("", [], ""),
+            ("# none\n\n", [], "# none\n\n"),
+            ("a\nb", [], "a\nb"),
+            ("docs/*.o\n!keep.c\n**/*.o\n", [0, 1], "**/*.o\n"),
+            ("# built\r\n**/*.o\r\n\r\ndocs/a\r\n!docs/a", [1], "# built\r\n**/*.o\r\n\r"),
+            ("a\na\n\na\n", [0, 1], "\na\n"),
+            ("!a\n/b\n", [0, 1], ""),
+        ]:
+            ignored = wax.IgnoreList(text)
+            with self.subTest(text):
+                self.assertEqual((ignored.idle_lines(), ignored.undecided_lines()), (idle, []))
+                self.assertEqual(ignored.tidied(), wax.IgnoreList(tidied))
+                self.assertIsNone(ignored.tidied().compare(ignored))
+        ignored = wax.IgnoreList("docs/*.o\n# none\n**/*.o\n")
+        self.assertEqual((ignored.idle_lines(most_states=0), ignored.undecided_lines(most_states=0)), ([], [0, 1]))
+        self.assertEqual(ignored.tidied(most_states=0), ignored)
+        for call in (ignored.idle_lines, ignored.undecided_lines, ignored.tidied):
+            with self.assertRaisesRegex(ValueError, "negative"):
+                call(most_states=-1)
+            with self.assertRaises(TypeError):
+                call(1000)
+
+    def test_compared(self):
+        first, second = wax.IgnoreList("**/*.log\n!keep.log\n"), wax.IgnoreList("**/*.log\n")
+        self.assertEqual((first.difference(second), second.difference(first)), (None, "keep.log"))
+        self.assertEqual((first.compare(second), second.compare(first)), ("keep.log", "keep.log"))
+        self.assertEqual((first.overlap(second), first.overlap(first)), (".log", ".log"))
+        self.assertIsNone(wax.IgnoreList("!a\n").overlap(first))
+        self.assertIsNone(first.compare(wax.IgnoreList("!a\n**/{?,a}*.log\n**/.log\n!keep.log\n")))
+        for call in (first.overlap, first.difference, first.compare):
+            with self.assertRaises(wax.Unknown) as raised:
+                call(second, most_states=0)
+            self.assertEqual(raised.exception.most_states, 0)
+            with self.assertRaisesRegex(ValueError, "negative"):
+                call(first, most_states=-1)
+            for wrong in (None, "a", wax.Glob("a")):
+                with self.assertRaisesRegex(TypeError, "an ignore list is compared with another one"):
+                    call(wrong)
+
+    def test_compared_at_random(self):
+        """Over all short paths, a path that is found is a shortest one, and there is none if none is found."""
+        draws = random.Random(78)
+        names = ["".join(letters) for length in (1, 2) for letters in itertools.product("ab.", repeat=length)]
+        paths = sorted([*names, *(f"{one}/{other}" for one in names[:3] for other in names[:3])], key=len)
+        globs = ["a", "b", "*", "**/a", "a*", "*b", "a/**", "*/b", "**/.*", "[ab]", "?", "{a,b}/a", "**"]
+        found = 0
+        for _ in range(300):
+            one, other = (
+                wax.IgnoreList("".join(f"{draws.choice(['', '', '!'])}{draws.choice(globs)}\n" for _ in range(draws.randrange(5))))
+                for _ in range(2)
+            )
+            for name, wanted in [
+                ("overlap", lambda a, b: a and b),
+                ("difference", lambda a, b: a and not b),
+                ("compare", lambda a, b: a != b),
+            ]:
+                path = getattr(one, name)(other)
+                least = next((it for it in paths if wanted(one.is_ignored(it), other.is_ignored(it))), None)
+                with self.subTest((name, one, other)):
+                    if path is None:
+                        self.assertIsNone(least)
+                        continue
+                    found += 1
+                    self.assertTrue(wanted(one.is_ignored(path), other.is_ignored(path)))
+                    self.assertTrue(least is None or len(path) <= len(least))
+            self.assertIsNone(one.compare(one.tidied()))
+        self.assertGreater(found, 300)
 
     def test_deciding_line(self):
         ignored = wax.IgnoreList("# logs\n**/*.log\n\n!x/**\nbuilt/**\n")
@@ -790,9 +894,11 @@ def using(it):
     if isinstance(it, wax.Glob):
         calls += [it.matched, lambda _: it.partition(), lambda _: str(it)]
     if isinstance(it, (wax.Glob, wax.GlobSet)):
-        calls += [it.overlap, lambda path: wax.GlobSet([path]).overlap(it)]
+        calls += [it.overlap, it.difference, it.compare, lambda path: wax.GlobSet([path]).overlap(it)]
     if isinstance(it, wax.IgnoreList):
-        calls += [it.deciding_line]
+        calls += [it.deciding_line, lambda _: it.idle_lines(), lambda _: it.undecided_lines(), lambda _: it.tidied()]
+        others = [it.overlap, it.difference, it.compare]
+        calls += [lambda path, call=call: call(wax.IgnoreList(path)) for call in others]
     return calls + ([it.matches] if isinstance(it, wax.GlobSet) else [])
 
 
@@ -1293,6 +1399,7 @@ class Memory(unittest.TestCase):
         """Makes each call of the library, and returns what the calls return."""
         glob = self.wax.Glob("src/**/*.{rs,toml}")
         ignored = self.wax.IgnoreList("**/*.log\n!x/**\n")
+        others = self.wax.IgnoreList("**/*.log\n")
         patterns = self.wax.GlobSet(["src/**", "**/*.rs"])
         prefix, rest = glob.partition()
         copied = copy.copy(self.wax.Glob("a/?").partition()[1])
@@ -1308,6 +1415,9 @@ class Memory(unittest.TestCase):
             (copied.expression, copied.is_match("b"), ignored.deciding_line("x/a.log")),
             (self.wax.overlap("a/*", "*/b"), self.wax.difference("a/*", "*/b"), self.wax.compare("a/*", "a/*")),
             (patterns.overlap(patterns), patterns.overlap("**/b.*"), copied.overlap(self.wax.Glob("é"))),
+            (patterns.difference("src/*"), patterns.compare("{src/**,**/*.rs}"), rest.difference("**"), rest.compare(glob)),
+            (ignored.idle_lines(), ignored.undecided_lines(most_states=0), ignored.tidied().text),
+            (ignored.overlap(others), ignored.difference(others), others.compare(ignored)),
         )
 
     def run_with(self, number):
@@ -1326,6 +1436,9 @@ class Memory(unittest.TestCase):
             ("?", True, 1),
             ("a/b", "a/a", None),
             ("src", "b.rs", "é"),
+            ("src", None, None, ".rs"),
+            ([], [0, 1], "**/*.log\n!x/**\n"),
+            (".log", None, "x/.log"),
         )
         self.assertEqual(self.run_with(0), wanted)
         requests = self.refusing.wax_requests()

@@ -11,7 +11,7 @@
     True
 
 `walk` yields the files and folders that a glob matches. `overlap`, `difference` and `compare` find a path by which two
-globs differ, or that both match; `overlap` takes sets, too.
+globs or sets differ, or that both match; an `IgnoreList` has methods of these names.
 
     >>> print(overlap("src/**/*.{go,rs}", "**/test_*"), difference("src/*.go", "src/**/*.{go,rs}"))
     src/test_.go None
@@ -164,17 +164,17 @@ class LineError(Error):
 
 
 class Unknown(Exception):
-    """Raised by `overlap`, `difference` and `compare` if they don't decide within their limit. `most_states` is the limit.
+    """Raised by comparisons if they don't decide within their limit. `most_states` is the limit.
 
         >>> try:
         ...     overlap("**/*a<?:20>", "**/*b<?:20>", most_states=1000)
         ... except Unknown as unknown:
         ...     print(f"{unknown}: {unknown.most_states}")
-        comparing the globs takes more than 1000 states: 1000
+        the comparison takes more than 1000 states: 1000
     """
 
     def __init__(self, most_states: int) -> None:
-        super().__init__(f"comparing the globs takes more than {most_states} states")
+        super().__init__(f"the comparison takes more than {most_states} states")
         self.most_states = most_states
 
     def __reduce__(self) -> Tuple[Any, ...]:
@@ -219,6 +219,8 @@ def _loaded(library: ctypes.CDLL, keeps_lock: bool) -> ctypes.CDLL:
     warnings = ctypes.POINTER(_Warning)
     output: List[Any] = [handle, size, sizes]
     two: List[Any] = [text, size, text, size, size, *output, sizes, spans]
+    two_handles: List[Any] = [handle, handle, size, *output]
+    lines: List[Any] = [handle, size, sizes, size, sizes]
     calls: List[Tuple[str, Any, List[Any]]] = [
         ("wax_escape", number, [text, size, *output]),
         ("wax_picture", number, [text, size, *output]),
@@ -237,15 +239,25 @@ def _loaded(library: ctypes.CDLL, keeps_lock: bool) -> ctypes.CDLL:
         ("wax_glob_expression", number, [handle, *output]),
         ("wax_glob_text", number, [handle, *output]),
         ("wax_glob_partition", number, [handle, *output, handles]),
-        ("wax_glob_overlap", number, [handle, handle, size, *output]),
+        ("wax_glob_overlap", number, two_handles),
+        ("wax_glob_difference", number, two_handles),
+        ("wax_glob_compare", number, two_handles),
         ("wax_glob_free", None, [handle]),
         ("wax_set_matches", number, [handle, text, size, sizes, size, sizes]),
         ("wax_set_facts", number, [handle, facts]),
         ("wax_set_text", number, [handle, *output]),
-        ("wax_set_overlap", number, [handle, handle, size, *output]),
+        ("wax_set_overlap", number, two_handles),
+        ("wax_set_difference", number, two_handles),
+        ("wax_set_compare", number, two_handles),
         ("wax_set_free", None, [handle]),
         ("wax_ignore_filter", number, [handle, text, size, *output]),
         ("wax_ignore_deciding_line", number, [handle, text, size, sizes]),
+        ("wax_ignore_idle_lines", number, lines),
+        ("wax_ignore_undecided_lines", number, lines),
+        ("wax_ignore_tidy", number, lines),
+        ("wax_ignore_overlap", number, two_handles),
+        ("wax_ignore_difference", number, two_handles),
+        ("wax_ignore_compare", number, two_handles),
         ("wax_ignore_free", None, [handle]),
     ]
     for name, result, arguments in of_handles if keeps_lock else calls:
@@ -372,39 +384,43 @@ def overlap(first: Pattern, second: Pattern, *, most_states: int = MOST_STATES) 
         >>> overlap(GlobSet(["src/**", "*.md"]), "**/R*")
         'R.md'
     """
-    # no call takes a handle twice; what an object has in common with itself, it has in common with `**`
-    if isinstance(first, GlobSet) or isinstance(second, GlobSet):
-        own, others = _set_of(first), _set_of(second)
-        return _common(_using.wax_set_overlap, own, GlobSet(["**"]) if own is others else others, most_states)
-    if _is_rest(first) or _is_rest(second):
-        one, other = _glob_of(first), _glob_of(second)
-        return _common(_using.wax_glob_overlap, one, Glob("**") if one is other else other, most_states)
-    return _compared(_library.wax_overlap, first, second, most_states)
+    return _found("overlap", first, second, most_states)
 
 
-def difference(first: Union[str, Glob], second: Union[str, Glob], *, most_states: int = MOST_STATES) -> Optional[str]:
+def difference(first: Pattern, second: Pattern, *, most_states: int = MOST_STATES) -> Optional[str]:
     """Returns a shortest path that the first matches and the second doesn't. It is None if the second matches all that
-    the first does. Each is an expression or a `Glob`, but no rest that `partition` returned. The paths, the limit and the
-    errors are those of `overlap`, and a rest raises `ValueError`.
+    the first does. The arguments, paths and errors are those of `overlap`.
 
         >>> difference("**/*.rs", "src/**")
         '.rs'
         >>> difference("src/*.go", "src/**/*.{go,rs}") is None
         True
+        >>> difference(GlobSet(["*.rs", "*.md"]), "*.rs")
+        '.md'
     """
-    return _compared(_library.wax_difference, first, second, most_states)
+    return _found("difference", first, second, most_states)
 
 
-def compare(first: Union[str, Glob], second: Union[str, Glob], *, most_states: int = MOST_STATES) -> Optional[str]:
+def compare(first: Pattern, second: Pattern, *, most_states: int = MOST_STATES) -> Optional[str]:
     """Returns a shortest path that exactly one of both matches, or None if both match the same paths. The arguments, paths
-    and errors are those of `difference`.
+    and errors are those of `overlap`.
 
         >>> compare("{src,tests}/**/*.rs", "{src,tests,benches}/**/*.rs")
         'benches/.rs'
-        >>> compare("**/{a,b}", "{**/a,**/b}") is None
+        >>> compare("**/{a,b}", GlobSet(["**/a", "**/b"])) is None
         True
     """
-    return _compared(_library.wax_compare, first, second, most_states)
+    return _found("compare", first, second, most_states)
+
+
+def _found(call: str, first: Pattern, second: Pattern, most_states: int) -> Optional[str]:
+    """Returns what a call finds of two patterns: of two sets if one is a set, of two handles of globs if one is a rest, and
+    otherwise of two expressions."""
+    if isinstance(first, GlobSet) or isinstance(second, GlobSet):
+        return _of_handles("set", call, _set_of(first), _set_of(second), most_states)
+    if _is_rest(first) or _is_rest(second):
+        return _of_handles("glob", call, _glob_of(first), _glob_of(second), most_states)
+    return _compared(getattr(_library, f"wax_{call}"), first, second, most_states)
 
 
 def _compared(function: Any, first: Union[str, Glob], second: Union[str, Glob], most_states: int) -> Optional[str]:
@@ -423,10 +439,25 @@ def _compared(function: Any, first: Union[str, Glob], second: Union[str, Glob], 
     return _finding(_written(function, *arguments, room=4096, out=out, refused=refused), most_states)
 
 
-def _common(function: Any, first: _Held, second: _Held, most_states: int) -> Optional[str]:
-    """Returns what a call finds of two handles, which are different ones."""
+def _of_handles(kind: str, call: str, first: _Held, second: _Held, most_states: int) -> Optional[str]:
+    """Returns what a call finds of two objects of a kind."""
     most = _limit(most_states)
+    if first is second:
+        # no call takes a handle twice; what an object has in common with itself, it has in common with `**`
+        if call != "overlap":
+            return None
+        second = _everything(kind)
+    function = getattr(_using, f"wax_{kind}_{call}")
     return _finding(_written(function, first._handle, second._handle, most, room=4096), most_states)
+
+
+def _everything(kind: str) -> _Held:
+    """Returns an object of a kind that matches, or ignores, all paths."""
+    if kind == "set":
+        return GlobSet(["**"])
+    if kind == "glob":
+        return Glob("**")
+    return IgnoreList("**")
 
 
 def _limit(most_states: int) -> int:
@@ -884,16 +915,18 @@ class Glob(_Value, _Queried):
         """
         return overlap(self, other, most_states=most_states)
 
-    def difference(self, other: Union[str, Glob], *, most_states: int = MOST_STATES) -> Optional[str]:
-        """Returns a shortest path that this glob matches and another one doesn't, or None, as `difference` does.
+    def difference(self, other: Pattern, *, most_states: int = MOST_STATES) -> Optional[str]:
+        """Returns a shortest path that this glob matches and an expression, another glob or a set doesn't, or None, as
+        `difference` does.
 
             >>> Glob("src/*.rs").difference(Glob("src/**")) is None
             True
         """
         return difference(self, other, most_states=most_states)
 
-    def compare(self, other: Union[str, Glob], *, most_states: int = MOST_STATES) -> Optional[str]:
-        """Returns a shortest path that exactly one of this and another glob matches, or None, as `compare` does.
+    def compare(self, other: Pattern, *, most_states: int = MOST_STATES) -> Optional[str]:
+        """Returns a shortest path that exactly one of this glob and an expression, another glob or a set matches, or None,
+        as `compare` does.
 
             >>> Glob("a/**").compare("a/*")
             'a'
@@ -904,7 +937,7 @@ class Glob(_Value, _Queried):
         """Returns the expression, or raises ValueError for a rest, which has none of its own."""
         whole, partitions = self._source()
         if partitions:
-            raise ValueError("the rest of a partition has only an overlap with globs")
+            raise ValueError("the rest of a partition is compared only with globs")
         return str(whole)
 
     def _expressions(self) -> Sequence[Optional[str]]:
@@ -1004,6 +1037,24 @@ class GlobSet(_Value, _Queried):
         """
         return overlap(self, other, most_states=most_states)
 
+    def difference(self, other: Pattern, *, most_states: int = MOST_STATES) -> Optional[str]:
+        """Returns a shortest path that this set matches and an expression, a glob or another set doesn't, or None, as
+        `difference` does.
+
+            >>> GlobSet(["src/*.go", "src/*.rs"]).difference("src/**") is None
+            True
+        """
+        return difference(self, other, most_states=most_states)
+
+    def compare(self, other: Pattern, *, most_states: int = MOST_STATES) -> Optional[str]:
+        """Returns a shortest path that exactly one of this set and an expression, a glob or another set matches, or None, as
+        `compare` does.
+
+            >>> GlobSet(["*.go", "*.rs"]).compare("*.{rs,go}") is None
+            True
+        """
+        return compare(self, other, most_states=most_states)
+
     def _expressions(self) -> Sequence[Optional[str]]:
         return self.expressions
 
@@ -1075,6 +1126,91 @@ class IgnoreList(_Value, _IgnoreBase):
         if status < 0:
             _raise(-status)
         return line.value if status else None
+
+    def idle_lines(self, *, most_states: int = MOST_STATES) -> List[int]:
+        """Returns the indexes of the lines that decide nothing, ascending, counted as for `deciding_line`. Without them, the
+        list ignores the same paths, among the paths as walks have them: one or more names, with a `/` between each two.
+
+        Each other line decides such a path, except those that `undecided_lines` returns for the same `most_states`, which is
+        the greatest number of states that a comparison of a line with others may take.
+
+        Raises `MemoryError` if an allocation fails.
+
+            >>> IgnoreList("docs/*.o\\n!keep.c\\n**/*.o\\n").idle_lines()
+            [0, 1]
+        """
+        return self._lines(_using.wax_ignore_idle_lines, most_states)
+
+    def undecided_lines(self, *, most_states: int = MOST_STATES) -> List[int]:
+        """Returns the indexes of the lines of which `idle_lines` doesn't find out whether they decide a path.
+
+        Raises `MemoryError` if an allocation fails.
+
+            >>> ignored = IgnoreList("docs/*.o\\n**/*.o\\n")
+            >>> ignored.undecided_lines(), ignored.undecided_lines(most_states=1)
+            ([], [0, 1])
+        """
+        return self._lines(_using.wax_ignore_undecided_lines, most_states)
+
+    def tidied(self, *, most_states: int = MOST_STATES) -> IgnoreList:
+        """Returns a list of the same text without lines that decide nothing. It ignores the same paths of walks. Without some
+        lines others may decide nothing, too, so it removes lines until each that is left decides a path, except those of which
+        this takes more than `most_states` states to find out. Lines that are empty or begin with `#` stay.
+
+        Raises `MemoryError` if an allocation fails.
+
+            >>> IgnoreList("# built\\n**/*.o\\ndocs/a\\n!docs/a\\n").tidied()
+            IgnoreList('# built\\n**/*.o\\n')
+        """
+        enough, numbers = set(self._lines(_using.wax_ignore_tidy, most_states)), itertools.count()
+        lines = self.text.split("\n")
+        return IgnoreList("\n".join(line for line in lines if _is_skipped(line) or next(numbers) in enough))
+
+    def _lines(self, function: Any, most_states: int) -> List[int]:
+        """Returns the indexes that a call finds."""
+        most, count, room = _limit(most_states), ctypes.c_size_t(), self.text.count("\n") + 1
+        lines = (ctypes.c_size_t * room)()
+        status: int = function(self._handle, most, lines, room, ctypes.byref(count))
+        if status < 0:
+            _raise(-status)
+        return lines[: count.value]
+
+    def overlap(self, other: IgnoreList, *, most_states: int = MOST_STATES) -> Optional[str]:
+        """Returns a shortest path of walks that both lists ignore, or None if there is none. The limit and the errors are
+        those of the function `overlap`.
+
+            >>> IgnoreList("src/**\\n!src/a\\n").overlap(IgnoreList("*/a\\n*/bc\\n"))
+            'src/bc'
+        """
+        return self._found("overlap", other, most_states)
+
+    def difference(self, other: IgnoreList, *, most_states: int = MOST_STATES) -> Optional[str]:
+        """Returns a shortest path of walks that this list ignores and another one doesn't, or None if the other one ignores
+        all that this one does. The limit and the errors are those of the function `overlap`.
+
+            >>> IgnoreList("**/*.log\\n").difference(IgnoreList("**/*.log\\n!keep.log\\n"))
+            'keep.log'
+        """
+        return self._found("difference", other, most_states)
+
+    def compare(self, other: IgnoreList, *, most_states: int = MOST_STATES) -> Optional[str]:
+        """Returns a shortest path of walks that exactly one of both lists ignores, or None if both ignore the same. The limit
+        and the errors are those of the function `overlap`.
+
+            >>> IgnoreList("a\\nb\\n").compare(IgnoreList("{a,b}\\n")) is None
+            True
+        """
+        return self._found("compare", other, most_states)
+
+    def _found(self, call: str, other: IgnoreList, most_states: int) -> Optional[str]:
+        if not isinstance(other, IgnoreList):
+            raise TypeError("an ignore list is compared with another one")
+        return _of_handles("ignore", call, self, other, most_states)
+
+
+def _is_skipped(line: str) -> bool:
+    """Returns whether a line of an ignore list has no glob."""
+    return line in ("", "\r") or line.startswith("#")
 
 
 class Entry:

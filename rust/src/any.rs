@@ -5,7 +5,7 @@ use std::fmt::{self, Debug, Formatter};
 use std::sync::Arc;
 
 use crate::query::{depth_between, only_text, when, DepthVariance, TextVariance, When};
-use crate::sys::{self, Facts, Handle};
+use crate::sys::{self, Compared, Facts, Handle};
 use crate::{BuildError, CandidatePath, Comparison, Glob, MatchedText, Pattern, Program};
 
 /// A set of patterns, built by [`any`]. It matches a path if one of them does.
@@ -73,7 +73,7 @@ impl<'t> Any<'t> {
         } else {
             &other.set
         };
-        let found = self.set.overlap(set, most_states);
+        let found = self.set.compared(sys::Set::OVERLAP, set, most_states);
         let mut found = found.map_err(BuildError::without_place)?;
         for rest in self.rests() {
             for glob in &other.globs {
@@ -86,6 +86,61 @@ impl<'t> Any<'t> {
             }
         }
         Ok(found)
+    }
+
+    /// Finds a shortest path that this set matches and another one doesn't, among the same paths and within the same limit as
+    /// [`Any::overlap`] finds one that both match. The result is `Unknown` if one of the sets has the rest of a partition.
+    ///
+    /// ```
+    /// use wax::{any, Comparison, MOST_STATES};
+    ///
+    /// let (old, new) = (any(["*.rs", "*.md"]).unwrap(), any(["*.{rs,toml}"]).unwrap());
+    /// let found = old.difference(&new, MOST_STATES).unwrap();
+    /// assert_eq!(found, Comparison::Text(".md".to_string()));
+    /// ```
+    ///
+    /// # Errors
+    ///
+    /// Returns an error if memory ran out.
+    pub fn difference(
+        &self,
+        other: &Any<'_>,
+        most_states: usize,
+    ) -> Result<Comparison, BuildError> {
+        self.differs(sys::Set::DIFFERENCE, other, most_states)
+    }
+
+    /// Finds a shortest path that exactly one of both sets matches, as [`Any::difference`] finds one that only the first one
+    /// matches. If there is none, both match the same.
+    ///
+    /// ```
+    /// use wax::{any, Comparison, MOST_STATES};
+    ///
+    /// let (old, new) = (any(["*.rs", "*.md"]).unwrap(), any(["*.{md,rs}"]).unwrap());
+    /// assert_eq!(old.compare(&new, MOST_STATES).unwrap(), Comparison::Nothing);
+    /// ```
+    ///
+    /// # Errors
+    ///
+    /// Returns an error if memory ran out.
+    pub fn compare(&self, other: &Any<'_>, most_states: usize) -> Result<Comparison, BuildError> {
+        self.differs(sys::Set::COMPARE, other, most_states)
+    }
+
+    fn differs(
+        &self,
+        call: sys::CompareHandles<sys::Set>,
+        other: &Any<'_>,
+        most_states: usize,
+    ) -> Result<Comparison, BuildError> {
+        if Arc::ptr_eq(&self.set, &other.set) {
+            return Ok(Comparison::Nothing);
+        }
+        if self.rests().chain(other.rests()).next().is_some() {
+            return Ok(Comparison::Unknown);
+        }
+        let found = self.set.compared(call, &other.set, most_states);
+        found.map_err(BuildError::without_place)
     }
 
     pub(crate) fn globs(&self) -> &[Glob<'t>] {

@@ -10,7 +10,7 @@ use std::sync::Arc;
 use crate::query::{
     depth_between, only_text, when, CapturingToken, DepthVariance, TextVariance, When,
 };
-use crate::sys::{self, Handle};
+use crate::sys::{self, Compared, Handle};
 use crate::{BuildError, CandidatePath, Comparison, MatchedText, Pattern, Program, Warning};
 
 /// A glob: build it once, to match many paths.
@@ -192,7 +192,59 @@ impl<'t> Glob<'t> {
         } else {
             &other.handle
         };
-        let found = self.handle.overlap(other, most_states);
+        let found = self.handle.compared(sys::Glob::OVERLAP, other, most_states);
+        found.map_err(BuildError::without_place)
+    }
+
+    /// Finds a shortest path that this glob matches and another one doesn't, as [`Glob::overlap`] finds one that both match.
+    ///
+    /// ```
+    /// use wax::{Comparison, Glob, MOST_STATES};
+    ///
+    /// let (go, sources) = (Glob::new("src/*.go").unwrap(), Glob::new("src/**/*.{go,rs}").unwrap());
+    /// assert_eq!(go.difference(&sources, MOST_STATES).unwrap(), Comparison::Nothing);
+    /// let found = sources.difference(&go, MOST_STATES).unwrap();
+    /// assert_eq!(found, Comparison::Text("src/.rs".to_string()));
+    /// ```
+    ///
+    /// # Errors
+    ///
+    /// Returns an error if memory ran out.
+    pub fn difference(
+        &self,
+        other: &Glob<'_>,
+        most_states: usize,
+    ) -> Result<Comparison, BuildError> {
+        self.differs(sys::Glob::DIFFERENCE, other, most_states)
+    }
+
+    /// Finds a shortest path that exactly one of both globs matches, as [`Glob::overlap`] finds one that both match. If there is
+    /// none, both match the same.
+    ///
+    /// ```
+    /// use wax::{Comparison, Glob, MOST_STATES};
+    ///
+    /// let (one, other) = (Glob::new("**/{a,b}").unwrap(), Glob::new("{**/a,**/b}").unwrap());
+    /// assert_eq!(one.compare(&other, MOST_STATES).unwrap(), Comparison::Nothing);
+    /// ```
+    ///
+    /// # Errors
+    ///
+    /// Returns an error if memory ran out.
+    pub fn compare(&self, other: &Glob<'_>, most_states: usize) -> Result<Comparison, BuildError> {
+        self.differs(sys::Glob::COMPARE, other, most_states)
+    }
+
+    fn differs(
+        &self,
+        call: sys::CompareHandles<sys::Glob>,
+        other: &Glob<'_>,
+        most_states: usize,
+    ) -> Result<Comparison, BuildError> {
+        if Arc::ptr_eq(&self.handle, &other.handle) {
+            return Ok(Comparison::Nothing);
+        }
+        let found = self.handle.compared(call, &other.handle, most_states);
         found.map_err(BuildError::without_place)
     }
 

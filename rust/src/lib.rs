@@ -12,7 +12,8 @@
 //! ```
 //!
 //! The module [`walk`] finds the files that a glob matches. [`overlap`], [`difference`] and [`compare`] compare two expressions by
-//! the paths that they match; [`Glob::overlap`] and [`Any::overlap`] take what is built. The README of this crate lists its differences from wax 0.7.0.
+//! the paths that they match; the methods of these names of [`Glob`], [`Any`] and [`walk::IgnoreList`] take what is built. The README
+//! of this crate lists its differences from wax 0.7.0.
 
 #![warn(missing_docs, unsafe_op_in_unsafe_fn)]
 

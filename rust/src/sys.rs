@@ -163,6 +163,22 @@ mod c {
             room: usize,
             written: *mut usize,
         ) -> i32;
+        pub fn wax_glob_difference(
+            first: *const Glob,
+            second: *const Glob,
+            most_states: usize,
+            output: *mut u8,
+            room: usize,
+            written: *mut usize,
+        ) -> i32;
+        pub fn wax_glob_compare(
+            first: *const Glob,
+            second: *const Glob,
+            most_states: usize,
+            output: *mut u8,
+            room: usize,
+            written: *mut usize,
+        ) -> i32;
         pub fn wax_glob_free(glob: *mut Glob);
 
         pub fn wax_set_new(
@@ -191,6 +207,22 @@ mod c {
             room: usize,
             written: *mut usize,
         ) -> i32;
+        pub fn wax_set_difference(
+            first: *const Set,
+            second: *const Set,
+            most_states: usize,
+            output: *mut u8,
+            room: usize,
+            written: *mut usize,
+        ) -> i32;
+        pub fn wax_set_compare(
+            first: *const Set,
+            second: *const Set,
+            most_states: usize,
+            output: *mut u8,
+            room: usize,
+            written: *mut usize,
+        ) -> i32;
         pub fn wax_set_free(set: *mut Set);
 
         pub fn wax_ignore_new(
@@ -204,6 +236,57 @@ mod c {
             list: *const Ignore,
             folder: *const u8,
             length: usize,
+        ) -> i32;
+        pub fn wax_ignore_deciding_line(
+            list: *const Ignore,
+            path: *const u8,
+            length: usize,
+            line: *mut usize,
+        ) -> i32;
+        pub fn wax_ignore_idle_lines(
+            list: *const Ignore,
+            most_states: usize,
+            lines: *mut usize,
+            room: usize,
+            count: *mut usize,
+        ) -> i32;
+        pub fn wax_ignore_undecided_lines(
+            list: *const Ignore,
+            most_states: usize,
+            lines: *mut usize,
+            room: usize,
+            count: *mut usize,
+        ) -> i32;
+        pub fn wax_ignore_tidy(
+            list: *const Ignore,
+            most_states: usize,
+            lines: *mut usize,
+            room: usize,
+            count: *mut usize,
+        ) -> i32;
+        pub fn wax_ignore_overlap(
+            first: *const Ignore,
+            second: *const Ignore,
+            most_states: usize,
+            output: *mut u8,
+            room: usize,
+            written: *mut usize,
+        ) -> i32;
+        pub fn wax_ignore_difference(
+            first: *const Ignore,
+            second: *const Ignore,
+            most_states: usize,
+            output: *mut u8,
+            room: usize,
+            written: *mut usize,
+        ) -> i32;
+        pub fn wax_ignore_compare(
+            first: *const Ignore,
+            second: *const Ignore,
+            most_states: usize,
+            output: *mut u8,
+            room: usize,
+            written: *mut usize,
         ) -> i32;
         pub fn wax_ignore_free(list: *mut Ignore);
     }
@@ -230,6 +313,43 @@ pub type Compare = unsafe extern "C" fn(
 pub const OVERLAP: Compare = c::wax_overlap;
 pub const DIFFERENCE: Compare = c::wax_difference;
 pub const COMPARE: Compare = c::wax_compare;
+
+/// A function of the library that compares what two handles point to.
+pub type CompareHandles<T> =
+    unsafe extern "C" fn(*const T, *const T, usize, *mut u8, usize, *mut usize) -> i32;
+
+/// A type of handles that are compared.
+pub trait Compared: Free + Sized {
+    const OVERLAP: CompareHandles<Self>;
+    const DIFFERENCE: CompareHandles<Self>;
+    const COMPARE: CompareHandles<Self>;
+}
+
+impl Compared for Glob {
+    const OVERLAP: CompareHandles<Self> = c::wax_glob_overlap;
+    const DIFFERENCE: CompareHandles<Self> = c::wax_glob_difference;
+    const COMPARE: CompareHandles<Self> = c::wax_glob_compare;
+}
+
+impl Compared for Set {
+    const OVERLAP: CompareHandles<Self> = c::wax_set_overlap;
+    const DIFFERENCE: CompareHandles<Self> = c::wax_set_difference;
+    const COMPARE: CompareHandles<Self> = c::wax_set_compare;
+}
+
+impl Compared for Ignore {
+    const OVERLAP: CompareHandles<Self> = c::wax_ignore_overlap;
+    const DIFFERENCE: CompareHandles<Self> = c::wax_ignore_difference;
+    const COMPARE: CompareHandles<Self> = c::wax_ignore_compare;
+}
+
+/// A function of the library that finds lines of an ignore list.
+pub type FindLines =
+    unsafe extern "C" fn(*const Ignore, usize, *mut usize, usize, *mut usize) -> i32;
+
+pub const IDLE_LINES: FindLines = c::wax_ignore_idle_lines;
+pub const UNDECIDED_LINES: FindLines = c::wax_ignore_undecided_lines;
+pub const TIDY: FindLines = c::wax_ignore_tidy;
 
 /// Why an expression isn't built: the number of the error, and its place.
 pub struct Failure {
@@ -320,6 +440,27 @@ impl<T: Free> Handle<T> {
 impl<T: Free> Debug for Handle<T> {
     fn fmt(&self, f: &mut Formatter<'_>) -> fmt::Result {
         f.debug_struct("Handle").finish_non_exhaustive()
+    }
+}
+
+impl<T: Compared> Handle<T> {
+    /// Returns what a function finds of this handle and another one. The two are different handles.
+    ///
+    /// # Errors
+    ///
+    /// Returns the number of the error.
+    pub fn compared(
+        &self,
+        call: CompareHandles<T>,
+        other: &Self,
+        most_states: usize,
+    ) -> Result<Comparison, i32> {
+        found(|output, room, written| {
+            // SAFETY: the output has this length, the two are different, and no other call uses them.
+            self.with_both(other, |one, two| unsafe {
+                call(one, two, most_states, output, room, written)
+            })
+        })
     }
 }
 
@@ -429,20 +570,6 @@ impl Handle<Glob> {
         });
         (prefix, Handle::from_library(rest))
     }
-
-    /// Returns what is found that this glob and another one match. The two are different handles.
-    ///
-    /// # Errors
-    ///
-    /// Returns the number of the error.
-    pub fn overlap(&self, other: &Self, most_states: usize) -> Result<Comparison, i32> {
-        found(|output, room, written| {
-            // SAFETY: the output has this length, the two are different, and no other call uses them.
-            self.with_both(other, |one, two| unsafe {
-                c::wax_glob_overlap(one, two, most_states, output, room, written)
-            })
-        })
-    }
 }
 
 impl Handle<Set> {
@@ -496,20 +623,6 @@ impl Handle<Set> {
         });
         is_one.then_some(text)
     }
-
-    /// Returns what is found that this set and another one match. The two are different handles.
-    ///
-    /// # Errors
-    ///
-    /// Returns the number of the error.
-    pub fn overlap(&self, other: &Self, most_states: usize) -> Result<Comparison, i32> {
-        found(|output, room, written| {
-            // SAFETY: the output has this length, the two are different, and no other call uses them.
-            self.with_both(other, |one, two| unsafe {
-                c::wax_set_overlap(one, two, most_states, output, room, written)
-            })
-        })
-    }
 }
 
 impl Handle<Ignore> {
@@ -538,6 +651,45 @@ impl Handle<Ignore> {
         decided(self.with(|list| unsafe {
             c::wax_ignore_excludes_below(list, folder.as_ptr(), folder.len())
         }))
+    }
+
+    /// Returns the index of the last line that matches the path, or `None` if no line does.
+    pub fn deciding_line(&self, path: &str) -> Option<usize> {
+        let mut line = 0;
+        // SAFETY: the path has this length, the call may write to `line`, and no other call uses the handle.
+        let status = self.with(|list| unsafe {
+            c::wax_ignore_deciding_line(list, path.as_ptr(), path.len(), &mut line)
+        });
+        decided(status).then_some(line)
+    }
+
+    /// Returns the indexes of the lines that a function finds.
+    ///
+    /// # Errors
+    ///
+    /// Returns the number of the error.
+    pub fn lines(&self, call: FindLines, most_states: usize) -> Result<Vec<usize>, i32> {
+        let mut count = 8;
+        loop {
+            let mut lines = vec![0; count];
+            // SAFETY: the list has this length, and no other call uses the handle.
+            let status = self.with(|list| unsafe {
+                call(
+                    list,
+                    most_states,
+                    lines.as_mut_ptr(),
+                    lines.len(),
+                    &mut count,
+                )
+            });
+            if status >= 0 {
+                lines.truncate(count);
+                return Ok(lines);
+            }
+            if status != NO_ROOM {
+                return Err(-status);
+            }
+        }
     }
 }
 

@@ -1,9 +1,10 @@
-//! What two globs or two sets have in common, by their handles.
+//! Comparisons of two globs, of two sets and of two ignore lists, by their handles.
 
 use std::thread;
 
 use wax::prelude::*;
-use wax::{any, overlap, Any, Comparison, Glob, MOST_STATES};
+use wax::walk::IgnoreList;
+use wax::{any, compare, difference, overlap, Any, Comparison, Glob, MOST_STATES};
 
 fn glob(expression: &str) -> Glob<'_> {
     Glob::new(expression).unwrap()
@@ -123,6 +124,105 @@ fn sets_with_rests() {
     let found = any([rest("a/?"), glob("b")]).unwrap();
     let found = found.overlap(&set(&["bc", "/b"]), MOST_STATES).unwrap();
     assert_eq!(found, Comparison::Nothing);
+}
+
+#[test]
+fn differences() {
+    for (first, second) in [
+        ("src/**", "**/*.rs"),
+        ("é?", "?è*"),
+        ("{a,b}", "[ab]"),
+        ("/a/**", "a"),
+        ("**/*a<?:20>", "**/*b<?:20>"),
+    ] {
+        let (one, other) = (glob(first), glob(second));
+        let (first_set, second_set) = (set(&[first]), set(&[second]));
+        let wanted = difference(first, second, 1000).unwrap();
+        assert_eq!(one.difference(&other, 1000).unwrap(), wanted);
+        assert_eq!(first_set.difference(&second_set, 1000).unwrap(), wanted);
+        let wanted = compare(first, second, 1000).unwrap();
+        assert_eq!(one.compare(&other, 1000).unwrap(), wanted);
+        assert_eq!(first_set.compare(&second_set, 1000).unwrap(), wanted);
+    }
+    let rest = rest("src/*.rs");
+    let found = rest.difference(&glob("a*"), MOST_STATES).unwrap();
+    assert_eq!(found, Comparison::Text(".rs".to_string()));
+    assert_eq!(rest.compare(&rest, 0).unwrap(), Comparison::Nothing);
+    let both = any([rest, glob("b")]).unwrap();
+    for (one, other) in [(&both, &set(&["b"])), (&set(&["b"]), &both)] {
+        let found = one.difference(other, MOST_STATES).unwrap();
+        assert_eq!(found, Comparison::Unknown);
+        let found = one.compare(other, MOST_STATES).unwrap();
+        assert_eq!(found, Comparison::Unknown);
+    }
+    assert_eq!(both.difference(&both, 0).unwrap(), Comparison::Nothing);
+}
+
+fn list(text: &str) -> IgnoreList {
+    IgnoreList::parse(text).unwrap()
+}
+
+#[test]
+fn lists() {
+    let text = |path: &str| Comparison::Text(path.to_string());
+    let (one, other) = (list("**/*.log\n!keep.log\n"), list("**/*.log\n"));
+    for (call, found, turned) in [
+        (
+            IgnoreList::overlap as fn(&IgnoreList, &IgnoreList, usize) -> _,
+            text(".log"),
+            text(".log"),
+        ),
+        (
+            IgnoreList::difference,
+            Comparison::Nothing,
+            text("keep.log"),
+        ),
+        (IgnoreList::compare, text("keep.log"), text("keep.log")),
+    ] {
+        assert_eq!(call(&one, &other, MOST_STATES).unwrap(), found);
+        assert_eq!(call(&other, &one, MOST_STATES).unwrap(), turned);
+        assert_eq!(call(&one, &other, 0).unwrap(), Comparison::Unknown);
+    }
+    for same in [one.clone(), list(one.text())] {
+        let found = one.overlap(&same, MOST_STATES).unwrap();
+        assert_eq!(found, text(".log"));
+        let found = one.difference(&same, MOST_STATES).unwrap();
+        assert_eq!(found, Comparison::Nothing);
+        let found = one.compare(&same, MOST_STATES).unwrap();
+        assert_eq!(found, Comparison::Nothing);
+    }
+    assert!(one.is_ignored("a.log"));
+}
+
+#[test]
+fn lines() {
+    for (text, idle, tidied) in [
+        ("", vec![], ""),
+        ("# none\n\n", vec![], "# none\n\n"),
+        ("docs/*.o\n!keep.c\n**/*.o\n", vec![0, 1], "**/*.o\n"),
+        (
+            "# built\r\n**/*.o\r\n\r\ndocs/a\r\n!docs/a",
+            vec![1],
+            "# built\r\n**/*.o\r\n\r\n",
+        ),
+        ("a\na\n\na\n", vec![0, 1], "\na\n"),
+    ] {
+        let list = list(text);
+        assert_eq!(list.idle_lines(MOST_STATES).unwrap(), idle, "{text:?}");
+        assert!(list.undecided_lines(MOST_STATES).unwrap().is_empty());
+        let tidy = list.tidied(MOST_STATES).unwrap();
+        assert_eq!(tidy.text(), tidied);
+        let found = tidy.compare(&list, MOST_STATES).unwrap();
+        assert_eq!(found, Comparison::Nothing);
+    }
+    let many = list(&"a\nb\n".repeat(20));
+    let found = many.idle_lines(MOST_STATES).unwrap();
+    assert!(found.into_iter().eq(0..38));
+    let found = many.undecided_lines(0).unwrap();
+    assert!(found.into_iter().eq(0..40));
+    assert_eq!(many.tidied(0).unwrap().text(), many.text());
+    assert_eq!(many.deciding_line("a"), Some(38));
+    assert_eq!(many.deciding_line("c"), None);
 }
 
 #[test]

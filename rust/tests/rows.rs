@@ -250,14 +250,34 @@ fn compared(kind: &str, first: &str, second: &str, most: usize) -> Result<Compar
     }
 }
 
-/// Returns what two globs have in common.
-fn overlap_of_globs(first: &str, second: &str, most: usize) -> Result<Comparison, BuildError> {
-    Glob::new(first)?.overlap(&Glob::new(second)?, most)
+/// Returns what is found of two globs.
+fn compared_globs(
+    kind: &str,
+    first: &str,
+    second: &str,
+    most: usize,
+) -> Result<Comparison, BuildError> {
+    let (one, other) = (Glob::new(first)?, Glob::new(second)?);
+    match kind {
+        "overlap" => one.overlap(&other, most),
+        "difference" => one.difference(&other, most),
+        _ => one.compare(&other, most),
+    }
 }
 
-/// Returns what two sets have in common, each of patterns with spaces between them.
-fn overlap_of_sets(first: &str, second: &str, most: usize) -> Result<Comparison, BuildError> {
-    set(first)?.overlap(&set(second)?, most)
+/// Returns what is found of two sets, each of patterns with spaces between them.
+fn compared_sets(
+    kind: &str,
+    first: &str,
+    second: &str,
+    most: usize,
+) -> Result<Comparison, BuildError> {
+    let (one, other) = (set(first)?, set(second)?);
+    match kind {
+        "overlap" => one.overlap(&other, most),
+        "difference" => one.difference(&other, most),
+        _ => one.compare(&other, most),
+    }
 }
 
 /// Returns what is found, as rows show it.
@@ -272,7 +292,7 @@ fn finding(found: Result<Comparison, BuildError>) -> String {
 
 #[test]
 fn comparisons() {
-    let (mut count, mut overlaps, mut sets) = (0, 0, 0);
+    let (mut count, mut sets) = (0, 0);
     for row in rows("crates/wax_vectors/data/worked_compare.tsv") {
         if row.len() < 6 || row[1] != "paths" {
             continue; // another kind
@@ -280,35 +300,46 @@ fn comparisons() {
         let (kind, first, second, wanted) = (&row[0], &row[3], &row[4], &row[5]);
         let most = row[2].parse().unwrap();
         let is_set = first.contains(' ') || second.contains(' ');
+        let mut calls = vec![compared_sets as fn(&str, &str, &str, usize) -> _];
         if !is_set {
-            assert_eq!(
-                &finding(compared(kind, first, second, most)),
-                wanted,
-                "{row:?}"
-            );
-            count += 1;
+            calls.extend([compared as fn(&str, &str, &str, usize) -> _, compared_globs]);
         }
-        if kind == "overlap" {
-            assert_eq!(
-                &finding(overlap_of_sets(first, second, most)),
-                wanted,
-                "{row:?}"
-            );
-            if !is_set {
-                assert_eq!(
-                    &finding(overlap_of_globs(first, second, most)),
-                    wanted,
-                    "{row:?}"
-                );
-            }
-            overlaps += 1;
-            sets += usize::from(is_set);
+        for call in calls {
+            let found = finding(call(kind, first, second, most));
+            assert_eq!(&found, wanted, "{row:?}");
         }
+        count += usize::from(!is_set);
+        sets += usize::from(is_set);
     }
-    assert!(
-        count > 20 && overlaps > 20 && sets > 3,
-        "only {count}, {overlaps}, {sets} rows"
-    );
+    assert!(count > 40 && sets > 10, "only {count}, {sets} rows");
+}
+
+#[test]
+fn lines_of_lists() {
+    let mut count = 0;
+    for row in rows("crates/wax_vectors/data/worked_compare.tsv") {
+        if row[0] != "idle" || row.len() != 4 {
+            continue; // another kind, or an error
+        }
+        let most = row[1].parse().unwrap();
+        let list = IgnoreList::parse(&row[2]).unwrap();
+        let (undecided, idle): (Vec<_>, Vec<_>) = row[3]
+            .split("; ")
+            .filter_map(|part| part.split_once(' '))
+            .map(|(index, why)| (index.parse::<usize>().unwrap(), why))
+            .partition(|(_, why)| *why == "unknown");
+        let indexes = |lines: Vec<(usize, &str)>| -> Vec<usize> {
+            lines.into_iter().map(|(index, _)| index).collect()
+        };
+        assert_eq!(list.idle_lines(most).unwrap(), indexes(idle), "{row:?}");
+        let found = list.undecided_lines(most).unwrap();
+        assert_eq!(found, indexes(undecided), "{row:?}");
+        let tidy = list.tidied(most).unwrap();
+        let found = tidy.compare(&list, 100_000).unwrap();
+        assert!(!matches!(found, Comparison::Text(_)), "{row:?}");
+        count += 1;
+    }
+    assert!(count > 30, "only {count} rows");
 }
 
 #[test]
