@@ -2,16 +2,10 @@
 use Rattle.std.proofs.Common.{◌≡◌, ◌∙◌, List, ap, false, refl, subst, sym}
 use Rattle.wax_directory.specs.Law.{Law}
 use Rattle.wax_exclude.proofs.Wanting.{comes_excluding}
-use Rattle.wax_exclude.specs.Ignored.{Line, ignore_mark}
-use Rattle.wax_exclude.specs.Marks.{not_mark}
-use Rattle.wax_exclude.specs.GlobRequests.{ComesExcluding}
+use Rattle.wax_exclude.specs.{Ignored.{Line, ignore_mark}, Marks.not_mark, GlobRequests.ComesExcluding}
 use Rattle.wax_exclude.specs.Wanted.{not_ignored, not_meant}
-use Rattle.wax_token.specs.Reads.{Span}
-use Rattle.wax_token.specs.Syntax.{Tree}
-use Rattle.wax_walk.specs.Candidates.{Candidate}
-use Rattle.wax_walk.specs.Given.{Mark}
-use Rattle.wax_walk.specs.Ruled.{ruled_view}
-use Rattle.wax_walk.specs.View.{IsSeenAs, WalkView}
+use Rattle.wax_token.specs.{Reads.Span, Syntax.Tree}
+use Rattle.wax_walk.specs.{Candidates.Candidate, Given.Mark, Ruled.ruled_view, View.{IsSeenAs, WalkView}}
 use Rattle.wax.specs.Exclusions.{IsExclusionOf, IsWalkExcluding}
 
 -- the walk is without what the pattern means if the rule is that of its tree

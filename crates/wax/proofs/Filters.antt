@@ -1,23 +1,16 @@
 -- Several patterns as one filter.
 use Rattle.std.proofs.Common.{◌≡◌, ◌↔◌, ◌++◌, ◌∷◌, ℕ, Bool, IfOk, IsTrue, List, Result, [], inr, map, refl}
-use Rattle.std.proofs.Common.{sym, ap, true, ◌∙◌}
-use Rattle.std.proofs.lemmas.List.{append_assoc}
+use Rattle.std.proofs.{Common.{sym, ap, true, ◌∙◌}, lemmas.List.append_assoc}
 use Rattle.std.specs.List.{AllZip}
-use Rattle.wax_token.specs.Reads.{Span}
-use Rattle.wax_token.specs.Syntax.{Tree}
+use Rattle.wax_token.specs.{Reads.Span, Syntax.Tree}
 use Rattle.wax_exclude.proofs.Covered.{answers_filter, excludes_text}
-use Rattle.wax_exclude.specs.Candidates.{NoSlashAfterNames, folder_at}
-use Rattle.wax_exclude.specs.GlobRequests.{IsRuleOf}
-use Rattle.wax_exclude.specs.Marks.{not_mark}
-use Rattle.wax_exclude.specs.Walked.{ExcludesBelow}
-use Rattle.wax_exclude.specs.Wanted.{Filter, excludes}
+use Rattle.wax_exclude.specs.{Candidates.{NoSlashAfterNames, folder_at}, GlobRequests.IsRuleOf}
+use Rattle.wax_exclude.specs.{Marks.not_mark, Walked.ExcludesBelow, Wanted.{Filter, excludes}}
 use Rattle.wax_tree.specs.Programs.{any_mark}
-use Rattle.wax_walk.specs.Candidates.{Candidate}
+use Rattle.wax_walk.specs.{Candidates.Candidate, Given.{Mark, with_tree}}
 use Rattle.wax_query.specs.Below.{IsBelow}
 use Rattle.wax_walk.proofs.Collecting.{map_ok}
-use Rattle.wax_walk.specs.Given.{Mark, with_tree}
-use Rattle.wax_set.specs.Patterns.{SpellEach}
-use Rattle.wax_set.specs.declared.error.build_error.BuildError.{BuildError}
+use Rattle.wax_set.specs.{Patterns.SpellEach, declared.error.build_error.BuildError.BuildError}
 use Rattle.wax.specs.Exclusions.{FitsAlone, IsAnyExclusionOf, IsExclusionOf, NoAnyExclusion, NoExclusion}
 
 -- the first of those that are left is taken

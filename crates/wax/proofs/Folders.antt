@@ -2,10 +2,7 @@
 use Rattle.std.proofs.Common.{◌≡◌, ◌↔◌, ℕ, false, List, Option, None, Some, IfSome, Bor, chars, subst}
 use Rattle.wax_facts.proofs.Means.{as_members, of_members}
 use Rattle.wax_prefilter.specs.Within.{IsInFolder}
-use Rattle.wax_token.specs.Meaning.{Means, MeansEach}
-use Rattle.wax_token.specs.Reads.{Span}
-use Rattle.wax_token.specs.Syntax.{Tree, Trees}
-use Rattle.wax_token.specs.Words.{members}
+use Rattle.wax_token.specs.{Meaning.{Means, MeansEach}, Reads.Span, Syntax.{Tree, Trees}, Words.members}
 
 members_in : (t : Tree Span) (folder : List ℕ)
     → ((text : List ℕ) → MeansEach (members t) false false text ↔ IsInFolder folder text)

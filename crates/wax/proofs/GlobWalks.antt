@@ -2,43 +2,27 @@
 use Rattle.std.proofs.Common.{◌≡◌, ◌∙◌, ◌≤◌, ◌<◌, ◌+◌, ◌&&◌, ℕ, Bool, true, false, cond, if◌then◌else◌, List}
 use Rattle.std.proofs.Common.{[], ◌∷◌, length, refl, sym, subst, ap, inl, inr, arith}
 use Rattle.wax_exclude.specs.GlobRequests.{ComesWanted, GlobRequest, walk_for}
-use Rattle.wax_exclude.specs.RuledWalks.{WalkTakes, lacking}
-use Rattle.wax_exclude.proofs.BeginsLeast.{comes_so as comes_in_range}
-use Rattle.wax_exclude.proofs.SplitPrefixes.{same_split}
-use Rattle.wax_exclude.proofs.StackingRequests.{any_alone}
-use Rattle.wax_exclude.proofs.Telling.{ruled_takes}
+use Rattle.wax_exclude.specs.{RuledWalks.{WalkTakes, lacking}, Prefix.HasEmptyName, Wanted.{Filter, stacked}}
+use Rattle.wax_exclude.specs.{Premises.{CanWalk, IsUnmeant}, Walked.{glob_walk, origin_walk}}
+use Rattle.wax_exclude.specs.{Leading.{component_test, lead_test, leading_of}, Marks.{glob_mark, led_mark}}
+use Rattle.wax_exclude.specs.Pruned.{Pruning, by_components, opening_by, rules_by}
+use Rattle.wax_exclude.proofs.{BeginsLeast.comes_so as comes_in_range, SplitPrefixes.same_split}
+use Rattle.wax_exclude.proofs.{StackingRequests.any_alone, Telling.ruled_takes, Origins.names_are}
 use Rattle.wax_tree.specs.Programs.{leading_mark, leads, means_mark}
-use Rattle.wax_components.specs.Depth.{Depth}
-use Rattle.wax_directory.specs.Law.{Law}
-use Rattle.wax_directory.specs.Shown.{Shown}
-use Rattle.wax_facts.specs.Prefix.{Prefix}
-use Rattle.wax_exclude.specs.Prefix.{HasEmptyName}
-use Rattle.wax_query.specs.Ranges.{Bounds}
 use Rattle.wax_tree.specs.Begins.{BeginsAt, FailsFrom, FailsNowhere, HasEnded, LacksMemory}
-use Rattle.wax_tree.specs.declared.steps.DepthRange.{DepthRange}
-use Rattle.wax_tree.specs.Plain.{count_shown}
-use Rattle.wax_walk.specs.Ruled.{ruled_view}
-use Rattle.wax_walk.proofs.Following.{lacks_ruled, take_ruled}
-use Rattle.wax_walk.specs.Course.{Course}
-use Rattle.wax_walk.specs.View.{IsSeenAs, MayTake, WalkView, is_above}
-use Rattle.wax_tree.specs.Prefix.{ArePlain}
-use Rattle.wax_exclude.specs.Wanted.{Filter}
-use Rattle.wax_exclude.specs.Premises.{CanWalk, IsUnmeant}
-use Rattle.wax_exclude.specs.Walked.{glob_walk, origin_walk}
-use Rattle.wax_token.specs.Decided.{means_test}
-use Rattle.wax_token.specs.Reads.{Span}
-use Rattle.wax_token.specs.Syntax.{Tree}
+use Rattle.wax_tree.specs.{declared.steps.DepthRange.DepthRange, Plain.count_shown, Prefix.ArePlain}
+use Rattle.wax_components.specs.Depth.{Depth}
+use Rattle.wax_directory.specs.{Law.Law, Shown.Shown}
+use Rattle.wax_facts.specs.Prefix.{Prefix}
+use Rattle.wax_query.specs.Ranges.{Bounds}
+use Rattle.wax_walk.specs.{Ruled.ruled_view, Course.Course, View.{IsSeenAs, MayTake, WalkView, is_above}}
 use Rattle.wax_walk.specs.Candidates.{Candidate, candidate_of, of_candidate}
 use Rattle.wax_walk.specs.Forest.{Forest, nothing, item, lists, filtered, filtered_pending, pending}
 use Rattle.wax_walk.specs.Given.{Facts, Given, Mark, alone, changed_by, combined_mark, cut_by, entry, fault}
-use Rattle.wax_walk.specs.Given.{is_cut, kept, no_memory, with_tree}
-use Rattle.wax_exclude.specs.Leading.{component_test, lead_test, leading_of}
-use Rattle.wax_exclude.specs.Marks.{glob_mark, led_mark}
+use Rattle.wax_walk.specs.{Given.{is_cut, kept, no_memory, with_tree}, Pruned.opened_forest}
+use Rattle.wax_walk.proofs.Following.{lacks_ruled, take_ruled}
+use Rattle.wax_token.specs.{Decided.means_test, Reads.Span, Syntax.Tree}
 use Rattle.wax.specs.GlobView.{GlobView}
-use Rattle.wax_exclude.proofs.Origins.{names_are}
-use Rattle.wax_exclude.specs.Pruned.{Pruning, by_components, opening_by, rules_by}
-use Rattle.wax_exclude.specs.Wanted.{stacked}
-use Rattle.wax_walk.specs.Pruned.{opened_forest}
 use Rattle.wax.specs.GlobWalks.{Beginning, BeginsGlob, IsPlan, LeadsNowhere, has_empty_name, is_too_deep}
 use Rattle.wax.specs.GlobWalks.{request_by, request_of, wants, origin_from, within}
 

@@ -1,16 +1,13 @@
 -- The globs of the empty expression and of `**`.
 use Rattle.std.proofs.Common.{◌≡◌, ◌==◌, ◌↔◌, ◌∙◌, ℕ, Bool, false, List, [], ◌∷◌, length, codes, IsTrue}
-use Rattle.std.proofs.Common.{IsUtf8}
-use Rattle.std.proofs.Common.{ap, arith, inl, inr, refl, rules, sym, subst}
+use Rattle.std.proofs.Common.{IsUtf8, ap, arith, inl, inr, refl, rules, sym, subst}
 use Rattle.std.proofs.lemmas.Str.{chars-nil, encodes-chars}
 use Rattle.std.specs.Str.{chars}
 use lib.Utf8.{encodes}
-use Rattle.wax_token.specs.Meaning.{Means}
-use Rattle.wax_token.specs.Reads.{Place, Reads, Span, no_flags, start}
+use Rattle.wax_token.specs.{Meaning.Means, Reads.{Place, Reads, Span, no_flags, start}}
 use Rattle.wax_token.specs.Syntax.{Tree, leaf, literal}
 use Rattle.wax_facts.specs.Orderly.{Worded}
-use Rattle.wax.specs.Build.{IsEmptyGlob, IsTreeGlob, tree_alone}
-use Rattle.wax.specs.GlobView.{GlobView, IsKept, empty_tree}
+use Rattle.wax.specs.{Build.{IsEmptyGlob, IsTreeGlob, tree_alone}, GlobView.{GlobView, IsKept, empty_tree}}
 
 -- an empty literal means the empty text
 empty_means : (s : List ℕ) → Means empty_tree false false s ↔ (s ≡ [])

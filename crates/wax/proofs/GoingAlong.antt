@@ -1,27 +1,18 @@
 -- A glob's walk may go to its prefix, and no deeper than its texts.
 use Rattle.std.proofs.Common.{◌≡◌, ◌==◌, ◌||◌, ℕ, Bool, true, false, List, [], ◌∷◌, map, inl, inr, refl, sym}
-use Rattle.std.proofs.Common.{subst, ap, chars}
+use Rattle.std.proofs.{Common.{subst, ap, chars}, lemmas.Bool.or_parts}
 use Rattle.std.specs.List.{list_any}
-use Rattle.std.proofs.lemmas.Bool.{or_parts}
-use Rattle.wax_facts.specs.Orderly.{Worded, WordedEach, WordedLeaf}
-use Rattle.wax_facts.specs.Prefix.{Prefix}
-use Rattle.wax_exclude.proofs.Beginnings as beginnings
-use Rattle.wax_exclude.proofs.Beginnings.{begins_with}
-use Rattle.wax_exclude.proofs.Origins.{candidate_is, greatest_at, names_are}
-use Rattle.wax_query.specs.Components.{component_total}
-use Rattle.wax_query.specs.Ranges.{AtMost, Bounds}
-use Rattle.wax_token.specs.Meaning.{HasNoSlash, Means}
-use Rattle.wax_token.specs.Reads.{Span, is_one_of}
+use Rattle.wax_facts.specs.{Orderly.{Worded, WordedEach, WordedLeaf}, Prefix.Prefix}
+use Rattle.wax_exclude.proofs.{Beginnings.begins_with, Origins.{candidate_is, greatest_at, names_are}}
+use Rattle.wax_query.specs.{Components.component_total, Ranges.{AtMost, Bounds}}
+use Rattle.wax_token.specs.{Meaning.{HasNoSlash, Means}, Reads.{Span, is_one_of}}
 use Rattle.wax_token.specs.Spelled.{AllHaveNoSlash, LeafHasNoSlash, LiteralsHaveNoSlash}
 use Rattle.wax_token.specs.Syntax.{Leaf, literal, class, separator, one, zero_or_more, tree, Tree, Trees}
 use Rattle.wax_token.specs.Syntax.{leaf, alternation, concatenation, repetition, none, more}
-use Rattle.wax_tree.specs.Prefix.{ArePlain}
-use Rattle.wax_tree.specs.declared.steps.DepthRange.{DepthRange}
-use Rattle.wax_exclude.specs.Wanted.{Filter}
-use Rattle.wax_exclude.specs.Premises.{BeginsWith, CanWalk, IsUnmeant}
-use Rattle.wax_exclude.specs.Prefix.{HasEmptyName}
-use Rattle.wax.specs.GlobView.{IsKept}
-use Rattle.wax.specs.GlobWalks.{Beginning, wants, origin_from, within}
+use Rattle.wax_tree.specs.{Prefix.ArePlain, declared.steps.DepthRange.DepthRange}
+use Rattle.wax_exclude.specs.{Wanted.Filter, Premises.{BeginsWith, CanWalk, IsUnmeant}, Prefix.HasEmptyName}
+use Rattle.wax.specs.{GlobView.IsKept, GlobWalks.{Beginning, wants, origin_from, within}}
+use Rattle.wax_exclude.proofs.Beginnings as beginnings
 
 -- ---- literals
 

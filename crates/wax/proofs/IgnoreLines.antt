@@ -1,16 +1,14 @@
 -- The lines of an ignore list that were read, and the first that isn't.
-use Rattle.std.proofs.Common.{◌≡◌, ◌∙◌, ◌<◌, ◌≤◌, ◌+◌, ◌++◌, ◌∷◌, ℕ, List, [], ap, drop, get_or}
-use Rattle.std.proofs.Common.{length, map, refl, subst, sym, take}
-use Rattle.std.specs.List.{AllZip}
+use Rattle.std.proofs.Common.{◌≡◌, ◌∙◌, ◌<◌, ◌≤◌, ◌+◌, ◌++◌, ◌∷◌, ℕ, List, [], ap, drop, get_or, length, map}
+use Rattle.std.proofs.Common.{refl, subst, sym, take}
 use Rattle.std.proofs.lemmas.List.{map-append, take_more, drop_more, take_all, take-append-drop}
+use Rattle.std.specs.List.{AllZip}
 use Rattle.wax_directory.specs.Law.{Law}
 use Rattle.wax_exclude.specs.Lines.{Written, written_lines, written_of}
-use Rattle.wax_exclude.specs.declared.lines.WrittenLine.{WrittenLine}
+use Rattle.wax_exclude.specs.{declared.lines.WrittenLine.WrittenLine, Ignored.Line}
 use Rattle.wax_token.specs.Reads.{Span}
-use Rattle.wax_tree.specs.Begins.{Begins, behavior_range}
-use Rattle.wax_tree.specs.declared.behavior.WalkBehavior.{WalkBehavior}
+use Rattle.wax_tree.specs.{Begins.{Begins, behavior_range}, declared.behavior.WalkBehavior.WalkBehavior}
 use Rattle.wax_walk.specs.View.{WalkView}
-use Rattle.wax_exclude.specs.Ignored.{Line}
 use Rattle.wax.specs.Ignoring.{IsFirstUnread, IsNoList, IsReadAs, IsUnread, refused_at}
 use Rattle.wax_set.specs.declared.error.build_error.BuildError.{BuildError}
 use Rattle.wax_set.specs.declared.error.build_error.BuildError.TheVariants.{Parse, Rule, Compile, Memory}

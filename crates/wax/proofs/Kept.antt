@@ -2,23 +2,15 @@
 -- side by side in the prefix.
 use Rattle.std.proofs.Common.{◌≡◌, ◌∙◌, ℕ, ◌+◌, ◌≤◌, false, List, [], ◌∷◌, ◌++◌, filter, refl, ap, subst}
 use Rattle.std.proofs.Common.{arith, inl, inr}
-use Rattle.wax_directory.specs.Counting.{grown}
-use Rattle.wax_directory.specs.Law.{Law}
+use Rattle.wax_directory.specs.{Counting.grown, Law.Law}
 use Rattle.wax_walk.specs.Collected.{Yielded, whole, lacks_memory, over_budget, Took, all_fault_counts}
-use Rattle.wax_walk.specs.Collected.{all_items_lost, count_to_open}
-use Rattle.wax_walk.specs.Forest.{nothing, pending}
-use Rattle.wax_walk.specs.Candidates.{Candidate}
-use Rattle.wax_walk.specs.Given.{Mark, Given, is_kept, no_memory}
-use Rattle.wax_walk.specs.Ruled.{ruled_view}
+use Rattle.wax_walk.specs.{Collected.{all_items_lost, count_to_open}, Forest.{nothing, pending}}
+use Rattle.wax_walk.specs.{Candidates.Candidate, Given.{Mark, Given, is_kept, no_memory}, Ruled.ruled_view}
 use Rattle.wax_walk.specs.View.{CountsFaults, WalkView}
-use Rattle.wax_walk.proofs.Following.{lacks_ruled}
-use Rattle.wax_walk.proofs.Seen.{seen_itself}
-use Rattle.wax_tree.proofs.Answered.{lacks_given, lacks_only}
-use Rattle.wax_tree.specs.Begins.{OnlyLacks}
-use Rattle.wax_token.specs.Reads.{Span}
-use Rattle.wax_token.specs.Syntax.{Tree}
-use Rattle.wax_tree.specs.declared.steps.DepthRange.{DepthRange}
-use Rattle.wax_tree.proofs.Reaching.{errors_passed}
+use Rattle.wax_walk.proofs.{Following.lacks_ruled, Seen.seen_itself}
+use Rattle.wax_tree.proofs.{Answered.{lacks_given, lacks_only}, Reaching.errors_passed}
+use Rattle.wax_tree.specs.{Begins.OnlyLacks, declared.steps.DepthRange.DepthRange}
+use Rattle.wax_token.specs.{Reads.Span, Syntax.Tree}
 use Rattle.wax_exclude.specs.Pruned.{Pruning}
 use Rattle.wax.specs.GlobWalks.{BeginsBy, BeginsGlob, FailsAtFolders, GaveBy, KeepsNothing, none_kept}
 use Rattle.wax.specs.GlobWalks.{memory_alone}

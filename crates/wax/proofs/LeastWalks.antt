@@ -1,36 +1,25 @@
 -- What is to come of a glob's walk that opens only folders below which something is matched.
 use Rattle.std.proofs.Common.{◌≡◌, ◌∙◌, ◌≤◌, ◌<◌, ◌+◌, ◌&&◌, ℕ, Bool, false, List, [], length, Option, refl}
-use Rattle.std.proofs.Common.{sym, ap}
-use Rattle.std.proofs.Common.{subst, inl, inr, arith}
+use Rattle.std.proofs.Common.{sym, ap, subst, inl, inr, arith}
 use Rattle.wax_prefilter.specs.Below.{goes_test}
 use Rattle.wax_components.specs.Depth.{Depth}
 use Rattle.wax_directory.specs.Law.{Law}
 use Rattle.wax_exclude.proofs.BeginsLeast.{begins_least, fails_ended, lacks_selected, least_beyond}
-use Rattle.wax_exclude.proofs.BeginsLeast.{least_shown}
-use Rattle.wax_exclude.specs.BeginsRequest.{BeginsRequest}
-use Rattle.wax_exclude.specs.Premises.{CanWalk, IsUnmeant}
+use Rattle.wax_exclude.proofs.{BeginsLeast.least_shown, Origins.names_are, SplitPrefixes.same_split}
+use Rattle.wax_exclude.specs.{BeginsRequest.BeginsRequest, Premises.{CanWalk, IsUnmeant}}
 use Rattle.wax_exclude.specs.Prefix.{HasEmptyName, PrefixSplitsInto}
-use Rattle.wax_exclude.specs.Pruned.{CanWalkLeast, by_matches, opens_where}
-use Rattle.wax_exclude.specs.Wanted.{Filter}
+use Rattle.wax_exclude.specs.{Pruned.{CanWalkLeast, by_matches, opens_where}, Wanted.Filter}
 use Rattle.wax_facts.specs.Prefix.{Prefix}
-use Rattle.wax_tree.specs.Programs.{matches_below, matches_from}
+use Rattle.wax_tree.specs.{Programs.{matches_below, matches_from}, Begins.{BeginsAt, FailsFrom, HasEnded}}
+use Rattle.wax_tree.specs.{declared.steps.DepthRange.DepthRange, Prefix.ArePlain}
 use Rattle.wax_query.specs.Ranges.{Bounds}
-use Rattle.wax_token.specs.Reads.{Span}
-use Rattle.wax_token.specs.Syntax.{Tree}
-use Rattle.wax_tree.specs.Begins.{BeginsAt, FailsFrom, HasEnded}
-use Rattle.wax_tree.specs.declared.steps.DepthRange.{DepthRange}
-use Rattle.wax_tree.specs.Prefix.{ArePlain}
-use Rattle.wax_walk.specs.Forest.{nothing, pending}
-use Rattle.wax_walk.specs.Given.{Facts}
-use Rattle.wax_walk.specs.Pruned.{selected_view}
+use Rattle.wax_token.specs.{Reads.Span, Syntax.Tree}
+use Rattle.wax_walk.specs.{Forest.{nothing, pending}, Given.Facts, Pruned.selected_view}
 use Rattle.wax_walk.specs.View.{IsSeenAs, WalkView, is_above}
-use Rattle.wax_exclude.proofs.Origins.{names_are}
-use Rattle.wax_exclude.proofs.SplitPrefixes.{same_split}
 use Rattle.wax.proofs.GlobWalks.{ComesBeyond, ComesShown, decides}
 use Rattle.wax.specs.GlobView.{GlobView}
 use Rattle.wax.specs.GlobWalks.{Beginning, BeginsBy, LeadsNowhere, has_empty_name, is_too_deep, origin_from}
-use Rattle.wax.specs.GlobWalks.{request_by, walked_by}
-use Rattle.wax.specs.GlobWalks.{wants, within}
+use Rattle.wax.specs.GlobWalks.{request_by, walked_by, wants, within}
 
 abbrev pub goes : GlobView → Option ℕ → List ℕ → Bool
 goes g most s = goes_test g.tree most s

@@ -1,24 +1,16 @@
 -- What is known of a glob in two.
 use Rattle.std.proofs.Common.{◌≡◌, ◌≤◌, ℕ, false, List, [], ◌∷◌, Option, Some, None, MatchOption, inl, inr}
-use Rattle.std.proofs.Common.{ap, refl, subst, sym, ◌∙◌}
-use Rattle.std.proofs.lemmas.Bool.{false≢true}
+use Rattle.std.proofs.{Common.{ap, refl, subst, sym, ◌∙◌}, lemmas.Bool.false≢true}
 use Rattle.wax_query.specs.declared.query.when.When.TheVariants.{Never, Always}
-use Rattle.wax_token.specs.Cost.{program_length}
-use Rattle.wax_token.specs.Reads.{Reads, Span}
-use Rattle.wax_token.specs.Syntax.{Tree, none, more}
+use Rattle.wax_token.specs.{Cost.program_length, Reads.{Reads, Span}, Syntax.{Tree, none, more}}
 use Rattle.wax_token.specs.declared.token.Tokenized.{Tokenized}
-use Rattle.wax_facts.specs.Rules.{broken}
-use Rattle.wax_facts.specs.Orderly.{Flat, Full, Orderly}
-use Rattle.wax_facts.specs.Partition.{rest_end}
-use Rattle.wax_facts.specs.Prefix.{Cut, Prefix, or_nothing, taken}
-use Rattle.wax_facts.specs.Rest.{left}
-use Rattle.wax_facts.proofs.BuiltOrderly.{built_orderly}
-use Rattle.wax_facts.proofs.Seams.{prefix_seam}
+use Rattle.wax_facts.specs.{Rules.broken, Orderly.{Flat, Full, Orderly}, Partition.rest_end}
+use Rattle.wax_facts.specs.{Prefix.{Cut, Prefix, or_nothing, taken}, Rest.left}
+use Rattle.wax_facts.proofs.{BuiltOrderly.built_orderly, Seams.prefix_seam}
 use Rattle.wax_partition.specs.Partition.{IsPartition, rest_glob, spelled_rest}
 use Rattle.wax_partition.proofs.RestKnown.{parts_branch, parts_fits, parts_orderly, parts_rest, parts_split}
 use Rattle.wax_partition.proofs.RestKnown.{parts_whole}
-use Rattle.wax.specs.GlobView.{IsKept, empty_tree}
-use Rattle.wax.specs.Partition.{HasParts, IsRest, MeansAlone, as_glob}
+use Rattle.wax.specs.{GlobView.{IsKept, empty_tree}, Partition.{HasParts, IsRest, MeansAlone, as_glob}}
 
 -- ---- trees that are kept
 pub built_kept : (e : List ℕ) (t : Tree Span) → Reads e t → broken t ≡ [] → IsKept t

@@ -1,21 +1,13 @@
 -- Patterns that are excluded from walks.
 use Rattle.std.specs.Prelude.{◌≡◌, ◌<◌, ◌≤◌, ◌⊎◌, false, List, map}
-use Rattle.wax_exclude.specs.GlobRequests.{IsRuleOf}
-use Rattle.wax_token.specs.Cost.{program_length}
-use Rattle.wax_token.specs.Reads.{Span}
-use Rattle.wax_token.specs.Syntax.{Tree}
-use Rattle.wax_walk.specs.Candidates.{Candidate}
-use Rattle.wax_walk.specs.Given.{Mark}
-use Rattle.wax_walk.specs.Ruled.{ruled_view}
-use Rattle.wax_walk.specs.View.{IsSeenAs, WalkView}
-use Rattle.wax_exclude.specs.Marks.{not_mark}
-use Rattle.wax_exclude.specs.Wanted.{not_meant}
+use Rattle.wax_exclude.specs.{GlobRequests.IsRuleOf, Marks.not_mark, Wanted.not_meant}
+use Rattle.wax_token.specs.{Cost.program_length, Reads.Span, Syntax.Tree}
+use Rattle.wax_walk.specs.{Candidates.Candidate, Given.Mark, Ruled.ruled_view, View.{IsSeenAs, WalkView}}
 use Rattle.wax_tree.specs.Programs.{any_mark}
 use Rattle.wax_set.specs.Patterns.{IsFirstRefused, IsOnly, SpellEach, WhyNotBuilt}
 use Rattle.wax_set.specs.declared.error.build_error.BuildError.{BuildError}
 use Rattle.wax_set.specs.declared.error.build_error.BuildError.TheVariants.{Memory}
-use Rattle.wax.specs.declared.ignoring.IgnoreList.{IgnoreList}
-use Rattle.wax.specs.declared.walk_filter.WalkFilter.{WalkFilter}
+use Rattle.wax.specs.{declared.ignoring.IgnoreList.IgnoreList, declared.walk_filter.WalkFilter.WalkFilter}
 use Rattle.wax.specs.declared.walk_filter.WalkFilter.TheVariants.{Not, Ignore}
 
 -- The only tree that is spelled, which fits.

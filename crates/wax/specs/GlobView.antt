@@ -1,16 +1,11 @@
 -- What contracts see of a glob.
 use Rattle.std.specs.Prelude.{◌≡◌, ◌⊎◌, ℕ, false, List, [], refl}
 use Rattle.std.specs.Coded.{Coded, code_by, coded×, coded_list, coded_ℕ}
-use Rattle.wax_capture.specs.Captures.{Captured}
-use Rattle.wax_capture.specs.Matched.{AreSpans}
-use Rattle.wax_capture.specs.Pieces.{ArePieces}
+use Rattle.wax_capture.specs.{Captures.Captured, Matched.AreSpans, Pieces.ArePieces}
 use Rattle.wax_capture.specs.declared.piece.Piece.{Piece}
 use Rattle.wax_prefilter.specs.Compiled.{Instructions, IsCompiled}
 use Rattle.wax_facts.specs.Orderly.{Orderly}
-use Rattle.wax_token.specs.Meaning.{Means}
-use Rattle.wax_token.specs.Reads.{Span}
-use Rattle.wax_token.specs.Syntax.{Tree, leaf, literal}
-use Rattle.wax_token.specs.TreeCode.{tree_code}
+use Rattle.wax_token.specs.{Meaning.Means, Reads.Span, Syntax.{Tree, leaf, literal}, TreeCode.tree_code}
 use Rattle.wax_token.specs.Words.{members}
 
 -- the characters of the expression, and the tree that they spell

@@ -1,34 +1,21 @@
 -- The walk of a glob.
-use Rattle.std.specs.Prelude.{◌≡◌, ℕ, ◌+◌, ◌<◌, ◌≤◌, Bool, List, [], ◌∷◌, length}
-use Rattle.std.specs.Prelude.{◌⊎◌}
-use Rattle.std.specs.List.{Contains}
+use Rattle.std.specs.{Prelude.{◌≡◌, ℕ, ◌+◌, ◌<◌, ◌≤◌, Bool, List, [], ◌∷◌, length, ◌⊎◌}, List.Contains}
 use Rattle.wax_exclude.specs.GlobRequests.{ComesWanted, GlobRequest}
+use Rattle.wax_exclude.specs.{Prefix.{HasEmptyName, PrefixSplitsInto}, Leading.leading_of, Premises.IsUnmeant}
+use Rattle.wax_exclude.specs.Pruned.{CanWalkBy, Pruning, by_components, by_matches, opening_by, rules_by}
+use Rattle.wax_exclude.specs.{Walked.origin_walk, Wanted.{Filter, Wanted, stacked}}
 use Rattle.wax_components.specs.Depth.{Depth}
-use Rattle.wax_directory.specs.Counting.{grown}
-use Rattle.wax_directory.specs.Law.{Law}
-use Rattle.wax_directory.specs.Shown.{Shown}
+use Rattle.wax_directory.specs.{Counting.grown, Law.Law, Shown.Shown}
 use Rattle.wax_facts.specs.Prefix.{Prefix}
-use Rattle.wax_exclude.specs.Prefix.{HasEmptyName, PrefixSplitsInto}
 use Rattle.wax_query.specs.Ranges.{Bounds}
-use Rattle.wax_token.specs.Reads.{Span}
-use Rattle.wax_token.specs.Syntax.{Tree}
+use Rattle.wax_token.specs.{Reads.Span, Syntax.Tree}
 use Rattle.wax_tree.specs.Begins.{FailsFrom, IsBegun, IsPassed, OnlyLacks}
-use Rattle.wax_tree.specs.declared.steps.DepthRange.{DepthRange}
-use Rattle.wax_tree.specs.Plain.{count_shown}
-use Rattle.wax_tree.specs.Prefix.{ArePlain}
-use Rattle.wax_walk.specs.Collected.{AreOfFolders, EndsThere, NoneLast, NoMemoryError}
-use Rattle.wax_walk.specs.Collected.{all_fault_counts, all_items_lost, count_to_open}
+use Rattle.wax_tree.specs.{declared.steps.DepthRange.DepthRange, Plain.count_shown, Prefix.ArePlain}
+use Rattle.wax_walk.specs.Collected.{AreOfFolders, EndsThere, NoneLast, NoMemoryError, all_fault_counts}
+use Rattle.wax_walk.specs.Collected.{all_items_lost, count_to_open}
 use Rattle.wax_walk.specs.declared.error.FaultKind.TheVariants.{Budget, NotAFolder}
-use Rattle.wax_walk.specs.Forest.{pending, nothing}
-use Rattle.wax_walk.specs.Given.{Given, fault, no_memory}
-use Rattle.wax_walk.specs.View.{CountsFaults, WalkView, is_above}
-use Rattle.wax_exclude.specs.Leading.{leading_of}
-use Rattle.wax_exclude.specs.Premises.{IsUnmeant}
-use Rattle.wax_exclude.specs.Pruned.{CanWalkBy, Pruning, by_components, by_matches, opening_by}
-use Rattle.wax_exclude.specs.Pruned.{rules_by}
-use Rattle.wax_exclude.specs.Walked.{origin_walk}
-use Rattle.wax_exclude.specs.Wanted.{Filter, Wanted, stacked}
-use Rattle.wax_walk.specs.Pruned.{opened_forest}
+use Rattle.wax_walk.specs.{Forest.{pending, nothing}, Given.{Given, fault, no_memory}}
+use Rattle.wax_walk.specs.{View.{CountsFaults, WalkView, is_above}, Pruned.opened_forest}
 pub use Rattle.wax_exclude.specs.BeginsRequest.{least_by, origin_from, request_from, up_to, walk_opens}
 pub use Rattle.wax_exclude.specs.BeginsRequest.{walked_by, within}
 

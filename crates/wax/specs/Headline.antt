@@ -14,15 +14,11 @@ use Rattle.wax_token.specs.Syntax.{Tree}
 -- states its whole feed as a list, with what is excluded and each error in its place. For a chain of calls,
 -- `ComesWanted` states what is to come, and `ComesExcluding` what a filter removes from it.
 pub use Rattle.wax_directory.specs.Law.{Law}
-pub use Rattle.wax_exclude.specs.Due.{KeepsDue}
-pub use Rattle.wax_exclude.specs.Feeds.{FeedsWanted}
-pub use Rattle.wax_exclude.specs.Ignored.{is_ignored}
+pub use Rattle.wax_exclude.specs.{Due.KeepsDue, Feeds.FeedsWanted, Ignored.is_ignored}
 pub use Rattle.wax_exclude.specs.GlobRequests.{ComesExcluding, ComesWanted, KeepsWanted, request_due}
-pub use Rattle.wax_exclude.specs.Walked.{MayList, wanted_entries}
-pub use Rattle.wax_exclude.specs.Wanted.{Wanted, is_wanted}
+pub use Rattle.wax_exclude.specs.{Walked.{MayList, wanted_entries}, Wanted.{Wanted, is_wanted}}
 pub use Rattle.wax_exclude.specs.WantedEntries.{SelectsWanted}
-pub use Rattle.wax_tree.specs.Begins.{origin_location}
-pub use Rattle.wax_tree.specs.Whole.{is_in, whole_at}
+pub use Rattle.wax_tree.specs.{Begins.origin_location, Whole.{is_in, whole_at}}
 -- ---- Walks of whatever directory: what was answered is what some tree answers, call by call, and the items
 -- are the plain walk of that tree (`EntriesAnswered`, of `entries`), or what a glob's walk with filters keeps
 -- of it (`KeepsTold`, of `collect_excluding` and `collect`); or both begin so, and one error cuts them short.
@@ -31,10 +27,8 @@ pub use Rattle.wax_tree.specs.Whole.{is_in, whole_at}
 -- which something is matched (`ListsBy`, by matches).
 -- The directory needn't keep the law: it may be the real file system, change meanwhile, or hold a name twice.
 pub use Rattle.wax_directory.specs.History.{Answer}
-pub use Rattle.wax_exclude.specs.Pruned.{ListsBy, MayOpen}
-pub use Rattle.wax_exclude.specs.Told.{KeepsAnswered, KeepsTold}
-pub use Rattle.wax_tree.specs.Courses.{along_course, plain_course}
-pub use Rattle.wax_tree.specs.Whole.{EntriesAnswered, whole, yielded}
+pub use Rattle.wax_exclude.specs.{Pruned.{ListsBy, MayOpen}, Told.{KeepsAnswered, KeepsTold}}
+pub use Rattle.wax_tree.specs.{Courses.{along_course, plain_course}, Whole.{EntriesAnswered, whole, yielded}}
 pub use Rattle.wax_walk.specs.Opened.{opened_folders}
 -- ---- Matches (`Glob::is_match`): exactly the texts in the meaning of the tree (`IsMeant`, by `Means`).
 -- `is_match_counted` visits at most `program_length` instructions for each character, and as many once more
@@ -44,8 +38,7 @@ pub use Rattle.wax_token.specs.Meaning.{Means}
 -- ---- Expressions (`Glob::new`): accepted are exactly those that spell a tree (`Reads`) which breaks no rule
 -- (`broken`) and fits (`program_length`).
 pub use Rattle.wax_facts.specs.Rules.{broken}
-pub use Rattle.wax_token.specs.Cost.{program_length}
-pub use Rattle.wax_token.specs.Reads.{Reads, Span}
+pub use Rattle.wax_token.specs.{Cost.program_length, Reads.{Reads, Span}}
 
 -- a glob of the expression e, and of the one tree that it spells
 pub record IsGlob (e : List ℕ) (g : GlobView) : Type 0 where

@@ -1,25 +1,19 @@
 -- Ignore lists.
-use Rattle.std.specs.Prelude.{◌≡◌, ℕ, false, ◌++◌, List, ◌∷◌, chars, ⊤}
-use Rattle.std.specs.List.{AllZip}
+use Rattle.std.specs.{Prelude.{◌≡◌, ℕ, false, ◌++◌, List, ◌∷◌, chars, ⊤}, List.AllZip}
 use Rattle.wax_exclude.specs.Lines.{Written}
 use Rattle.wax_lines.specs.Lines.{WritesMeant}
 use Rattle.wax_token.specs.Reads.{Span}
-use Rattle.wax_walk.specs.Ruled.{ruled_view}
-use Rattle.wax_walk.specs.View.{IsSeenAs, WalkView}
-use Rattle.wax.specs.Exclusions.{FitsAlone, NoExclusion}
-use Rattle.wax_set.specs.Expressions.{Refuses, Spells}
-use Rattle.wax_set.specs.declared.error.build_error.BuildError.{BuildError}
-use Rattle.wax_set.specs.declared.error.build_error.BuildError.TheVariants as build
-use Rattle.wax.specs.declared.ignoring.IgnoreError.{IgnoreError}
+use Rattle.wax_walk.specs.{Ruled.ruled_view, View.{IsSeenAs, WalkView}}
+use Rattle.wax.specs.{Exclusions.{FitsAlone, NoExclusion}, declared.ignoring.IgnoreError.IgnoreError}
 use Rattle.wax.specs.declared.ignoring.IgnoreError.TheVariants.{BadLine, Memory}
 use Rattle.wax.specs.declared.ignoring.IgnoreList.{IgnoreList}
+use Rattle.wax_set.specs.{Expressions.{Refuses, Spells}, declared.error.build_error.BuildError.BuildError}
 pub use Rattle.wax_exclude.specs.Deciding.{DecidingLineDecides, IsDecidingLine, IsLastMatch, LastMatchDecides}
 pub use Rattle.wax_exclude.specs.Deciding.{SaysLines, ignores_at, ignores_if}
 pub use Rattle.wax_exclude.specs.Ignored.{IgnoresBelow, Line, ignore_mark, is_ignored}
-pub use Rattle.wax_exclude.specs.Kept.{KeepsUnignored, PlainRequest, unignored_request}
-pub use Rattle.wax_exclude.specs.Length.{list_length}
-pub use Rattle.wax_exclude.specs.Lines.{written_lines, written_of}
-pub use Rattle.wax_exclude.specs.Unignored.{GivesUnignored, LosesIgnored}
+pub use Rattle.wax_exclude.specs.{Kept.{KeepsUnignored, PlainRequest, unignored_request}, Length.list_length}
+pub use Rattle.wax_exclude.specs.{Lines.{written_lines, written_of}, Unignored.{GivesUnignored, LosesIgnored}}
+use Rattle.wax_set.specs.declared.error.build_error.BuildError.TheVariants as build
 
 -- The line that is written so: its glob is the only tree that its expression spells, which fits.
 pub record IsReadAs (written : Written) (line : Line Span) : Type 0 where

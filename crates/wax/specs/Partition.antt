@@ -1,13 +1,9 @@
 -- A glob in two: its prefix, and the rest.
 use Rattle.std.specs.Prelude.{◌≡◌, ◌≤◌, ◌⊎◌, ◌↔◌, ◌++◌, ℕ, false, List, Option, Some, None, MatchOption}
-use Rattle.wax_facts.specs.Joined.{IsSeam, begins_with_leaf, path}
-use Rattle.wax_facts.specs.Partition.{BeginsPlainly, rest_end}
-use Rattle.wax_facts.specs.Prefix.{IsRooted, Prefix, opened}
-use Rattle.wax_facts.specs.Rest.{left}
+use Rattle.wax_facts.specs.{Joined.{IsSeam, begins_with_leaf, path}, Partition.{BeginsPlainly, rest_end}}
+use Rattle.wax_facts.specs.{Prefix.{IsRooted, Prefix, opened}, Rest.left}
 use Rattle.wax_partition.specs.Partition.{rest_glob}
-use Rattle.wax_token.specs.Cost.{program_length}
-use Rattle.wax_token.specs.Reads.{Span}
-use Rattle.wax_token.specs.Syntax.{Tree}
+use Rattle.wax_token.specs.{Cost.program_length, Reads.Span, Syntax.Tree}
 use Rattle.wax.specs.GlobView.{GlobView, IsMeant}
 
 -- an expression's characters and its tree, as a glob

@@ -1,15 +1,10 @@
 //! Walks without what patterns match or lists ignore.
 ghost use Rattle.std.specs.Prelude.{◌≡◌, IfOk, MatchResult};
-ghost use Rattle.wax_token.specs.Reads.{Span};
-ghost use Rattle.wax_token.specs.Syntax.{Tree};
-ghost use Rattle.wax_walk.specs.Known.{StaysKnown};
-ghost use Rattle.wax_walk.specs.Ruled.{ruled_view};
-ghost use Rattle.wax_walk.specs.View.{IsSeenAs};
-ghost use Rattle.wax_exclude.specs.GlobRequests.{ComesExcluding};
-ghost use Rattle.wax_exclude.specs.Wanted.{not_ignored, not_meant};
+ghost use Rattle.wax_token.specs.{Reads.Span, Syntax.Tree};
+ghost use Rattle.wax_walk.specs.{Known.StaysKnown, Ruled.ruled_view, View.IsSeenAs};
+ghost use Rattle.wax_exclude.specs.{GlobRequests.ComesExcluding, Wanted.{not_ignored, not_meant}};
 ghost use Rattle.wax.specs.Exclusions.{IsAnyExclusionOf, IsExclusionOf, IsWalkExcluding, NoAnyExclusion};
-ghost use Rattle.wax.specs.Exclusions.{NoExclusion};
-ghost use Rattle.wax.specs.Ignoring.{IsWalkIgnoring};
+ghost use Rattle.wax.specs.{Exclusions.NoExclusion, Ignoring.IsWalkIgnoring};
 
 use crate::ignoring::IgnoreList;
 use std::alloc::Global;
@@ -49,8 +44,7 @@ pub fn exclusion_of<P: Pattern>(alloc: Global, pattern: P) -> Result<Exclusion, 
 
 /// Rules that are built from several patterns.
 pub trait FilterAnyExt: Sized {
-    ghost use Rattle.wax_walk.specs.Candidates.{Candidate};
-    ghost use Rattle.wax_walk.specs.Given.{Mark};
+    ghost use Rattle.wax_walk.specs.{Candidates.Candidate, Given.Mark};
 
     /// What the rule decides about each candidate.
     ghost rule_of: { Self → Candidate → Mark };

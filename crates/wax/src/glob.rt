@@ -3,23 +3,16 @@ ghost use Rattle.std.specs.Prelude.{◌≡◌, ◌<◌, ◌≤◌, ◌↔◌, �
 ghost use Rattle.std.specs.Prelude.{IfSome, MatchOption, Some, chars, encode_utf8_all, length, false, min};
 ghost use Rattle.wax_program.specs.Meter.{most_ticks};
 ghost use Rattle.wax_query.specs.Parts.{NoLineEndsBefore};
-ghost use Rattle.wax_prefilter.specs.Below.{MeansBelow, goes_test};
-ghost use Rattle.wax_components.specs.Capturing.{captures};
-ghost use Rattle.wax_components.specs.Warnings.{has_semantic_literals, warnings};
-ghost use Rattle.wax_components.specs.Depth.{Depth};
-ghost use Rattle.wax_facts.specs.Exhaustive.{exhaustive};
-ghost use Rattle.wax_facts.specs.InvariantText.{Text, Variant};
-ghost use Rattle.wax_facts.specs.Root.{root};
 ghost use Rattle.wax_query.specs.Components.{Bare, BeginsWithSlash, component_total};
-ghost use Rattle.wax_query.specs.Ranges.{AtMost, bounds};
-ghost use Rattle.wax_query.specs.Variances.{text_of};
-ghost use Rattle.wax_query.specs.declared.query.when.When.TheVariants.{Always};
-ghost use Rattle.wax_token.specs.Cost.{program_length};
-ghost use Rattle.wax_token.specs.Decided.{means_test, means_tested};
+ghost use Rattle.wax_query.specs.{Ranges.{AtMost, bounds}, Variances.text_of};
+ghost use Rattle.wax_query.specs.{declared.query.when.When.TheVariants.Always, Outcome.MatchBuild};
+ghost use Rattle.wax_prefilter.specs.Below.{MeansBelow, goes_test};
+ghost use Rattle.wax_components.specs.{Capturing.captures, Warnings.{has_semantic_literals, warnings}};
+ghost use Rattle.wax_components.specs.Depth.{Depth};
+ghost use Rattle.wax_facts.specs.{Exhaustive.exhaustive, InvariantText.{Text, Variant}, Root.root};
+ghost use Rattle.wax_token.specs.{Cost.program_length, Decided.{means_test, means_tested}};
 ghost use Rattle.wax_partition.specs.Partition.{spelled_rest};
-ghost use Rattle.wax_query.specs.Outcome.{MatchBuild};
-ghost use Rattle.wax.specs.GlobView.{HasCaptures, HasSpans, IsKept, IsMeant};
-ghost use Rattle.wax.specs.Partition.{as_glob};
+ghost use Rattle.wax.specs.{GlobView.{HasCaptures, HasSpans, IsKept, IsMeant}, Partition.as_glob};
 
 mod matcher;
 mod owned;
@@ -78,8 +71,7 @@ impl Drop for Glob<'_> {
 }
 
 impl<'t> Model for Glob<'t> {
-    ghost use Rattle.std.specs.Str.{chars};
-    ghost use Rattle.std.specs.Cow.{cow_str_bytes};
+    ghost use Rattle.std.specs.{Str.chars, Cow.cow_str_bytes};
     ghost use Rattle.wax.specs.GlobView.{GlobView, glob_code, IsCompiledGlob};
 
     ghost Value = { GlobView };
@@ -95,10 +87,9 @@ impl<'t> Model for Glob<'t> {
 }
 
 impl<'t> Glob<'t> {
-    ghost use Rattle.wax.specs.Build.{IsEmptyGlob, IsTreeGlob, build_of};
-    ghost use Rattle.wax.specs.Headline.{MatchGlob};
-    ghost use Rattle.wax_token.specs.Spelled.{LiesBetween};
+    ghost use Rattle.wax.specs.{Build.{IsEmptyGlob, IsTreeGlob, build_of}, Headline.MatchGlob};
     ghost use Rattle.wax.specs.GlobView.{empty_tree};
+    ghost use Rattle.wax_token.specs.Spelled.{LiesBetween};
 
     /// Builds a glob from an expression.
     ///

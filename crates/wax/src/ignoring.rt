@@ -1,39 +1,30 @@
 //! Ignore lists: texts whose lines select what to exclude from a walk.
-ghost use Rattle.std.specs.Prelude.{◌≡◌, ◌<◌, ◌≤◌, ◌↔◌, ◌+◌, ◌*◌, ◌++◌, ◌∷◌, [], ℕ, IsTrue, List, IfOk};
-ghost use Rattle.std.specs.Prelude.{All, MatchResult, false, filter, length, map, true};
+ghost use Rattle.std.specs.Prelude.{◌≡◌, ◌<◌, ◌≤◌, ◌↔◌, ◌+◌, ◌*◌, ◌++◌, ◌∷◌, [], ℕ, IsTrue, List, IfOk, All};
+ghost use Rattle.std.specs.Prelude.{MatchResult, false, filter, length, map, true};
 ghost use Rattle.wax_directory.specs.Shown.{Shown};
 ghost use Rattle.wax_exclude.specs.Candidates.{NoSlashAfterNames, folder_at};
-ghost use Rattle.wax_exclude.specs.Deciding.{IsDecidingLine, SaysLines, ignores_at};
-ghost use Rattle.wax_exclude.specs.Idle.{AreIdle};
-ghost use Rattle.wax_exclude.specs.GlobRequests.{walk_for};
-ghost use Rattle.wax_exclude.specs.Kept.{KeepsUnignored, unignored_request};
-ghost use Rattle.wax_exclude.specs.Length.{list_length};
-ghost use Rattle.wax_exclude.specs.Lines.{written_of};
+ghost use Rattle.wax_exclude.specs.{Deciding.{IsDecidingLine, SaysLines, ignores_at}, Idle.AreIdle};
+ghost use Rattle.wax_exclude.specs.{GlobRequests.walk_for, Kept.{KeepsUnignored, unignored_request}};
+ghost use Rattle.wax_exclude.specs.{Length.list_length, Lines.written_of, RuledWalks.with_rule};
+ghost use Rattle.wax_exclude.specs.{Told.{KeepsAnswered, LeavesAnswered}, TreeRequests.tree_request};
+ghost use Rattle.wax_exclude.specs.{Ignored.{IgnoresBelow, is_ignored}, Tidy.TidiesUp};
+ghost use Rattle.wax_exclude.specs.Undecided.{AreUndecided, IsUndecided};
 ghost use Rattle.wax_lazy.specs.Cost.{path_visits};
-ghost use Rattle.wax_exclude.specs.RuledWalks.{with_rule};
-ghost use Rattle.wax_exclude.specs.Told.{KeepsAnswered, LeavesAnswered};
-ghost use Rattle.wax_exclude.specs.TreeRequests.{tree_request};
 ghost use Rattle.wax_query.specs.Below.{IsBelow};
 ghost use Rattle.wax_tree.specs.Begins.{behavior_range, start_view};
-ghost use Rattle.wax_walk.specs.Candidates.{of_candidate};
-ghost use Rattle.wax_walk.specs.Collected.{Took};
-ghost use Rattle.wax_walk.specs.Entries.{given_outcome};
-ghost use Rattle.wax_walk.specs.Given.{Given, is_kept, with_tree};
-ghost use Rattle.wax_walk.specs.Ruled.{ruled_view};
-ghost use Rattle.wax_exclude.specs.Ignored.{IgnoresBelow, is_ignored};
-ghost use Rattle.wax_exclude.specs.Tidy.{TidiesUp};
-ghost use Rattle.wax_exclude.specs.Undecided.{AreUndecided, IsUndecided};
-ghost use Rattle.wax.specs.Ignoring.{IsListOf, IsNoList, IsReadAs, IsUnread};
-ghost use Rattle.wax.specs.Ignoring.{refusal_number, refused_at};
+ghost use Rattle.wax_walk.specs.{Candidates.of_candidate, Collected.Took, Entries.given_outcome};
+ghost use Rattle.wax_walk.specs.{Given.{Given, is_kept, with_tree}, Ruled.ruled_view};
+ghost use Rattle.wax.specs.Ignoring.{IsListOf, IsNoList, IsReadAs, IsUnread, refusal_number, refused_at};
 
+use crate::exclusions::excluding_ignored;
 use std::alloc::{AllocFailed, Global};
 use std::marker::Model;
 use thiserror::Error;
 use wax_compare::{Compared, Selector};
 use wax_directory::directory::Directory;
 use wax_exclude::{
-    DecidingLines, IdleLine, IgnoreLine, IgnoreRule, TidyLines, WrittenLine, collect_unignored,
-    written_lines,
+    DecidingLines, IdleLine, IgnoreLine, IgnoreRule, TidyLines, WrittenLine, collect,
+    law_of_ignoring, law_of_plain_walks, written_lines,
 };
 use wax_match::encode::Meter;
 use wax_query::diagnostics::NoMemory;
@@ -95,8 +86,7 @@ pub struct IgnoreList {
 }
 
 impl Model for IgnoreList {
-    ghost use Rattle.std.specs.Prelude.{List};
-    ghost use Rattle.std.specs.Coded.{coded_list};
+    ghost use Rattle.std.specs.{Prelude.List, Coded.coded_list};
     ghost use Rattle.wax_token.specs.Reads.{Span};
     ghost use Rattle.wax_exclude.specs.Ignored.{Line, line_code};
 
@@ -162,6 +152,23 @@ impl IgnoreList {
         ensures { IfOk result (λ answer. answer ≡ is_ignored self.now path.now) }
     {
         self.rule.is_ignored(alloc, path)
+    }
+
+    /// Returns what `is_ignored` does, and moves the meter by the number of instructions that the list's
+    /// program visits. Its bound is that of `is_ignored_cached_metered`. Paths that the quick test rejects
+    /// move the meter by nothing.
+    pub fn is_ignored_metered(
+        &self,
+        alloc: Global,
+        path: &CandidatePath<'_>,
+        meter: &mut Meter,
+    ) -> Result<bool, NoMemory>
+        ensures decides { IfOk result (λ answer. answer ≡ is_ignored self.now path.now) }
+        ensures above { let size = list_length self.now in
+            meter.new ≤ meter.old + path_visits size (length path.now) + size }
+        ensures steady { meter.old ≤ meter.new }
+    {
+        self.rule.is_ignored_metered(alloc, path, meter)
     }
 
     /// Returns what `is_ignored` does, and keeps what it learns from each path for the next ones. What
@@ -238,6 +245,26 @@ impl IgnoreList {
             → IsBelow path.now s → is_ignored self.now s ≡ true) }
     {
         self.rule.ignores_below(alloc, path)
+    }
+
+    /// Returns what `ignores_below` does, and moves the meter as `is_ignored_metered` does.
+    pub fn ignores_below_metered(
+        &self,
+        alloc: Global,
+        path: &CandidatePath<'_>,
+        meter: &mut Meter,
+    ) -> Result<bool, NoMemory>
+        ensures says { IfOk result (λ answer. IsTrue answer
+            ↔ (⟦<IgnoreList as Exclude>⟧.rule self.now (folder_at path.now) ≡ with_tree)) }
+        ensures covers { IfOk result
+            (λ answer. IsTrue answer ↔ IgnoresBelow self.now (folder_at path.now)) }
+        ensures below { NoSlashAfterNames path.now → IfOk result (λ answer. IsTrue answer → (s : List ℕ)
+            → IsBelow path.now s → is_ignored self.now s ≡ true) }
+        ensures above { let size = list_length self.now in
+            meter.new ≤ meter.old + path_visits size (length path.now) + size }
+        ensures steady { meter.old ≤ meter.new }
+    {
+        self.rule.ignores_below_metered(alloc, path, meter)
     }
 
     /// Returns the lines that decide nothing about plain paths, in order, each with the reason: without
@@ -322,6 +349,24 @@ impl IgnoreList {
         self.rule.deciding_line(alloc, path)
     }
 
+    /// Returns what `deciding_line` does, and moves the meter by the number of instructions that are visited
+    /// to decide the path, without what compiling the lines takes. Its bound is that of
+    /// `is_ignored_cached_metered`.
+    pub fn deciding_line_metered(
+        &self,
+        alloc: Global,
+        path: &CandidatePath<'_>,
+        meter: &mut Meter,
+    ) -> Result<Option<usize>, NoMemory>
+        ensures line { IfOk result (IsDecidingLine self.now path.now) }
+        ensures decides { IfOk result (λ found. is_ignored self.now path.now ≡ ignores_at self.now found) }
+        ensures above { let size = list_length self.now in
+            meter.new ≤ meter.old + path_visits size (length path.now) + size }
+        ensures steady { meter.old ≤ meter.new }
+    {
+        self.rule.deciding_line_metered(alloc, path, meter)
+    }
+
     /// Compiles the lines once more, to find the deciding lines of many paths. The result keeps what it
     /// learns from each path for the next ones.
     ///
@@ -378,7 +423,9 @@ impl IgnoreList {
             (map (given_outcome ⟦<TreeEntry as Entry>⟧.facts ⟦<TreeEntry as Entry>⟧.facts) r.0.items)) }
     {
         let walk = start.walk_with_behavior(alloc, directory, behavior);
-        collect_unignored(alloc, walk, self.rule)
+        law_of_plain_walks(&walk);
+        law_of_ignoring();
+        collect(alloc, excluding_ignored(alloc, walk, self))
     }
 }
 

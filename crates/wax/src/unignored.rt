@@ -1,7 +1,6 @@
 //! Lines of a stream that an ignore list doesn't ignore.
 ghost use Rattle.std.specs.Prelude.{◌≡◌, ◌<◌, ◌⊎◌, IfErr, IfOk, IsErrOf};
-ghost use Rattle.wax_lines.specs.Counts.{greatest_count};
-ghost use Rattle.wax_lines.specs.Lines.{Filtered, Stopped, WritesMeant};
+ghost use Rattle.wax_lines.specs.{Counts.greatest_count, Lines.{Filtered, Stopped, WritesMeant}};
 ghost use Rattle.wax.specs.Ignoring.{IsUnignored};
 
 use crate::ignoring::IgnoreList;
@@ -56,8 +55,7 @@ pub fn filter_unignored<R: Read, W: Write>(
 }
 
 impl LineWriter for IgnoreList {
-    ghost use Rattle.wax.specs.Ignoring.{WritesUnignored};
-    ghost use Rattle.wax.specs.declared.ignoring.IgnoreList.{IgnoreList};
+    ghost use Rattle.wax.specs.{Ignoring.WritesUnignored, declared.ignoring.IgnoreList.IgnoreList};
 
     ghost View = { IgnoreList };
 

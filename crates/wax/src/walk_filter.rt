@@ -1,12 +1,10 @@
 //! Filters of walks: patterns and ignore lists.
 ghost use Rattle.std.specs.Prelude.{◌≡◌, ◌↔◌, ℕ, IfOk, IsTrue, List, MatchResult, true};
-ghost use Rattle.wax_exclude.specs.Candidates.{NoSlashAfterNames, folder_at};
-ghost use Rattle.wax_exclude.specs.GlobRequests.{IsRuleOf};
+ghost use Rattle.wax_exclude.specs.{Candidates.{NoSlashAfterNames, folder_at}, GlobRequests.IsRuleOf};
+ghost use Rattle.wax_exclude.specs.{Walked.ExcludesBelow, Wanted.{Filter, excludes, not_ignored}};
 ghost use Rattle.wax_query.specs.Below.{IsBelow};
 ghost use Rattle.wax_token.specs.Reads.{Span};
 ghost use Rattle.wax_walk.specs.Given.{with_tree};
-ghost use Rattle.wax_exclude.specs.Walked.{ExcludesBelow};
-ghost use Rattle.wax_exclude.specs.Wanted.{Filter, excludes, not_ignored};
 ghost use Rattle.wax.specs.Exclusions.{IsNotRule, NoExclusion};
 
 use crate::exclusions::exclusion_of;

@@ -7,10 +7,9 @@ use seplogic.Ra.Ura.{Ura}
 use types.Logic.{Logic}
 use denote.Laws.{Ises, Lawful, Lawfuls, Spells, Tells, Tellss, Is, valss}
 use denote.Slice.{MutSlice, mut_slice_vals, mut_slice_Tells, mut_slice_Lawful, ShrSlice, shr_slice_vals}
-use denote.Slice.{shr_slice_Tells, shr_slice_Lawful}
-use denote.{Builtin.u8, Exit.yes, RattleType.RattleType, RattleType.Denots, RattleType.Valss, RattleType.flat}
-use denote.{Ref.MutRef, Ref.mut_vals, Ref.mut_Tells, Ref.mut_Lawful, Signature.Slot, Signature.plain}
-use denote.{Signature.types_at, Triple.End.Kepts, Triple.End.Outs, Triple.End.all}
+use denote.{Slice.{shr_slice_Tells, shr_slice_Lawful}, Builtin.u8, Exit.yes}
+use denote.{RattleType.{RattleType, Denots, Valss, flat}, Ref.{MutRef, mut_vals, mut_Tells, mut_Lawful}}
+use denote.{Signature.{Slot, plain, types_at}, Triple.End.{Kepts, Outs, all}}
 
 -- A text that is read, a list that is written, or a value that is written.
 pub data Argument : Type 1 where

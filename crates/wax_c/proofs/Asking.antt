@@ -1,22 +1,18 @@
 -- What a session knows of the handle that it got, by the number of the call.
-use Rattle.std.proofs.Common.{◌≡◌, ◌≤◌, ◌∷◌, ◌++◌, [], ℕ, ℤ, suc, zero, List, Some, None, Ok, Err}
-use Rattle.std.proofs.Common.{Bor}
-use Rattle.std.proofs.Common.{map, take, length, get_or, sym, ap, ◌∙◌, subst, arith, take_all, pos, neg_ℤ}
-use Rattle.std.proofs.Common.{nat_abs, ◌<◌, ◌+◌}
-use Rattle.std.proofs.lemmas.List.{length-map, take_more, get_or-map}
+use Rattle.std.proofs.Common.{◌≡◌, ◌≤◌, ◌∷◌, ◌++◌, [], ℕ, ℤ, suc, zero, List, Some, None, Ok, Err, Bor, map}
+use Rattle.std.proofs.Common.{take, length, get_or, sym, ap, ◌∙◌, subst, arith, take_all, pos, neg_ℤ, nat_abs}
+use Rattle.std.proofs.{Common.{◌<◌, ◌+◌}, lemmas.List.{length-map, take_more, get_or-map}}
 use Rattle.std.proofs.lemmas.Option.{none-some}
 use Rattle.std.specs.List.{AllZip}
-use Rattle.wax.specs.GlobView.{GlobView}
-use Rattle.wax.specs.Language.{BuildError, Memory, build_number}
+use Rattle.wax.specs.{GlobView.GlobView, Language.{BuildError, Memory, build_number}}
 use Rattle.wax.specs.declared.BuildError.TheVariants.{Parse, Rule, Compile}
-use Rattle.wax.specs.declared.rule.RuleErrorKind.TheVariants as kinds
 use Rattle.wax_c.proofs.CutEach.{AllZip-more}
-use Rattle.wax_c.specs.{GlobHandles.IsGlobHandle, Numbers.error_number, Outcomes.IsGlobOf, Outcomes.IsNoGlob}
+use Rattle.wax_c.specs.{GlobHandles.IsGlobHandle, Numbers.error_number, Outcomes.{IsGlobOf, IsNoGlob}}
 use Rattle.wax_c.specs.declared.error.CallError.{CallError}
 use Rattle.wax_c.specs.declared.error.CallError.TheVariants.{Build, NotText, NoRoom}
-use Rattle.wax_c.specs.declared.globs.WaxSpan.{WaxSpan}
-use Rattle.wax_c.specs.declared.handle.GlobHandle.{GlobHandle}
+use Rattle.wax_c.specs.{declared.globs.WaxSpan.WaxSpan, declared.handle.GlobHandle.GlobHandle}
 use denote.RawPtr.{null_ptr}
+use Rattle.wax.specs.declared.rule.RuleErrorKind.TheVariants as kinds
 
 -- an error has a number other than 0
 some_number : (n : ℕ) → 1 ≤ n → neg_ℤ (pos n) ≡ pos 0 → ⊥

@@ -1,20 +1,15 @@
 -- The captures of a path are parts of it, one after another.
-use Rattle.std.proofs.Common.{◌≡◌, ◌≤◌, ◌+◌, ◌∷◌, ◌∙◌, ◌==◌, ℕ, Bool, true, false, Result, Ok}
-use Rattle.std.proofs.Common.{Err, List, [], length, take, drop, chars, encode_utf8_all, length-append}
-use Rattle.std.proofs.Common.{take-append-drop, le_refl, neg_ℤ, nat_abs, pos, inl, inr, ap, arith, map}
-use Rattle.std.proofs.Common.{refl, subst, suc, sym}
-use Rattle.std.proofs.Common.{if◌then◌else◌}
-use Rattle.std.proofs.Math.Utf8.{encode, encodes}
-use Rattle.std.proofs.lemmas.List.Concat.{flat_map-append}
+use Rattle.std.proofs.Common.{◌≡◌, ◌≤◌, ◌+◌, ◌∷◌, ◌∙◌, ◌==◌, ℕ, Bool, true, false, Result, Ok, Err, List, []}
+use Rattle.std.proofs.Common.{length, take, drop, chars, encode_utf8_all, length-append, take-append-drop}
+use Rattle.std.proofs.Common.{le_refl, neg_ℤ, nat_abs, pos, inl, inr, ap, arith, map, refl, subst, suc, sym}
+use Rattle.std.proofs.{Common.if◌then◌else◌, Math.Utf8.{encode, encodes}, lemmas.List.Concat.flat_map-append}
 use Rattle.std.proofs.lemmas.Str.{encodes-append, encodes-chars}
 use Rattle.std.specs.List.{flat_map}
 use Rattle.wax.specs.GlobView.{GlobView}
 use Rattle.wax.specs.Language.{Leaf, Span, Tree, Trees, alternation, class, concatenation, leaf, literal}
 use Rattle.wax.specs.Language.{members, more, none, one, repetition, separator, tree, zero_or_more}
 use Rattle.wax_capture.specs.Captures.{Captured, leaf_captures, token_captures, tree_capture}
-use Rattle.wax_c.specs.Captures.{Captures, Texts}
-use Rattle.wax_c.specs.Numbers.{answer_number}
-use Rattle.wax_c.specs.declared.error.CallError.{CallError}
+use Rattle.wax_c.specs.{Captures.{Captures, Texts}, Numbers.answer_number, declared.error.CallError.CallError}
 use Rattle.wax_c.specs.declared.error.CallError.TheVariants.{Build, NotText, NoRoom}
 
 abbrev bytes_of : List (List ℕ) → ℕ

@@ -3,8 +3,8 @@ use Rattle.std.proofs.Common.{◌≡◌, ◌≤◌, ℕ, suc, ◌+◌, List, [],
 use Rattle.std.proofs.Common.{encode_utf8_all, sym, ◌∙◌, ap, ap₂, append-nil, length-append, take_all, ⊎_elim}
 use Rattle.std.proofs.Common.{arith, IsUtf8, chars}
 use Rattle.std.proofs.lemmas.Option.{none-some, slice_get_within, get_or_from_slice_get, slice_get_cases}
-use Rattle.std.proofs.{lemmas.List.take_more, lemmas.List.map-append, lemmas.List.Concat.flat_map-append}
-use Rattle.std.proofs.{lemmas.Str.encodes-chars}
+use Rattle.std.proofs.{lemmas.List.{take_more, map-append}, lemmas.List.Concat.flat_map-append}
+use Rattle.std.proofs.lemmas.Str.{encodes-chars}
 use Rattle.std.specs.List.{flat_map}
 use Rattle.wax_c.specs.Captures.{Texts, texts_of}
 

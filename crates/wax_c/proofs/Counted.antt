@@ -1,23 +1,16 @@
 -- As many captures as tokens that capture.
-use Rattle.std.proofs.Common.{◌≡◌, ◌≤◌, ◌∷◌, ◌∙◌, ℕ, ℤ, Bool, true, false, Result, Ok, Err, List}
-use Rattle.std.proofs.Common.{[]}
-use Rattle.std.proofs.Common.{length, filter, map, take, drop, refl, sym, ap, subst, arith, neg_ℤ}
-use Rattle.std.proofs.Common.{nat_abs, pos, length-append, chars}
-use Rattle.std.proofs.lemmas.List.{length-map}
-use Rattle.std.proofs.lemmas.List.Elements.{filter-append}
-use Rattle.std.proofs.lemmas.List.FromFn.{length-enumerate_from}
+use Rattle.std.proofs.Common.{◌≡◌, ◌≤◌, ◌∷◌, ◌∙◌, ℕ, ℤ, Bool, true, false, Result, Ok, Err, List, [], length}
+use Rattle.std.proofs.Common.{filter, map, take, drop, refl, sym, ap, subst, arith, neg_ℤ, nat_abs, pos}
+use Rattle.std.proofs.{Common.{length-append, chars}, lemmas.List.length-map}
+use Rattle.std.proofs.{lemmas.List.Elements.filter-append, lemmas.List.FromFn.length-enumerate_from}
 use Rattle.wax.specs.GlobView.{GlobView}
 use Rattle.wax.specs.Language.{Span, Tree, Trees, alternation, class, concatenation, leaf, literal}
 use Rattle.wax.specs.Language.{annotation_of, is_capturing, listed, members, more, none, one, repetition}
-use Rattle.wax.specs.Language.{separator, tree, zero_or_more}
-use Rattle.wax.specs.Matching.{cut, ends_of}
-use Rattle.wax.specs.Queries.{captures}
+use Rattle.wax.specs.{Language.{separator, tree, zero_or_more}, Matching.{cut, ends_of}, Queries.captures}
 use Rattle.wax_capture.specs.Captures.{Captured, token_captures}
 use Rattle.wax_c.proofs.Captured.{captures_fit}
-use Rattle.wax_c.specs.Captures.{Captures, CapturesAs, Texts}
-use Rattle.wax_c.specs.Numbers.{answer_number}
-use Rattle.wax_c.specs.Spans.{Spans, SpansAs, wax_span}
-use Rattle.wax_c.specs.declared.error.CallError.{CallError}
+use Rattle.wax_c.specs.{Captures.{Captures, CapturesAs, Texts}, Numbers.answer_number}
+use Rattle.wax_c.specs.{Spans.{Spans, SpansAs, wax_span}, declared.error.CallError.CallError}
 use Rattle.wax_c.specs.declared.error.CallError.TheVariants.{Build, NotText, NoRoom}
 use Rattle.wax_c.specs.declared.globs.WaxSpan.{WaxSpan}
 

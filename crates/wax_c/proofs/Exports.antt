@@ -2,12 +2,12 @@
 use Rattle.std.proofs.Common.{List, [], ◌∷◌, ℕ}
 use base.Logic.{SProp, ent, ex, sep, wand, via, comm∗, mono_l, wand_i, apply∗}
 use contract.Lifetimes.{Lfts, Shares}
-use mir.{Syntax.Body, Syntax.Fn, Syntax.Local, Syntax.Ty, Syntax.local, Syntax.value_local, Val.Val}
+use mir.{Syntax.{Body, Fn, Local, Ty, local, value_local}, Val.Val}
 use seplogic.Ra.Ura.{Ura}
 use types.Logic.{Logic, sem}
-use denote.{Laws.Ises, Laws.Are, Laws.Spells, Laws.valss, Laws.Tellss, Signature.Signature, Signature.Slot}
-use denote.{Signature.plain, Signature.types_at, Triple.Entry.Args, Triple.Entry.Vals, Triple.Entry.on_entry}
-use denote.{RattleType.RattleType, Steps.said, Triple.Clauses.Ended, Triple.End.Kepts}
+use denote.{Laws.{Ises, Are, Spells, valss, Tellss}, Signature.{Signature, Slot, plain, types_at}}
+use denote.{Triple.Entry.{Args, Vals, on_entry}, RattleType.RattleType, Steps.said, Triple.Clauses.Ended}
+use denote.Triple.End.{Kepts}
 use Rattle.std.proofs.alloc.Global.TheLaws as heap_laws
 use Rattle.std.specs.contracts.alloc.Global as heap
 

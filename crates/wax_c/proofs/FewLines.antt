@@ -1,20 +1,16 @@
 -- Lines that are found are no more than the list has, and are written if there is room for so many.
-use Rattle.std.proofs.Common.{◌≡◌, ◌≤◌, ◌<◌, ◌+◌, ◌∙◌, ℕ, ℤ, suc, Bool, true, false, List, [], ◌∷◌}
-use Rattle.std.proofs.Common.{Some, Result, Ok, Err, IfOk, ap, arith, filter, get_or, length, nat_abs, neg_ℤ}
-use Rattle.std.proofs.Common.{not, pos, refl, slice_get, subst, sym}
-use Rattle.std.proofs.lemmas.List.Filters.{length-filter_both}
+use Rattle.std.proofs.Common.{◌≡◌, ◌≤◌, ◌<◌, ◌+◌, ◌∙◌, ℕ, ℤ, suc, Bool, true, false, List, [], ◌∷◌, Some}
+use Rattle.std.proofs.Common.{Result, Ok, Err, IfOk, ap, arith, filter, get_or, length, nat_abs, neg_ℤ, not}
+use Rattle.std.proofs.{Common.{pos, refl, slice_get, subst, sym}, lemmas.List.Filters.length-filter_both}
 use Rattle.std.proofs.lemmas.List.Kept.{AllPairs-from_increasing}
 use Rattle.std.proofs.lemmas.Option.{get_or_from_slice_get, slice_get_within}
 use Rattle.std.specs.List.Sorted.{IsStrictlyIncreasing}
-use Rattle.wax.specs.Comparing.{AreIdle, TidiesUp}
-use Rattle.wax.specs.declared.NoMemory.{NoMemory}
-use Rattle.wax.specs.declared.ignoring.IgnoreList.{IgnoreList}
-use Rattle.wax.specs.declared.walk.IdleLine.{IdleLine}
+use Rattle.wax.specs.{Comparing.{AreIdle, TidiesUp}, declared.NoMemory.NoMemory}
+use Rattle.wax.specs.{declared.ignoring.IgnoreList.IgnoreList, declared.walk.IdleLine.IdleLine}
 use Rattle.wax_c.specs.Lines.{ListsFound, ListsWithin, is_sure, lines_number, sure_indexes, unsure_indexes}
 use Rattle.wax_c.specs.declared.error.CallError.{CallError}
 use Rattle.wax_c.specs.declared.error.CallError.TheVariants.{Build, NotText, NoRoom}
-use Rattle.wax_c.specs.declared.lines.FoundLines.{FoundLines}
-use Rattle.wax_c.specs.inner.FoundLines.{AreFoundLines}
+use Rattle.wax_c.specs.{declared.lines.FoundLines.FoundLines, inner.FoundLines.AreFoundLines}
 use lib.ListN.{length-map}
 
 -- ---- elements whose numbers rise from one number to another are no more than there are numbers between

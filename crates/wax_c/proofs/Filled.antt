@@ -1,7 +1,6 @@
 -- Bytes that were put into an output.
 use Rattle.std.proofs.Common.{◌≡◌, ℕ, List, Result, Ok, Err, IsUtf8, chars, sym, subst}
-use Rattle.wax_c.specs.Outcomes.{Fills, OfText, Output, is_text}
-use Rattle.wax_c.specs.declared.error.CallError.{CallError}
+use Rattle.wax_c.specs.{Outcomes.{Fills, OfText, Output, is_text}, declared.error.CallError.CallError}
 use Rattle.wax_c.specs.declared.error.CallError.TheVariants.{Build, NotText, NoRoom}
 
 -- if they are wanted, the output is filled as wanted

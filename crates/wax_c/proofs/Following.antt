@@ -2,22 +2,19 @@
 -- the same of a reference to what lies there.
 use Rattle.std.proofs.Common.{List, [], ◌∷◌, ◌++◌, ℕ, ℤ}
 use Rattle.std.specs.{Box.Ownership.box_owns, contracts.impls.GlobalAllocator.TheImpl.ghosts}
-use base.{Fml.GName, Fml.Lft, Fml.Share, Fraction.full_share, Logic.SProp, Logic.ent, Logic.sep}
-use contract.{Lifetimes.Lfts, Lifetimes.Shares, Lifetimes.toks, Monad.fact, Running.Running, Running.tables}
-use mir.{Syntax.Callee, Syntax.Mutability, Val.Val, Val.vptr}
-use prog.{Model.Model, Wp.Calls, Wp.Closed, Wp.WpFn}
+use base.{Fml.{GName, Lft, Share}, Fraction.full_share, Logic.{SProp, ent, sep}}
+use contract.{Lifetimes.{Lfts, Shares, toks}, Monad.fact, Running.{Running, tables}}
+use mir.{Syntax.{Callee, Mutability}, Val.{Val, vptr}}
+use prog.{Model.Model, Wp.{Calls, Closed, WpFn}}
 use seplogic.Ra.Ura.{Ura}
 use types.Logic.{Logic, sem}
-use denote.RawPtr.{Ptr, block_ptr, rawptr_vals, rawptr_Tells}
-use denote.Triple.Clauses.{Clauses, Ended, closing}
-use denote.{RattleType.Denots, RattleType.Valss, RattleType.flat, RattleType.owns, Bor.Bor, Builtin.i32}
-use denote.{Builtin.RawPtr, Exit.yes, Laws.all_Typed, Ref.MutBor, Signature.plain, Triple.End.Fins}
-use denote.{Triple.End.outs, Triple.End.lasts_of, Triple.Spec.triple_of, Triple.Statement.Triple}
-use denote.{Triple.Table.entered, Triple.Table.framed}
+use denote.{RawPtr.{Ptr, block_ptr, rawptr_vals, rawptr_Tells}, Triple.Clauses.{Clauses, Ended, closing}}
+use denote.{RattleType.{Denots, Valss, flat, owns}, Bor.Bor, Builtin.{i32, RawPtr}, Exit.yes, Laws.all_Typed}
+use denote.{Ref.MutBor, Signature.plain, Triple.End.{Fins, outs, lasts_of}, Triple.Spec.triple_of}
+use denote.{Triple.Statement.Triple, Triple.Table.{entered, framed}}
 use Rattle.wax_c.proofs.Arguments.{Exits, Params, Rows, count, kept, lawfuls, spelling, stored, tells, values}
-use Rattle.wax_c.proofs.Lending.{lends, Asks, Leaves, Ends, Loan, Mode}
-use Rattle.wax_c.proofs.Exports.{Z, ended, spelled, told}
-use Rattle.wax_c.proofs.{Held.Held, Shapes.Shape, Shapes.code}
+use Rattle.wax_c.proofs.{Lending.{lends, Asks, Leaves, Ends, Loan, Mode}, Exports.{Z, ended, spelled, told}}
+use Rattle.wax_c.proofs.{Held.Held, Shapes.{Shape, code}}
 use Rattle.std.proofs.alloc.Global.TheLaws as heap_laws
 
 -- T: what lies there.  Says: the clause, by its value

@@ -1,11 +1,9 @@
 -- The bytes of a path that is found.
 use Rattle.std.proofs.Common.{◌≡◌, ◌≤◌, ◌*◌, ℕ, List, [], ◌∷◌, IsUtf8, chars, length, ap, arith, subst, Err}
-use Rattle.std.proofs.Math.Utf8.{encode, encodes}
-use Rattle.std.proofs.lemmas.List.{length-append}
+use Rattle.std.proofs.{Math.Utf8.{encode, encodes}, lemmas.List.length-append}
 use Rattle.std.proofs.lemmas.Str.{encodes-chars, len_utf8_bounds, length-encode}
 use Rattle.wax_c.proofs.Room.{fits}
-use Rattle.wax_c.specs.Outcomes.{Fills, Output}
-use Rattle.wax_c.specs.declared.error.CallError.{CallError}
+use Rattle.wax_c.specs.{Outcomes.{Fills, Output}, declared.error.CallError.CallError}
 use Rattle.wax_c.specs.declared.error.CallError.TheVariants.{NoRoom}
 
 -- a character takes 4 bytes at most

@@ -5,35 +5,32 @@ use Rattle.std.proofs.impls.GlobalAllocator.allocate.Symbol.{code as allocate}
 use Rattle.std.proofs.impls.GlobalAllocator.grow.Symbol.{code as grow}
 use Rattle.std.proofs.impls.GlobalAllocator.shrink.Symbol.{code as shrink}
 use Rattle.std.proofs.impls.GlobalAllocator.deallocate.Symbol.{code as free}
-use Rattle.std.specs.contracts.impls.GlobalAllocator.TheImpl.{ghosts, dict}
-use Rattle.std.specs.{Box.Ownership.box_owns, Prelude.Option, Prelude.Some, Prelude.None}
-use Rattle.wax_c.proofs.Exports.{Gives, Returned, Z, ended, function, spelled, told}
-use Rattle.wax_c.proofs.{Held.Held, Lending.unbounded}
+use Rattle.std.specs.{contracts.impls.GlobalAllocator.TheImpl.{ghosts, dict}, Box.Ownership.box_owns}
+use Rattle.std.specs.Prelude.{Option, Some, None}
+use Rattle.wax_c.proofs.{Exports.{Gives, Returned, Z, ended, function, spelled, told}, Held.Held}
+use Rattle.wax_c.proofs.Lending.{unbounded}
 use base.Logic.{SProp, ent, ex, guard, guard_i, sep, via, emp, id⊢, never, fst∗, snd∗}
-use base.{Fml.Fml, Fml.ftrue, Fml.fsep, Fml.flft, Fml.feq, Fraction.full_share}
-use contract.Running.{Running, MachineTables, tables}
-use contract.{BorrowLft.◌⊑◌, BorrowLft.⊑_static, Monad.fact, Monad.fact_i, Monad.fact_use}
+use base.{Fml.{Fml, ftrue, fsep, flft, feq}, Fraction.full_share}
+use contract.{Running.{Running, MachineTables, tables}, BorrowLft.{◌⊑◌, ⊑_static}}
+use contract.Monad.{fact, fact_i, fact_use}
 use lib.Dec.{T as Holds}
 use mir.Syntax.{Callee, Dict, Fn, ty_unit, ty_bool, ty_ptr, a_type, impl, tcons, tnil, dcons, dnil, place}
 use mir.Syntax.{copy, int, assign, rv_opd, op2, ptr_eq, opd_unit, cond, skip, seq, call, return, Body}
-use mir.{Raw.raw as bare, Val.Val, Val.vptr, Val.vunit, Val.has_ty, Val.WT}
-use prog.{Model.Model, Wired.Wired, Wp.Closed, Wp.WpFn}
+use mir.{Raw.raw as bare, Val.{Val, vptr, vunit, has_ty, WT}}
+use prog.{Model.Model, Wired.Wired, Wp.{Closed, WpFn}}
 use seplogic.Ra.Ura.{Ura}
 use types.ByLocal.{env, alloc_all, pass_all, free_all, look_at, get, sets, lands_as}
 use types.Kit.{Item, by, Sq, given, learn, at_ret, prop, ‵, raw, ◌⊛◌, some, later, ◌$◌, ◌∵◌, !, qed, move}
 use types.Kit.{drop, use0, use1, use2, split, join, pick, fsplit, fjoin, feq_i, feq_l, regoal, suffices, show}
 use types.Kit.{frame, rewrite, await, done}
 use types.Run.{and_then, no_more, of_opd, lit, bin, unit_lit, first, branches, skips, exec, calls, returns}
-use types.Run.{returns_within, enter}
-use types.{Logic.Logic, Logic.sem, Tokens.lft_new}
+use types.{Run.{returns_within, enter}, Logic.{Logic, sem}, Tokens.lft_new}
 use denote.RawPtr.{Ptr, block_ptr, null_ptr, rawptr_vals, rawptr_Tells, in_a_block, lies_at, Testable}
-use denote.RawPtr.{tests_null}
-use denote.Triple.Clauses.{Clauses, Ended, ensured, closing}
-use denote.{Builtin.unit, Builtin.RawPtr, Exit.yes, Exit.no, Laws.Is, Laws.shows, Memory.lone, Param.layout}
-use denote.{Param.arg, Param.bounded, Param.Laws.Laws, Param.Laws.arg_laws, RattleType.RattleType}
-use denote.{RattleType.owns, Signature.plain, Steps.nothing, Steps.peeks, Steps.only, Triple.Call.calls_at}
-use denote.{Triple.Spec.triple_of, Triple.Statement.Contract, Triple.Statement.Triple, Triple.Table.entered}
-use denote.{Triple.Table.framed}
+use denote.{RawPtr.tests_null, Triple.Clauses.{Clauses, Ended, ensured, closing}, Builtin.{unit, RawPtr}}
+use denote.{Exit.{yes, no}, Laws.{Is, shows}, Memory.lone, Param.{layout, arg, bounded}}
+use denote.{Param.Laws.{Laws, arg_laws}, RattleType.{RattleType, owns}, Signature.plain}
+use denote.{Steps.{nothing, peeks, only}, Triple.Call.calls_at, Triple.Spec.triple_of}
+use denote.{Triple.Statement.{Contract, Triple}, Triple.Table.{entered, framed}}
 use Rattle.std.proofs.alloc.Global.TheLaws as heap_laws
 use Rattle.std.proofs.boxed.Box.TheLaws as box_laws
 use Rattle.std.proofs.boxed.Box.from_raw.Met as from_met

@@ -1,8 +1,6 @@
 -- What the proof of a call that follows, frees or makes a handle cites.
 pub use Rattle.std.proofs.Common.{◌≡◌, refl, pos, Some, None}
-pub use Rattle.wax_c.proofs.Following.{follows, passed, mut_at, shr_at}
-pub use Rattle.wax_c.proofs.Lending.{by_mut, by_shr}
+pub use Rattle.wax_c.proofs.{Following.{follows, passed, mut_at, shr_at}, Lending.{by_mut, by_shr}}
 pub use Rattle.wax_c.proofs.Shapes.{alone, path, facts, placing, items, writing, listing, captures, parts}
-pub use Rattle.wax_c.proofs.Held.{glob, set, list}
-pub use Rattle.wax_c.proofs.{Freeing.frees, Freeing.boxes, Making.holds, Making.nulls}
-pub use denote.{Builtin.u8, Builtin.usize, RawPtr.block_ptr, RawPtr.null_ptr}
+pub use Rattle.wax_c.proofs.{Held.{glob, set, list}, Freeing.{frees, boxes}, Making.{holds, nulls}}
+pub use denote.{Builtin.{u8, usize}, RawPtr.{block_ptr, null_ptr}}

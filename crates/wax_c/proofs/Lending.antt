@@ -1,22 +1,21 @@
 -- What lies at a handle is lent for the time of a call.
 use Rattle.std.proofs.Common.{◌≡◌, List, [], ◌∷◌, refl, sym, subst, ℕ, ℤ}
 use Rattle.std.specs.Box.Ownership.{box_owns}
-use base.Fml.{Fml, Lft, GName, ftrue, fsep, flft, fdead, flent, fres, fbor, Incl-refl}
-use base.Fraction.{full_share}
+use base.{Fml.{Fml, Lft, GName, ftrue, fsep, flft, fdead, flent, fres, fbor, Incl-refl}, Fraction.full_share}
 use base.Logic.{SProp, ent, sep, ex, emp, never, fst∗}
-use contract.{BorrowLft.◌⊑◌, BorrowLft.⊑_static, Monad.fact}
-use mir.{Raw.raw as bare, Syntax.named, Syntax.Callee, Syntax.Ty, Val.Val, Val.vptr}
+use contract.{BorrowLft.{◌⊑◌, ⊑_static}, Monad.fact}
+use mir.{Raw.raw as bare, Syntax.{named, Callee, Ty}, Val.{Val, vptr}}
 use prog.Wp.{Calls}
 use seplogic.Ra.Ura.{Ura}
 use sound.WpLaws.{FmC}
 use types.Kit.{‵, raw, suffices, ◌⊛◌, some, later, ◌$◌, ◌∵◌, !, qed, by, move, drop, use1, use2, use3}
 use types.Kit.{rewrite, regoal, prop, split, join, pick, fsplit, fjoin, frame, await, updating}
-use types.Kit.{now as at_once, show, done}
-use types.{Logic.Logic, Logic.sem, SemTy.Body, Tokens.lft_new, Tokens.lft_end, Tokens.lent_back}
-use denote.{Lend.lends_ref, Lend.ref_back, Lend.lends_shr, RawPtr.Ptr, RawPtr.block_ptr, RawPtr.null_ptr}
-use denote.{RawPtr.in_a_block, Builtin.i32, Memory.mem, Memory.part_at, Memory.lone, Param.Laws.Laws}
-use denote.{RattleType.RattleType, Ref.MutRef, Ref.ShrRef, Steps.nothing, Steps.heard, Triple.Walked.says}
-use Rattle.wax_c.proofs.{Held.Held, Exports.Gives, Exports.Returned}
+use types.{Kit.{now as at_once, show, done}, Logic.{Logic, sem}, SemTy.Body}
+use types.Tokens.{lft_new, lft_end, lent_back}
+use denote.{Lend.{lends_ref, ref_back, lends_shr}, RawPtr.{Ptr, block_ptr, null_ptr, in_a_block}, Builtin.i32}
+use denote.{Memory.{mem, part_at, lone}, Param.Laws.Laws, RattleType.RattleType, Ref.{MutRef, ShrRef}}
+use denote.{Steps.{nothing, heard}, Triple.Walked.says}
+use Rattle.wax_c.proofs.{Held.Held, Exports.{Gives, Returned}}
 
 pub unbounded : (R : RattleType) → R.lives ≡ [] → (α : ℕ) → (α ∷ []) ⊑ R.lives
 unbounded R e α = let P : Lft → Type 0 = λ l. (α ∷ []) ⊑ l in subst P (sym e) (⊑_static (α ∷ []))

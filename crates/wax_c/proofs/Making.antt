@@ -3,23 +3,21 @@ use Rattle.std.proofs.Common.{◌≡◌, List, [], ◌∷◌, ◌++◌, refl, sy
 use Rattle.std.specs.{Box.Ownership.box_owns, contracts.impls.GlobalAllocator.TheImpl.ghosts}
 use Rattle.wax_c.proofs.Exports.{Gives, Returned, Z, ended, function, spelled, told}
 use Rattle.wax_c.proofs.Values.{both, Loose, loose_good, loose_out}
-use base.Fml.{Fml, ftrue, fsep, fex, feq}
-use base.Logic.{SProp, ent, sep, ex, emp, id⊢}
-use contract.{Monad.fact, Running.Running, Running.tables}
+use base.{Fml.{Fml, ftrue, fsep, fex, feq}, Logic.{SProp, ent, sep, ex, emp, id⊢}}
+use contract.{Monad.fact, Running.{Running, tables}}
 use mir.Syntax.{Callee, Fn, Sym, Ty, ty_ptr, ty_struct, tcons, tnil, place, copy, int, assign, rv_opd}
-use mir.Syntax.{aggregate, field, seq, return}
-use mir.Val.{Val, vptr, vstruct, of_list}
-use prog.{Model.Model, Wp.Closed, Wp.WpFn}
+use mir.{Syntax.{aggregate, field, seq, return}, Val.{Val, vptr, vstruct, of_list}}
+use prog.{Model.Model, Wp.{Closed, WpFn}}
 use seplogic.Ra.Ura.{Ura}
 use types.ByLocal.{alloc_all, pass_all, free_all, look_at, get, get_in, sets}
 use types.Kit.{Sq, prop, ‵, ◌⊛◌, ◌$◌, ◌∵◌, !, qed, move, keep, drop, split, join, fsplit, fjoin, fpack, feq_i}
 use types.Kit.{rewrite, suffices, frame, show, done}
-use types.Run.{stop, fld, of_opd, and_then, no_more, lit, returns, enter}
-use types.{Logic.Logic, Logic.sem, Part.agg, Part.sub, Part.whole}
-use denote.{Builtin.RawPtr, Exit.yes, Exit.no, Param.layout, RattleType.RattleType, RattleType.Valss}
-use denote.{RattleType.owns, RawPtr.Ptr, RawPtr.block_ptr, RawPtr.null_ptr, RawPtr.ptr_val, Signature.plain}
-use denote.{Steps.nothing, Triple.Clauses.Clauses, Triple.Clauses.Ended, Triple.Clauses.closing}
-use denote.{Triple.Spec.triple_of, Triple.Statement.Triple, Triple.Table.entered, Triple.Walked.says}
+use types.{Run.{stop, fld, of_opd, and_then, no_more, lit, returns, enter}, Logic.{Logic, sem}}
+use types.Part.{agg, sub, whole}
+use denote.{Builtin.RawPtr, Exit.{yes, no}, Param.layout, RattleType.{RattleType, Valss, owns}}
+use denote.{RawPtr.{Ptr, block_ptr, null_ptr, ptr_val}, Signature.plain, Steps.nothing}
+use denote.{Triple.Clauses.{Clauses, Ended, closing}, Triple.Spec.triple_of, Triple.Statement.Triple}
+use denote.{Triple.Table.entered, Triple.Walked.says}
 use Rattle.std.proofs.alloc.Global.TheLaws as heap_laws
 
 abbrev handle_ty : Sym → Ty

@@ -1,9 +1,8 @@
 -- How many lines of an input aren't text.
-use Rattle.std.proofs.Common.{◌≡◌, ◌+◌, ◌∙◌, ◌==◌, ℕ, suc, Bool, true, false, List, [], ◌∷◌, IsUtf8}
-use Rattle.std.proofs.Common.{Some, None, ap, ap₂, arith, cond, drop, if◌then◌else◌, inl, inr, nat_lt, not}
-use Rattle.std.proofs.Common.{length, refl, subst, sym, take, ◌≤◌, ◌<◌}
-use Rattle.std.specs.Option.{unwrap_or}
-use Rattle.std.specs.List.{position_or_len}
+use Rattle.std.proofs.Common.{◌≡◌, ◌+◌, ◌∙◌, ◌==◌, ℕ, suc, Bool, true, false, List, [], ◌∷◌, Some, None, ap}
+use Rattle.std.proofs.Common.{ap₂, arith, cond, drop, if◌then◌else◌, inl, inr, nat_lt, not, length, refl}
+use Rattle.std.proofs.Common.{subst, sym, take, ◌≤◌, ◌<◌}
+use Rattle.std.specs.{Option.unwrap_or, List.position_or_len}
 use Rattle.wax.specs.Matching.{Filters, WritesMeant, lines}
 use Rattle.wax_lines.specs.Lines.{Gives, no_text, onto_lines, text}
 use Rattle.wax_c.specs.NotText.{AreNotText, IsNotText}

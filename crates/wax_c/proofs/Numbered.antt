@@ -6,28 +6,23 @@ use Rattle.wax_c.proofs.Arguments.{spelling, stored, tells, values}
 use Rattle.wax_c.proofs.Exports.{Gives, Z, ended, function, spelled, told}
 use Rattle.wax_c.proofs.Lending.{lends, Asks, Leaves, Ends, Loan, Mode}
 use Rattle.wax_c.proofs.Shapes.{again, again_types, answer, answered, lent, lent_slice, more, on, params}
-use Rattle.wax_c.proofs.Shapes.{passing}
-use Rattle.wax_c.proofs.{Held.Held}
-use base.{Fml.GName, Fml.Lft, Fml.Share, Fml.ftrue, Fml.fsep, Fraction.full_share}
-use base.{Logic.SProp, Logic.ent, Logic.sep}
-use contract.{Lifetimes.Lfts, Lifetimes.Shares, Lifetimes.toks, Monad.fact, Running.Running, Running.tables}
+use Rattle.wax_c.proofs.{Shapes.passing, Held.Held}
+use base.{Fml.{GName, Lft, Share, ftrue, fsep}, Fraction.full_share, Logic.{SProp, ent, sep}}
+use contract.{Lifetimes.{Lfts, Shares, toks}, Monad.fact, Running.{Running, tables}}
 use lib.Dec.{T as Holds}
 use mir.Syntax.{Callee, Fn, Mutability, ty_int, ty_ptr, ty_ref, place, assign, rv_opd, seq, erased}
-use mir.{Val.Val, Val.vint, Val.vptr, Val.has_ty, Val.WT}
-use prog.{Model.Model, Wp.Calls, Wp.Closed, Wp.Loops, Wp.WpFn}
+use mir.Val.{Val, vint, vptr, has_ty, WT}
+use prog.{Model.Model, Wp.{Calls, Closed, Loops, WpFn}}
 use seplogic.Ra.Ura.{Ura}
 use sound.WpLaws.{FmC}
 use types.ByLocal.{alloc_all, pass_all, free_all, look_at, get, sets, lands_as}
-use types.Kit.{Sq, raw, later, ◌$◌, !, prop, await}
-use types.Run.{calls, enter, no_more, of_opd, returns}
-use types.{Logic.Logic, Logic.sem}
+use types.{Kit.{Sq, raw, later, ◌$◌, !, prop, await}, Run.{calls, enter, no_more, of_opd, returns}}
+use types.Logic.{Logic, sem}
 use denote.RattleType.{RattleType, Denots, Valss, flat, mirs, owns}
-use denote.RawPtr.{Ptr, block_ptr, rawptr_vals, rawptr_Tells}
-use denote.Triple.Clauses.{Clauses, Ended, closing}
-use denote.{Builtin.i32, Builtin.usize, Builtin.RawPtr, Exit.yes, Laws.all_Typed, Laws.Typed}
-use denote.{Memory.pointee, Param.layout, Plain.uint_Lawful, Plain.uint_Tells}
-use denote.{Signature.plain, Triple.End.Fins, Triple.End.outs, Triple.End.lasts_of}
-use denote.{Triple.Spec.triple_of, Triple.Statement.Triple, Triple.Table.entered, Triple.Table.framed}
+use denote.{RawPtr.{Ptr, block_ptr, rawptr_vals, rawptr_Tells}, Triple.Clauses.{Clauses, Ended, closing}}
+use denote.{Builtin.{i32, usize, RawPtr}, Exit.yes, Laws.{all_Typed, Typed}, Memory.pointee, Param.layout}
+use denote.{Plain.{uint_Lawful, uint_Tells}, Signature.plain, Triple.End.{Fins, outs, lasts_of}}
+use denote.{Triple.Spec.triple_of, Triple.Statement.Triple, Triple.Table.{entered, framed}}
 use Rattle.std.proofs.alloc.Global.TheLaws as heap_laws
 
 -- the code: the number follows the pointer

@@ -2,25 +2,20 @@
 use Rattle.std.proofs.Common.{◌≡◌, List, [], ◌∷◌, ◌++◌, refl, subst, lit<, Option, Some, None, w32, ℤ}
 use Rattle.std.proofs.{alloc.Calls.handle_tells, cell.Inside.Good, ResultValues.and_tt}
 use Rattle.std.specs.contracts.impls.GlobalAllocator.TheImpl.{ghosts}
-use Rattle.wax_c.proofs.Exports.{Z}
-use Rattle.wax_c.proofs.Making.{handle_val, Within}
-use Rattle.wax_c.proofs.Values.{al}
+use Rattle.wax_c.proofs.{Exports.Z, Making.{handle_val, Within}, Values.al}
 use Rattle.wax_c.specs.GlobOwned.{glob_at, maybe_glob_at, owned_glob_at}
 use Rattle.wax_c.specs.contracts.handle.GlobHandle.{the_row as Handle}
 use Rattle.wax.specs.GlobView.{GlobView}
 use seplogic.Ra.Ura.{Ura}
 use lib.Dec.{T}
-use base.Logic.{ent, id⊢}
-use base.Fml.{Fml, feq, fsep, ftrue}
-use mir.Val.{Val, vstruct, of_list, has_ty, WT}
+use base.{Logic.{ent, id⊢}, Fml.{Fml, feq, fsep, ftrue}}
+use mir.{Val.{Val, vstruct, of_list, has_ty, WT}, Syntax.ty_int}
 use types.Logic.{Logic, sem}
 use types.Kit.{Item, Goal, Seq, Step, step, ‵, ◌$◌, ◌∵◌, !, qed, done, move, drop, fsplit, fjoin, fpick}
 use types.Kit.{fpack, feq_i, feq_l}
-use denote.RawPtr.{Ptr, block_ptr, null_ptr, ptr_val}
+use denote.{RawPtr.{Ptr, block_ptr, null_ptr, ptr_val}, Struct.Tuple.Tuple, RattleType.Valss}
+use denote.{Builtin.{RawPtr, i32}, Steps.nothing, Param.layout}
 use mathlib.Core.Bool.{Bool, true, false, ◌&&◌}
-use mir.Syntax.{ty_int}
-use denote.Struct.Tuple.{Tuple}
-use denote.{RattleType.Valss, Builtin.RawPtr, Builtin.i32, Steps.nothing, Param.layout}
 use Rattle.std.proofs.alloc.Global.TheLaws as heap_laws
 
 abbrev InPair : Handle.Denot → ℤ → Val → Valss (Handle ∷ i32 ∷ []) → Fml

@@ -5,31 +5,28 @@ use Rattle.wax_c.proofs.Arguments.{Argument, Exits, Params, Rows, count, kept, l
 use Rattle.wax_c.proofs.Arguments.{spelling, stored, tells, values}
 use Rattle.wax_c.proofs.Exports.{Gives, Returned, Z, ended, function, spelled, told}
 use Rattle.wax_c.proofs.Shapes.{again, again_types, answer, answered, lent, lent_slice, more, on, params}
-use Rattle.wax_c.proofs.Shapes.{passing}
-use Rattle.wax_c.proofs.{Held.Held, Lending.Mode, Lending.alive}
-use base.{Fml.Fml, Fml.GName, Fml.Lft, Fml.Share, Fml.ftrue, Fml.fsep, Fml.flft, Fraction.full_share}
-use base.{Logic.SProp, Logic.ent, Logic.ex, Logic.sep, Logic.emp, Logic.never, Logic.fst∗}
-use contract.{Lifetimes.Lfts, Lifetimes.Shares, Lifetimes.toks, Monad.fact, Running.Running, Running.tables}
+use Rattle.wax_c.proofs.{Shapes.passing, Held.Held, Lending.{Mode, alive}}
+use base.{Fml.{Fml, GName, Lft, Share, ftrue, fsep, flft}, Fraction.full_share}
+use base.Logic.{SProp, ent, ex, sep, emp, never, fst∗}
+use contract.{Lifetimes.{Lfts, Shares, toks}, Monad.fact, Running.{Running, tables}}
 use lib.Dec.{T as Holds}
 use mir.Syntax.{Callee, Fn, Mutability, Ty, ty_int, ty_ptr, ty_ref, place, assign, rv_opd, seq, erased}
-use mir.{Raw.raw as bare, Val.Val, Val.vint, Val.vptr, Val.has_ty, Val.WT}
-use prog.{Model.Model, Wp.Calls, Wp.Closed, Wp.Loops, Wp.WpFn}
+use mir.{Raw.raw as bare, Val.{Val, vint, vptr, has_ty, WT}}
+use prog.{Model.Model, Wp.{Calls, Closed, Loops, WpFn}}
 use seplogic.Ra.Ura.{Ura}
 use sound.WpLaws.{FmC}
 use types.ByLocal.{alloc_all, pass_all, free_all, look_at, get, sets, lands_as}
 use types.Kit.{Sq, ‵, raw, suffices, ◌⊛◌, some, later, ◌$◌, ◌∵◌, !, qed, by, move, drop, use1, use2, use3}
 use types.Kit.{regoal, prop, split, join, pick, fsplit, fjoin, frame, await, updating, now as at_once, show}
-use types.Kit.{done}
-use types.Run.{calls, enter, no_more, of_opd, returns}
-use types.{Logic.Logic, Logic.sem, Tokens.lft_new, Tokens.lft_end}
+use types.{Kit.done, Run.{calls, enter, no_more, of_opd, returns}, Logic.{Logic, sem}}
+use types.Tokens.{lft_new, lft_end}
 use denote.RattleType.{RattleType, Denots, Valss, flat, mirs, owns}
 use denote.RawPtr.{Ptr, block_ptr, null_ptr, rawptr_vals, rawptr_Tells, in_a_block}
-use denote.Triple.Clauses.{Clauses, Ended, closing}
-use denote.{Builtin.i32, Builtin.u8, Builtin.usize, Builtin.RawPtr, Exit.yes, Laws.all_Typed, Laws.Typed}
-use denote.{Memory.lone, Memory.part_at, Memory.pointee, Param.layout, Plain.uint_Lawful, Plain.uint_Tells}
-use denote.{Signature.plain, Steps.nothing, Steps.heard, Triple.End.Fins, Triple.End.outs}
-use denote.{Triple.End.lasts_of, Triple.Spec.triple_of, Triple.Statement.Triple, Triple.Table.entered}
-use denote.{Triple.Table.framed, Triple.Walked.says}
+use denote.{Triple.Clauses.{Clauses, Ended, closing}, Builtin.{i32, u8, usize, RawPtr}, Exit.yes}
+use denote.{Laws.{all_Typed, Typed}, Memory.{lone, part_at, pointee}, Param.layout}
+use denote.{Plain.{uint_Lawful, uint_Tells}, Signature.plain, Steps.{nothing, heard}}
+use denote.{Triple.End.{Fins, outs, lasts_of}, Triple.Spec.triple_of, Triple.Statement.Triple}
+use denote.{Triple.Table.{entered, framed}, Triple.Walked.says}
 use Rattle.std.proofs.alloc.Global.TheLaws as heap_laws
 
 -- Two loans at once, as `Loan` of one.

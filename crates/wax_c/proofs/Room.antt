@@ -1,14 +1,11 @@
 -- How many bytes the outputs of calls take at most.
 use Rattle.std.proofs.Common.{◌≡◌, ◌≤◌, ◌+◌, ◌*◌, ◌==◌, ◌++◌, ◌∷◌, ◌∙◌, if◌then◌else◌, ℕ, suc, Bool, true}
 use Rattle.std.proofs.Common.{false, Result, Ok, Err, IfErr, OnErr, List, [], IsUtf8, chars, length}
-use Rattle.std.proofs.Common.{length-append, ap, arith, subst}
-use Rattle.std.proofs.Math.Utf8.{encode, encodes}
+use Rattle.std.proofs.{Common.{length-append, ap, arith, subst}, Math.Utf8.{encode, encodes}}
 use Rattle.std.proofs.lemmas.Str.{encodes-chars, len_utf8_bounds, length-encode}
-use Rattle.wax.specs.Language.{all_spelled, escapable, is_one_of}
-use Rattle.wax.specs.Matching.{Filters, WritesMeant, lines}
+use Rattle.wax.specs.{Language.{all_spelled, escapable, is_one_of}, Matching.{Filters, WritesMeant, lines}}
 use Rattle.wax_lines.specs.Lines.{Gives, text, no_text, meant, not_meant, onto_lines}
-use Rattle.wax_c.specs.Outcomes.{Fills, Output}
-use Rattle.wax_c.specs.declared.error.CallError.{CallError}
+use Rattle.wax_c.specs.{Outcomes.{Fills, Output}, declared.error.CallError.CallError}
 use Rattle.wax_c.specs.declared.error.CallError.TheVariants.{NoRoom}
 
 -- ---- an output isn't too small for bytes that are no more than its own

@@ -2,7 +2,7 @@
 use Rattle.std.proofs.Common.{List, [], ◌∷◌, ◌++◌, ◌+◌, ◌≡◌, zero, refl, sym, subst, ℕ, ℤ, w32, w64}
 use Rattle.wax_c.proofs.Arguments.{Argument, text, list_out, out, type_of, Rows, count, values}
 use Rattle.wax_c.proofs.Exports.{Gives, Returned, Z, function}
-use base.{Logic.SProp, Logic.ex, Fml.Share, Fml.fat, Fml.froom, Fraction.full_share}
+use base.{Logic.{SProp, ex}, Fml.{Share, fat, froom}, Fraction.full_share}
 use contract.Lifetimes.{Lfts}
 use lib.Dec.{T}
 use mir.Syntax.{Fn, Callee, Lifetime, Mutability, Ty, ty_int, ty_ptr, ty_ref, place, copy, assign, rv_opd}
@@ -16,11 +16,9 @@ use types.ByLocal.{sets, lands_as}
 use types.Kit.{Sq, Item, Post, Step, step, runs, lands, prop, raw, ‵, ◌⊛◌, some, later, ◌$◌, !, move, join}
 use types.Kit.{split, pick, suffices, await, show, done}
 use types.Run.{Opds, Walks, assigns, init, and_then, no_more, addr, stop, fld, hop, from, of_opd, returns}
-use types.Run.{enter, calls}
-use types.{Logic.Logic, Part.Part, Part.sub, Part.whole, Part.agg}
-use denote.RattleType.{RattleType, Denots, mirs}
-use denote.{Builtin.i32, Builtin.u8, Builtin.usize, Laws.Is, Laws.Typed, Laws.shows, Memory.pointee}
-use denote.{Param.layout, Signed.sint_Lawful, Slice.slice_ty, Slice.slice_val, Steps.peeks}
+use types.{Run.{enter, calls}, Logic.Logic, Part.{Part, sub, whole, agg}}
+use denote.{RattleType.{RattleType, Denots, mirs}, Builtin.{i32, u8, usize}, Laws.{Is, Typed, shows}}
+use denote.{Memory.pointee, Param.layout, Signed.sint_Lawful, Slice.{slice_ty, slice_val}, Steps.peeks}
 
 -- ---- the code
 abbrev pub on : ℕ → Opd

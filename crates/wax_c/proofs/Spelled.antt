@@ -2,10 +2,9 @@
 use Rattle.std.proofs.Common.{◌≡◌, ◌≤◌, ◌∷◌, ◌↔◌, ◌⊎◌, ℕ, zero, suc, List, [], arith, ap, chars, refl, subst}
 use Rattle.std.specs.List.{AllZip}
 use Rattle.wax.specs.Language.{Span, Tokenized, Tree, branches_cost, program_length, trees}
-use Rattle.wax.specs.Patterns.{IsAnyOf, NumberMeans, OneMeans, SpellEach}
-use Rattle.wax.specs.{GlobView.GlobView, Matching.MeansAt, Matching.MeansText}
-use Rattle.wax_c.specs.inner.Spelled.{IsTokenOf, SpellsOnly}
-use Rattle.wax_c.specs.{Outcomes.IsGlobOf, Sets.IsSetOf, Sets.IsTreeOf}
+use Rattle.wax.specs.{Patterns.{IsAnyOf, NumberMeans, OneMeans, SpellEach}, GlobView.GlobView}
+use Rattle.wax.specs.Matching.{MeansAt, MeansText}
+use Rattle.wax_c.specs.{inner.Spelled.{IsTokenOf, SpellsOnly}, Outcomes.IsGlobOf, Sets.{IsSetOf, IsTreeOf}}
 
 -- the glob that would be built of them
 glob_of : List ℕ → Tokenized Span → GlobView

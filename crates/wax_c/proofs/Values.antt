@@ -1,18 +1,18 @@
 -- The machine values of a `Loose` and of a `OnceBox`. Assumes `Logic`.
-use Rattle.std.proofs.Common.{◌≡◌, ℕ, List, [], ◌∷◌, ◌++◌, refl, subst}
-use Rattle.std.proofs.{alloc.Calls.Al, alloc.Calls.handle_tells, cell.Inside.Good, ResultValues.and_tt}
+use Rattle.std.proofs.{Common.{◌≡◌, ℕ, List, [], ◌∷◌, ◌++◌, refl, subst}, alloc.Calls.{Al, handle_tells}}
+use Rattle.std.proofs.{cell.Inside.Good, ResultValues.and_tt}
 use Rattle.std.specs.{declared.alloc.Allocator.Ghosts, Box.Ownership.box_owns}
 use mathlib.Core.Bool.{true, ◌&&◌}
 use lib.Dec.{T}
 use seplogic.Ra.Ura.{Ura}
-use mir.Val.{Val, vptr, vstruct, vcons, vnil, of_list, has_ty, WT}
-use mir.{Syntax.impl, Syntax.tnil, Syntax.dnil, Raw.raw as bare}
+use mir.{Val.{Val, vptr, vstruct, vcons, vnil, of_list, has_ty, WT}, Syntax.{impl, tnil, dnil}}
+use mir.Raw.{raw as bare}
 use base.Logic.{never, fst∗}
 use types.Logic.{Logic, sem}
 use types.Kit.{Item, Goal, Seq, Step, step, ‵, ◌$◌, move, drop, fsplit, fjoin, fpick, fpack, feq_i, feq_l}
-use denote.RawPtr.{Ptr, block_ptr, null_ptr, ptr_val, in_a_block}
-use denote.{RattleType.RattleType, RattleType.Valss, Builtin.RawPtr, Memory.lone, Steps.nothing, Param.layout}
-use denote.{Param.Laws.Laws, Struct.Struct.within, Struct.Owning.shape}
+use denote.{RawPtr.{Ptr, block_ptr, null_ptr, ptr_val, in_a_block}, RattleType.{RattleType, Valss}}
+use denote.{Builtin.RawPtr, Memory.lone, Steps.nothing, Param.layout, Param.Laws.Laws, Struct.Struct.within}
+use denote.Struct.Owning.{shape}
 use Rattle.wax_c.specs.contracts.loose.Loose as loose
 
 abbrev pub both : Val → Val → Val

@@ -1,13 +1,8 @@
 -- How calls that capture end.
-use Rattle.std.specs.Prelude.{◌≡◌, ◌<◌, ◌≤◌, ◌⊎◌, ℕ, ℤ, pos, neg_ℤ, Bool, true, false, Result, Ok, Err}
-use Rattle.std.specs.Prelude.{List, length, map, IsUtf8, chars, encode_utf8_all}
-use Rattle.std.specs.List.{flat_map}
-use Rattle.wax.specs.GlobView.{GlobView, HasCaptures, IsMeant}
-use Rattle.wax.specs.Language.{Memory}
-use Rattle.wax.specs.Queries.{captures}
-use Rattle.wax_c.specs.Numbers.{answer_number}
-use Rattle.wax_c.specs.Outcomes.{HoldsFirst}
-use Rattle.wax_c.specs.declared.error.CallError.{CallError}
+use Rattle.std.specs.Prelude.{◌≡◌, ◌<◌, ◌≤◌, ◌⊎◌, ℕ, ℤ, pos, neg_ℤ, Bool, true, false, Result, Ok, Err, List}
+use Rattle.std.specs.{Prelude.{length, map, IsUtf8, chars, encode_utf8_all}, List.flat_map}
+use Rattle.wax.specs.{GlobView.{GlobView, HasCaptures, IsMeant}, Language.Memory, Queries.captures}
+use Rattle.wax_c.specs.{Numbers.answer_number, Outcomes.HoldsFirst, declared.error.CallError.CallError}
 use Rattle.wax_c.specs.declared.error.CallError.TheVariants.{Build, NotText, NoRoom}
 
 -- Texts one after another, and how many bytes each has.

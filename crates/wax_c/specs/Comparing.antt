@@ -1,14 +1,10 @@
 -- How calls that compare two expressions, or what lies at two handles, end.
 use Rattle.std.specs.Prelude.{◌≡◌, ◌≤◌, ◌*◌, ◌⊎◌, ℕ, ℤ, pos, neg_ℤ, List, Result, Ok, Err, IsUtf8, chars}
 use Rattle.std.specs.Prelude.{length, ⊤}
-use Rattle.wax.specs.Comparing.{IsPath, IsShortest, ReachesMore, SelectsTexts}
-use Rattle.wax.specs.GlobView.{GlobView}
-use Rattle.wax.specs.Matching.{Instruction}
-use Rattle.wax.specs.declared.Texts.{Texts}
-use Rattle.wax_c.specs.GlobHandles.{no_span, span_of}
-use Rattle.wax_c.specs.Numbers.{error_number}
-use Rattle.wax_c.specs.Outcomes.{Fills, IsGlobOf, IsNoGlob, Output}
-use Rattle.wax_c.specs.declared.comparing.Finding.{Finding}
+use Rattle.wax.specs.{Comparing.{IsPath, IsShortest, ReachesMore, SelectsTexts}, GlobView.GlobView}
+use Rattle.wax.specs.{Matching.Instruction, declared.Texts.Texts}
+use Rattle.wax_c.specs.{GlobHandles.{no_span, span_of}, Numbers.error_number}
+use Rattle.wax_c.specs.{Outcomes.{Fills, IsGlobOf, IsNoGlob, Output}, declared.comparing.Finding.Finding}
 use Rattle.wax_c.specs.declared.comparing.Finding.TheVariants.{Nothing, Written, Unknown}
 use Rattle.wax_c.specs.declared.error.CallError.{CallError}
 use Rattle.wax_c.specs.declared.error.CallError.TheVariants.{Build, NotText, NoRoom}

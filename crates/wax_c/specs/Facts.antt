@@ -1,15 +1,11 @@
 -- What calls return of a glob or of a set by itself. Both are known by the tree of their tokens.
 use Rattle.std.specs.Prelude.{◌≡◌, ◌≤◌, ◌++◌, ◌∷◌, ◌-◌, ◌^◌, ℕ, ℤ, pos, Bool, true, false, List, chars}
 use Rattle.std.specs.Prelude.{Option, Some, None, Result, Ok, Err, IfErr, IsUtf8}
-use Rattle.wax.specs.GlobView.{GlobView}
-use Rattle.wax.specs.Language.{Span, Tree}
-use Rattle.wax.specs.Matching.{MeansText}
+use Rattle.wax.specs.{GlobView.GlobView, Language.{Span, Tree}, Matching.MeansText}
 use Rattle.wax.specs.Queries.{Always, AtMost, Bare, BeginsWithSlash, Bounds, Depth, Never, Sometimes, Text}
 use Rattle.wax.specs.Queries.{Variant, When, component_total, exhaustive, root}
-use Rattle.wax_c.specs.Numbers.{answer_number, status_number}
-use Rattle.wax_c.specs.Outcomes.{Fills, KeepsAfterError, Output}
-use Rattle.wax_c.specs.declared.error.CallError.{CallError}
-use Rattle.wax_c.specs.declared.error.CallError.TheVariants.{NoRoom}
+use Rattle.wax_c.specs.{Numbers.{answer_number, status_number}, Outcomes.{Fills, KeepsAfterError, Output}}
+use Rattle.wax_c.specs.{declared.error.CallError.CallError, declared.error.CallError.TheVariants.NoRoom}
 use Rattle.wax_c.specs.declared.facts.WaxFacts.{WaxFacts}
 
 -- a bound, or the greatest number of 64 bits if there is none

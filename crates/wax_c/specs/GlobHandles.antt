@@ -1,16 +1,11 @@
 -- How calls of handles of globs end.
 use Rattle.std.specs.Prelude.{◌≡◌, ℕ, ℤ, List, Option, Some, None, Result, Ok, Err, chars}
-use Rattle.wax.specs.GlobView.{GlobView}
-use Rattle.wax_c.specs.Numbers.{status_number}
-use Rattle.wax_c.specs.Outcomes.{Fills, IsGlobOf, IsNoGlob, KeepsAfterError, Output}
+use Rattle.wax.specs.{GlobView.GlobView, Language.location_of, Partition.HasParts, Queries.Label}
+use Rattle.wax_c.specs.{Numbers.status_number, Outcomes.{Fills, IsGlobOf, IsNoGlob, KeepsAfterError, Output}}
 use Rattle.wax_c.specs.declared.error.CallError.{CallError}
 use Rattle.wax_c.specs.declared.error.CallError.TheVariants.{Build, NotText, NoRoom}
-use Rattle.wax_c.specs.declared.handle.GlobHandle.{GlobHandle}
-use Rattle.wax_c.specs.declared.globs.WaxSpan.{WaxSpan}
+use Rattle.wax_c.specs.{declared.handle.GlobHandle.GlobHandle, declared.globs.WaxSpan.WaxSpan}
 use denote.RawPtr.{null_ptr}
-use Rattle.wax.specs.Language.{location_of}
-use Rattle.wax.specs.Partition.{HasParts}
-use Rattle.wax.specs.Queries.{Label}
 
 abbrev pub no_span : WaxSpan
 no_span = record { start = 0; length = 0 }

@@ -1,7 +1,5 @@
 -- What handles of globs own.
-use Rattle.std.specs.Prelude.{Option, Some, None}
-use Rattle.std.specs.Box.Ownership.{box_owns}
-use Rattle.std.specs.Global.{Global}
+use Rattle.std.specs.{Prelude.{Option, Some, None}, Box.Ownership.box_owns, Global.Global}
 use Rattle.std.specs.contracts.impls.GlobalAllocator.TheImpl.{ghosts}
 use Rattle.wax.specs.GlobView.{GlobView}
 use Rattle.wax_c.specs.contracts.handle.HeldGlob.{the_row}

@@ -1,16 +1,11 @@
 -- What the lines of an ignore list decide.
 use Rattle.std.specs.Prelude.{◌≡◌, ℕ, ℤ, pos, neg_ℤ, List, Option, Some, None, Result, Ok, Err, IsUtf8, chars}
 use Rattle.std.specs.Prelude.{◌<◌, ◌≤◌, ◌==◌, All, Bool, true, false, filter, length, map, not}
-use Rattle.wax.specs.Comparing.{AreIdle, AreUndecided, IsUndecided, TidiesUp}
-use Rattle.wax.specs.Ignoring.{IsDecidingLine}
-use Rattle.wax.specs.Language.{Memory}
-use Rattle.wax.specs.declared.ignoring.IgnoreList.{IgnoreList}
-use Rattle.wax.specs.declared.walk.IdleLine.{IdleLine}
-use Rattle.wax.specs.declared.walk.IdleReason.{IdleReason}
+use Rattle.wax.specs.{Comparing.{AreIdle, AreUndecided, IsUndecided, TidiesUp}, Ignoring.IsDecidingLine}
+use Rattle.wax.specs.{Language.Memory, declared.ignoring.IgnoreList.IgnoreList}
+use Rattle.wax.specs.{declared.walk.IdleLine.IdleLine, declared.walk.IdleReason.IdleReason}
 use Rattle.wax.specs.declared.walk.IdleReason.TheVariants.{Covered, TakesNothingBack, Unknown}
-use Rattle.wax_c.specs.Numbers.{error_number}
-use Rattle.wax_c.specs.Outcomes.{HoldsFirst}
-use Rattle.wax_c.specs.declared.error.CallError.{CallError}
+use Rattle.wax_c.specs.{Numbers.error_number, Outcomes.HoldsFirst, declared.error.CallError.CallError}
 use Rattle.wax_c.specs.declared.error.CallError.TheVariants.{Build, NotText, NoRoom}
 
 -- the index of the line that decides about the path, or none if no line does; nothing is said if memory runs

@@ -1,16 +1,12 @@
 -- How calls of handles of ignore lists end.
 use Rattle.std.specs.Prelude.{◌≡◌, ◌↔◌, ℕ, ℤ, Bool, IsTrue, true, List, Some, None, Result, Ok, Err, IsUtf8}
-use Rattle.wax.specs.Ignoring.{IgnoresBelow, IsFirstUnread, IsListOf, IsUnignored}
-use Rattle.wax.specs.Ignoring.{is_ignored}
-use Rattle.wax.specs.Matching.{Filters, IsBelow, WritesMeant, lines}
-use Rattle.wax.specs.Walks.{NoSlashAfterNames, folder_at}
-use Rattle.wax.specs.declared.ignoring.IgnoreList.{IgnoreList}
-use Rattle.wax_c.specs.Numbers.{status_number}
-use Rattle.wax_c.specs.declared.error.CallError.{CallError}
+use Rattle.wax.specs.Ignoring.{IgnoresBelow, IsFirstUnread, IsListOf, IsUnignored, is_ignored}
+use Rattle.wax.specs.{Matching.{Filters, IsBelow, WritesMeant, lines}, Walks.{NoSlashAfterNames, folder_at}}
+use Rattle.wax.specs.{declared.ignoring.IgnoreList.IgnoreList, Language.{BuildError, Memory}}
+use Rattle.wax_c.specs.{Numbers.status_number, declared.error.CallError.CallError}
 use Rattle.wax_c.specs.declared.error.CallError.TheVariants.{Build, NotText, NoRoom}
 use Rattle.wax_c.specs.declared.list_handle.ListHandle.{ListHandle}
 use denote.RawPtr.{null_ptr}
-use Rattle.wax.specs.Language.{BuildError, Memory}
 
 -- a list of these bytes, which are text
 abbrev pub IsListOfBytes : List ℕ → IgnoreList → Type 0

@@ -1,10 +1,7 @@
 -- What handles of ignore lists own.
-use Rattle.std.specs.Prelude.{Option, Some, None}
-use Rattle.std.specs.Box.Ownership.{box_owns}
-use Rattle.std.specs.Global.{Global}
+use Rattle.std.specs.{Prelude.{Option, Some, None}, Box.Ownership.box_owns, Global.Global}
 use Rattle.std.specs.contracts.impls.GlobalAllocator.TheImpl.{ghosts}
-use Rattle.wax.specs.declared.ignoring.IgnoreList.{IgnoreList}
-use Rattle.wax.specs.contracts.ignoring.IgnoreList.{the_row}
+use Rattle.wax.specs.{declared.ignoring.IgnoreList.IgnoreList, contracts.ignoring.IgnoreList.the_row}
 use base.Fml.{Fml, ftrue, feq}
 use denote.RawPtr.{Ptr, null_ptr}
 

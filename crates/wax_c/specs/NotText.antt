@@ -1,9 +1,7 @@
 -- Lines of an input that aren't text.
 use Rattle.std.specs.Prelude.{◌≡◌, ◌⊎◌, ◌+◌, ℕ, List, [], ◌∷◌, IsUtf8}
-use Rattle.wax.specs.GlobView.{GlobView, IsMeant}
-use Rattle.wax.specs.Ignoring.{IsUnignored}
-use Rattle.wax.specs.Matching.{Filters, WritesMeant, lines}
-use Rattle.wax.specs.declared.ignoring.IgnoreList.{IgnoreList}
+use Rattle.wax.specs.{GlobView.{GlobView, IsMeant}, Ignoring.IsUnignored}
+use Rattle.wax.specs.{Matching.{Filters, WritesMeant, lines}, declared.ignoring.IgnoreList.IgnoreList}
 
 -- 0 if the line is text, 1 if it isn't
 abbrev pub IsNotText : List ℕ → ℕ → Type 0

@@ -1,15 +1,10 @@
 -- How calls end.
-use Rattle.std.specs.Prelude.{◌≡◌, ◌↔◌, ◌<◌, ◌≤◌, ◌++◌, ℕ, ℤ, pos, neg_ℤ, Bool, IsTrue, List, length}
-use Rattle.std.specs.Prelude.{drop, take, IsUtf8, chars}
-use Rattle.std.specs.Prelude.{Result, Ok, Err}
-use Rattle.std.specs.Prelude.{IfErr, OnErr}
-use Rattle.wax.specs.Headline.{IsGlob, MatchGlob}
-use Rattle.wax.specs.GlobView.{GlobView, IsMeant}
-use Rattle.wax_c.specs.Numbers.{answer_number, status_number}
-use Rattle.wax_c.specs.declared.error.CallError.{CallError}
-use Rattle.wax_c.specs.declared.error.CallError.TheVariants.{Build, NotText, NoRoom}
-use Rattle.wax.specs.Language.{Memory}
+use Rattle.std.specs.Prelude.{◌≡◌, ◌↔◌, ◌<◌, ◌≤◌, ◌++◌, ℕ, ℤ, pos, neg_ℤ, Bool, IsTrue, List, length, drop}
+use Rattle.std.specs.Prelude.{take, IsUtf8, chars, Result, Ok, Err, IfErr, OnErr}
+use Rattle.wax.specs.{Headline.{IsGlob, MatchGlob}, GlobView.{GlobView, IsMeant}, Language.Memory}
 use Rattle.wax.specs.Matching.{Filters, lines, MeansBelow, WritesMeant}
+use Rattle.wax_c.specs.{Numbers.{answer_number, status_number}, declared.error.CallError.CallError}
+use Rattle.wax_c.specs.declared.error.CallError.TheVariants.{Build, NotText, NoRoom}
 
 -- a glob of these bytes, which are text
 abbrev pub IsGlobOf : List ℕ → GlobView → Type 0

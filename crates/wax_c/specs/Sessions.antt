@@ -1,10 +1,7 @@
 -- What a session does: it builds a glob by the exported call, asks it about paths, and frees it.
-use Rattle.std.specs.Prelude.{◌≡◌, ℤ, neg_ℤ, List, Result, Ok, Err, ℕ}
-use Rattle.std.specs.Global.{Vec}
-use Rattle.std.specs.List.{AllZip}
+use Rattle.std.specs.{Prelude.{◌≡◌, ℤ, neg_ℤ, List, Result, Ok, Err, ℕ}, Global.Vec, List.AllZip}
 use Rattle.wax.specs.GlobView.{GlobView}
-use Rattle.wax_c.specs.Numbers.{error_number}
-use Rattle.wax_c.specs.Outcomes.{DecidesAs, IsGlobOf, IsNoGlob, SaysMatch}
+use Rattle.wax_c.specs.{Numbers.error_number, Outcomes.{DecidesAs, IsGlobOf, IsNoGlob, SaysMatch}}
 use Rattle.wax_c.specs.declared.error.CallError.{CallError}
 
 -- the numbers that the glob's calls return for these paths, each as its bytes

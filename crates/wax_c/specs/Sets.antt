@@ -1,18 +1,12 @@
 -- How calls of sets end.
-use Rattle.std.specs.Prelude.{◌≡◌, ◌↔◌, ◌<◌, ℕ, ℤ, Bool, IsTrue, List, [], ◌∷◌, length, take, drop}
-use Rattle.std.specs.Prelude.{Some, None, slice_get, Result, Ok, Err, IsUtf8, chars}
-use Rattle.std.specs.List.{AllZip}
-use Rattle.wax.specs.GlobView.{GlobView}
-use Rattle.wax.specs.Language.{BuildError, Memory, Span, Tree}
-use Rattle.wax.specs.Matching.{AreMatches, MeansBelow, MeansText}
-use Rattle.wax.specs.Patterns.{IsAnyOf, LacksMemory, NoSet}
-use Rattle.wax_c.specs.GlobHandles.{span_of}
-use Rattle.wax_c.specs.Numbers.{status_number}
-use Rattle.wax_c.specs.Outcomes.{HoldsFirst, IsGlobOf, IsNoGlob}
+use Rattle.std.specs.Prelude.{◌≡◌, ◌↔◌, ◌<◌, ℕ, ℤ, Bool, IsTrue, List, [], ◌∷◌, length, take, drop, Some}
+use Rattle.std.specs.{Prelude.{None, slice_get, Result, Ok, Err, IsUtf8, chars}, List.AllZip}
+use Rattle.wax.specs.{GlobView.GlobView, Language.{BuildError, Memory, Span, Tree}}
+use Rattle.wax.specs.{Matching.{AreMatches, MeansBelow, MeansText}, Patterns.{IsAnyOf, LacksMemory, NoSet}}
+use Rattle.wax_c.specs.{GlobHandles.span_of, Numbers.status_number, Outcomes.{HoldsFirst, IsGlobOf, IsNoGlob}}
 use Rattle.wax_c.specs.declared.error.CallError.{CallError}
 use Rattle.wax_c.specs.declared.error.CallError.TheVariants.{Build, NotText, NoRoom}
-use Rattle.wax_c.specs.declared.globs.WaxSpan.{WaxSpan}
-use Rattle.wax_c.specs.declared.set_handle.SetHandle.{SetHandle}
+use Rattle.wax_c.specs.{declared.globs.WaxSpan.WaxSpan, declared.set_handle.SetHandle.SetHandle}
 use denote.RawPtr.{null_ptr}
 
 -- parts of these bytes, one after another, each of so many bytes, or of those that are left

@@ -1,12 +1,8 @@
 -- How calls end that say where captures lie.
 use Rattle.std.specs.Prelude.{◌≡◌, ◌<◌, ◌≤◌, ℕ, ℤ, pos, neg_ℤ, Bool, true, false, List, length, map, chars}
 use Rattle.std.specs.Prelude.{Result, Ok, Err, IsUtf8}
-use Rattle.wax.specs.GlobView.{GlobView, HasSpans, IsMeant}
-use Rattle.wax.specs.Language.{Memory, Span}
-use Rattle.wax.specs.Queries.{captures}
-use Rattle.wax_c.specs.Numbers.{answer_number}
-use Rattle.wax_c.specs.Outcomes.{HoldsFirst}
-use Rattle.wax_c.specs.declared.error.CallError.{CallError}
+use Rattle.wax.specs.{GlobView.{GlobView, HasSpans, IsMeant}, Language.{Memory, Span}, Queries.captures}
+use Rattle.wax_c.specs.{Numbers.answer_number, Outcomes.HoldsFirst, declared.error.CallError.CallError}
 use Rattle.wax_c.specs.declared.error.CallError.TheVariants.{Build, NotText, NoRoom}
 use Rattle.wax_c.specs.declared.globs.WaxSpan.{WaxSpan}
 

@@ -1,7 +1,6 @@
 -- What calls write of a text.
 use Rattle.std.specs.Prelude.{◌≡◌, ◌↔◌, ℕ, List, [], false, Err, chars}
-use Rattle.wax.specs.GlobView.{GlobView}
-use Rattle.wax.specs.Headline.{IsGlob, MatchGlob}
+use Rattle.wax.specs.{GlobView.GlobView, Headline.{IsGlob, MatchGlob}}
 use Rattle.wax.specs.Language.{BuildError, HasNoBackslash, Means, Memory, Reads, Span, Tree, all_spelled}
 use Rattle.wax.specs.Language.{error_labels, escapable, picture}
 

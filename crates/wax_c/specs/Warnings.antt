@@ -1,15 +1,11 @@
 -- The warnings of a glob, as C has them.
 use Rattle.std.specs.Prelude.{◌≡◌, ◌==◌, if◌then◌else◌, ℤ, pos, Bool, List, length, map, Result, Ok, Err}
 use Rattle.std.specs.Prelude.{encode_utf8_all}
-use Rattle.wax.specs.GlobView.{GlobView}
-use Rattle.wax.specs.Language.{Memory, Span, Tree}
-use Rattle.wax.specs.Queries.{has_semantic_literals, warnings}
-use Rattle.wax_c.specs.Numbers.{answer_number}
-use Rattle.wax_c.specs.declared.error.CallError.{CallError}
-use Rattle.wax_c.specs.declared.error.CallError.TheVariants.{Build}
-use Rattle.wax_c.specs.declared.warnings.WaxWarning.{WaxWarning}
-use Rattle.wax.specs.declared.diagnostics.Warning.{Warning}
+use Rattle.wax.specs.{GlobView.GlobView, Language.{Memory, Span, Tree}}
+use Rattle.wax.specs.{Queries.{has_semantic_literals, warnings}, declared.diagnostics.Warning.Warning}
 use Rattle.wax.specs.declared.diagnostics.Warning.TheVariants.{SemanticLiteral, TerminatingSeparator}
+use Rattle.wax_c.specs.{Numbers.answer_number, declared.error.CallError.CallError}
+use Rattle.wax_c.specs.{declared.error.CallError.TheVariants.Build, declared.warnings.WaxWarning.WaxWarning}
 
 -- what a warning is about, as a number: a component of one dot or of two, or a separator at the end
 abbrev pub warning_number : Warning → ℤ

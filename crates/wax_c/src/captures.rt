@@ -1,8 +1,7 @@
 //! What a glob captures of a path.
 ghost use Rattle.std.specs.Prelude.{◌≡◌, IfOk};
 ghost use Rattle.wax.specs.GlobView.{GlobView};
-ghost use Rattle.wax_c.specs.Captures.{Captures, CapturesAs, texts_of};
-ghost use Rattle.wax_c.specs.GlobOwned.{glob_at};
+ghost use Rattle.wax_c.specs.{Captures.{Captures, CapturesAs, texts_of}, GlobOwned.glob_at};
 ghost use types.Logic.{sem};
 
 use crate::error::{CallError, answer_of};

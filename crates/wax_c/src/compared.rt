@@ -1,14 +1,9 @@
 //! Comparisons of two globs, of two sets and of two ignore lists, by their handles.
 ghost use Rattle.std.specs.Prelude.{◌≡◌};
-ghost use Rattle.wax.specs.GlobView.{GlobView, IsMeant};
-ghost use Rattle.wax.specs.Language.{Span, Tree};
-ghost use Rattle.wax.specs.Matching.{MeansText};
+ghost use Rattle.wax.specs.{GlobView.{GlobView, IsMeant}, Language.{Span, Tree}, Matching.MeansText};
 ghost use Rattle.wax.specs.declared.ignoring.IgnoreList.{IgnoreList};
 ghost use Rattle.wax_c.specs.Comparing.{CompareAs, DifferenceAs, OverlapAs, finding_number};
-ghost use Rattle.wax_c.specs.GlobOwned.{glob_at};
-ghost use Rattle.wax_c.specs.ListHandles.{Ignores};
-ghost use Rattle.wax_c.specs.ListOwned.{list_at};
-ghost use Rattle.wax_c.specs.SetOwned.{set_at};
+ghost use Rattle.wax_c.specs.{GlobOwned.glob_at, ListHandles.Ignores, ListOwned.list_at, SetOwned.set_at};
 ghost use types.Logic.{sem};
 
 use crate::comparing::{Asked, Finding, write_found};

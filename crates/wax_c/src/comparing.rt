@@ -1,8 +1,8 @@
 //! Calls that compare two expressions.
 ghost use Rattle.std.specs.Prelude.{◌≡◌, ◌≤◌, ◌*◌, IfErr, IfOk, length, neg_ℤ, pos};
 ghost use Rattle.wax.specs.GlobView.{IsMeant};
-ghost use Rattle.wax_c.specs.Comparing.{Finds, IsOfBoth, IsOfFirstOnly, IsOfOneOnly, KeepsUnlessFound};
-ghost use Rattle.wax_c.specs.Comparing.{OfTwo, SearchEnds, SearchTakesMore, finding_number, span_in};
+ghost use Rattle.wax_c.specs.Comparing.{Finds, IsOfBoth, IsOfFirstOnly, IsOfOneOnly, KeepsUnlessFound, OfTwo};
+ghost use Rattle.wax_c.specs.Comparing.{SearchEnds, SearchTakesMore, finding_number, span_in};
 ghost use Rattle.wax_c.specs.inner.Searching.{IsAskedFor, IsSearchResult};
 
 use crate::calls::build;

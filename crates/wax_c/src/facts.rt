@@ -1,13 +1,9 @@
 //! What is known of all paths that a glob matches.
 ghost use Rattle.std.specs.Prelude.{◌≡◌, IfOk, pos};
-ghost use Rattle.wax.specs.GlobView.{GlobView};
-ghost use Rattle.wax.specs.Language.{Span, Tree};
-ghost use Rattle.wax.specs.Queries.{bounds, text_of};
+ghost use Rattle.wax.specs.{GlobView.GlobView, Language.{Span, Tree}, Queries.{bounds, text_of}};
 ghost use Rattle.wax_c.specs.Facts.{AreFacts, HasExpression, HasExpressionAs, HasText, HasTextAs};
-ghost use Rattle.wax_c.specs.Facts.{bound_or_greatest, when_number};
-ghost use Rattle.wax_c.specs.GlobOwned.{glob_at};
-ghost use Rattle.wax_c.specs.Outcomes.{KeepsAfterError};
-ghost use Rattle.wax_c.specs.inner.Showing.{ShowsText};
+ghost use Rattle.wax_c.specs.{Facts.{bound_or_greatest, when_number}, GlobOwned.glob_at};
+ghost use Rattle.wax_c.specs.{Outcomes.KeepsAfterError, inner.Showing.ShowsText};
 ghost use types.Logic.{sem};
 
 use crate::error::{CallError, answer_of, status_of};

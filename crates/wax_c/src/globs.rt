@@ -3,8 +3,8 @@ ghost use Rattle.std.specs.Prelude.{◌≡◌, ◌+◌, MatchResult, Option, len
 ghost use Rattle.wax.specs.GlobView.{GlobView};
 ghost use Rattle.wax_c.specs.GlobHandles.{HasGlob, IsGlobHandle, span_of};
 ghost use Rattle.wax_c.specs.GlobOwned.{glob_at, maybe_glob_at};
-ghost use Rattle.wax_c.specs.Outcomes.{AreLines, DecidesAs, FillsWithin, IsGlobOf, IsNoGlob};
-ghost use Rattle.wax_c.specs.Outcomes.{SaysGoesOn, SaysMatch};
+ghost use Rattle.wax_c.specs.Outcomes.{AreLines, DecidesAs, FillsWithin, IsGlobOf, IsNoGlob, SaysGoesOn};
+ghost use Rattle.wax_c.specs.Outcomes.{SaysMatch};
 ghost use types.Logic.{sem};
 
 use crate::calls::{build, decide_below, decide_cached, fill};

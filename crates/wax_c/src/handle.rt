@@ -1,6 +1,5 @@
 //! Handles of globs.
-ghost use Rattle.std.specs.Prelude.{◌≡◌, None, Option, Some};
-ghost use Rattle.std.specs.Coded.{coded_option};
+ghost use Rattle.std.specs.{Prelude.{◌≡◌, None, Option, Some}, Coded.coded_option};
 ghost use Rattle.wax.specs.GlobView.{GlobView, glob_code};
 ghost use denote.RawPtr.{null_ptr};
 

@@ -3,10 +3,8 @@ ghost use Rattle.std.specs.Prelude.{◌≡◌, ◌≤◌, Bool, IfOk, Result, le
 ghost use Rattle.wax.specs.declared.ignoring.IgnoreList.{IgnoreList};
 ghost use Rattle.wax_c.specs.Lines.{AreEnough, AreSure, AreUnsure, FindsLine, FindsLineAs, ListsFound};
 ghost use Rattle.wax_c.specs.Lines.{ListsWithin, index_number, index_or_zero, is_sure, lines_number};
-ghost use Rattle.wax_c.specs.Lines.{sure_indexes, unsure_indexes};
-ghost use Rattle.wax_c.specs.ListOwned.{list_at};
-ghost use Rattle.wax_c.specs.declared.error.CallError.{CallError};
-ghost use Rattle.wax_c.specs.inner.FoundLines.{AreFoundLines};
+ghost use Rattle.wax_c.specs.{Lines.{sure_indexes, unsure_indexes}, ListOwned.list_at};
+ghost use Rattle.wax_c.specs.{declared.error.CallError.CallError, inner.FoundLines.AreFoundLines};
 ghost use types.Logic.{sem};
 
 use crate::error::{CallError, number_of};

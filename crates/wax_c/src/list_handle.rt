@@ -1,8 +1,6 @@
 //! Handles of ignore lists.
-ghost use Rattle.std.specs.Coded.{coded_option};
-ghost use Rattle.std.specs.Prelude.{◌≡◌, None, Option, Some};
-ghost use Rattle.wax.specs.contracts.ignoring.IgnoreList.{the_row};
-ghost use Rattle.wax.specs.declared.ignoring.IgnoreList.{IgnoreList};
+ghost use Rattle.std.specs.{Coded.coded_option, Prelude.{◌≡◌, None, Option, Some}};
+ghost use Rattle.wax.specs.{contracts.ignoring.IgnoreList.the_row, declared.ignoring.IgnoreList.IgnoreList};
 ghost use denote.RawPtr.{null_ptr};
 
 use crate::loose::Loose;

@@ -1,8 +1,8 @@
 //! Calls that build, use and free handles of ignore lists.
 ghost use Rattle.std.specs.Prelude.{◌≡◌, ◌≤◌, ◌+◌, IfErr, IfOk, MatchResult, Option, length};
 ghost use Rattle.wax.specs.declared.ignoring.IgnoreList.{IgnoreList};
-ghost use Rattle.wax_c.specs.ListHandles.{AreUnignored, HasList, IsListHandle, IsListOfBytes};
-ghost use Rattle.wax_c.specs.ListHandles.{IsUnlistedAt, SaysIgnored, SaysIgnoredBelow};
+ghost use Rattle.wax_c.specs.ListHandles.{AreUnignored, HasList, IsListHandle, IsListOfBytes, IsUnlistedAt};
+ghost use Rattle.wax_c.specs.ListHandles.{SaysIgnored, SaysIgnoredBelow};
 ghost use Rattle.wax_c.specs.ListOwned.{list_at, maybe_list_at};
 ghost use Rattle.wax_c.specs.Outcomes.{Decides, DecidesAs, Fills, FillsWithin, KeepsAfterError};
 ghost use types.Logic.{sem};

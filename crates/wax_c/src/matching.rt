@@ -1,7 +1,6 @@
 //! Calls that take an expression.
 ghost use Rattle.std.specs.Prelude.{◌≡◌, ◌≤◌, ◌+◌, IfErr, OnErr, length, neg_ℤ, pos};
-ghost use Rattle.wax_c.specs.Outcomes.{AnswersAs, AreLines, Decides, Ends, Fills, OfExpression};
-ghost use Rattle.wax_c.specs.Outcomes.{SaysMatch};
+ghost use Rattle.wax_c.specs.Outcomes.{AnswersAs, AreLines, Decides, Ends, Fills, OfExpression, SaysMatch};
 
 use crate::calls::{build, decide, fill};
 use crate::error::{CallError, answer_of, status_of};

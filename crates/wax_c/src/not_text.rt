@@ -1,6 +1,5 @@
 //! How many lines of an input the filters exclude since they aren't text.
-ghost use Rattle.std.specs.Prelude.{◌≡◌, ◌==◌, ◌≤◌, ◌+◌, drop, length};
-ghost use Rattle.std.specs.List.{position, position_or_len};
+ghost use Rattle.std.specs.{Prelude.{◌≡◌, ◌==◌, ◌≤◌, ◌+◌, drop, length}, List.{position, position_or_len}};
 ghost use Rattle.wax.specs.Matching.{lines};
 ghost use Rattle.wax_c.specs.NotText.{AreExcluded, AreNotText, IsNotText};
 

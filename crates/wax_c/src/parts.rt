@@ -1,9 +1,7 @@
 //! The two parts of a glob.
 ghost use Rattle.std.specs.Prelude.{◌≡◌, IfErr, IfOk, None, Option, chars, option_map, string_bytes};
-ghost use Rattle.wax.specs.GlobView.{GlobView};
-ghost use Rattle.wax.specs.Partition.{HasParts};
-ghost use Rattle.wax_c.specs.GlobHandles.{HasRest, IsNullIfEmpty, IsPartitioned};
-ghost use Rattle.wax_c.specs.GlobOwned.{glob_at};
+ghost use Rattle.wax.specs.{GlobView.GlobView, Partition.HasParts};
+ghost use Rattle.wax_c.specs.{GlobHandles.{HasRest, IsNullIfEmpty, IsPartitioned}, GlobOwned.glob_at};
 ghost use Rattle.wax_c.specs.Outcomes.{KeepsAfterError};
 ghost use types.Logic.{sem};
 

@@ -2,8 +2,7 @@
 //! is for. It shows that whoever calls in this order never has to show what a call of a handle requires.
 ghost use Rattle.std.specs.Prelude.{◌≡◌, None, Some, map};
 ghost use Rattle.wax.specs.GlobView.{GlobView};
-ghost use Rattle.wax_c.specs.Outcomes.{DecidesAs, SaysMatch};
-ghost use Rattle.wax_c.specs.Sessions.{IsSession};
+ghost use Rattle.wax_c.specs.{Outcomes.{DecidesAs, SaysMatch}, Sessions.IsSession};
 ghost use denote.RawPtr.{null_ptr};
 
 use crate::globs::{WaxSpan, wax_glob_free, wax_glob_is_match, wax_glob_new};

@@ -1,8 +1,7 @@
 //! What is known of all paths that a set matches.
 ghost use Rattle.std.specs.Prelude.{◌≡◌, pos};
 ghost use Rattle.wax.specs.Language.{Span, Tree};
-ghost use Rattle.wax_c.specs.Facts.{AreFacts, HasTextAs};
-ghost use Rattle.wax_c.specs.SetOwned.{set_at};
+ghost use Rattle.wax_c.specs.{Facts.{AreFacts, HasTextAs}, SetOwned.set_at};
 ghost use types.Logic.{sem};
 
 use crate::error::answer_of;

@@ -1,8 +1,6 @@
 //! Handles of sets of globs.
-ghost use Rattle.std.specs.Prelude.{◌≡◌, None, Option, Some};
-ghost use Rattle.std.specs.Coded.{coded_option};
-ghost use Rattle.wax.specs.Language.{Span, Tree};
-ghost use Rattle.wax.specs.Matching.{any_code};
+ghost use Rattle.std.specs.{Prelude.{◌≡◌, None, Option, Some}, Coded.coded_option};
+ghost use Rattle.wax.specs.{Language.{Span, Tree}, Matching.any_code};
 ghost use denote.RawPtr.{null_ptr};
 
 use crate::loose::Loose;

@@ -1,12 +1,9 @@
 //! Calls that build, use and free handles of sets of globs.
-ghost use Rattle.std.specs.Prelude.{◌≡◌, IfErr, IfOk, IfSome, MatchResult, Option, length};
-ghost use Rattle.std.specs.List.{AllZip};
+ghost use Rattle.std.specs.{Prelude.{◌≡◌, IfErr, IfOk, IfSome, MatchResult, Option, length}, List.AllZip};
 ghost use Rattle.wax.specs.Language.{Span, Tree};
-ghost use Rattle.wax_c.specs.Outcomes.{Decides, DecidesAs, IsGlobOf};
-ghost use Rattle.wax_c.specs.SetOwned.{maybe_set_at, set_at};
+ghost use Rattle.wax_c.specs.{Outcomes.{Decides, DecidesAs, IsGlobOf}, SetOwned.{maybe_set_at, set_at}};
 ghost use Rattle.wax_c.specs.Sets.{HasSet, IsNoSet, IsSetHandle, IsSetOf, ListsMatches, ListsMatchesAs};
-ghost use Rattle.wax_c.specs.Sets.{SaysSetGoesOn, SaysSetMatch, cut_each};
-ghost use Rattle.wax_c.specs.inner.Spelled.{SpellsOnly};
+ghost use Rattle.wax_c.specs.{Sets.{SaysSetGoesOn, SaysSetMatch, cut_each}, inner.Spelled.SpellsOnly};
 ghost use types.Logic.{sem};
 
 use crate::calls::{build, read};

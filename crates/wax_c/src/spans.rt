@@ -1,8 +1,7 @@
 //! Where the captures of a path lie, and the tokens that capture.
 ghost use Rattle.std.specs.Prelude.{◌≡◌, IfOk, MatchOption, chars};
 ghost use Rattle.wax.specs.GlobView.{GlobView, HasSpans, IsMeant};
-ghost use Rattle.wax_c.specs.GlobOwned.{glob_at};
-ghost use Rattle.wax_c.specs.Outcomes.{ListsAllAs};
+ghost use Rattle.wax_c.specs.{GlobOwned.glob_at, Outcomes.ListsAllAs};
 ghost use Rattle.wax_c.specs.Spans.{Spans, SpansAs, capturing_spans, wax_spans};
 ghost use types.Logic.{sem};
 

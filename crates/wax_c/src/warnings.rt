@@ -1,8 +1,7 @@
 //! The warnings of a glob.
 ghost use Rattle.std.specs.Prelude.{◌≡◌, IfOk};
 ghost use Rattle.wax.specs.GlobView.{GlobView};
-ghost use Rattle.wax_c.specs.GlobOwned.{glob_at};
-ghost use Rattle.wax_c.specs.Outcomes.{ListsAllAs};
+ghost use Rattle.wax_c.specs.{GlobOwned.glob_at, Outcomes.ListsAllAs};
 ghost use Rattle.wax_c.specs.Warnings.{SaysSemantic, SaysSemanticAs, warning_number, warning_span};
 ghost use Rattle.wax_c.specs.Warnings.{wax_warning, wax_warnings};
 ghost use types.Logic.{sem};

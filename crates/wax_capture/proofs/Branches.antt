@@ -1,16 +1,10 @@
 -- The forms of branches.
 use Rattle.std.proofs.Common.{◌≡◌, ℕ, zero, suc, ◌+◌, ◌<◌, ◌≤◌, ◌↔◌, Bool, List, [], ◌∷◌, ◌++◌, length}
 use Rattle.std.proofs.Common.{get_or, take, Some, slice_get, sym, ◌∙◌, ap, subst, inl, inr, arith}
-use Rattle.std.proofs.lemmas.Bool.{cases_lt}
-use Rattle.std.proofs.lemmas.Option.{slice_get_within}
-use Rattle.wax_token.specs.Cost.{cost, branches_cost}
-use Rattle.wax_token.specs.Meaning.{Means}
-use Rattle.wax_token.specs.Syntax.{Tree}
-use Rattle.wax_token.specs.Words.{trees}
-use Rattle.wax_capture.specs.Captures.{MeansBranch}
-use Rattle.wax_capture.specs.Pieces.{WayIn, size_of}
-use Rattle.wax_lengths.specs.Forms.{TakenBy, form_size}
-use Rattle.wax_lengths.specs.declared.form.Form.{Form}
+use Rattle.std.proofs.{lemmas.Bool.cases_lt, lemmas.Option.slice_get_within}
+use Rattle.wax_token.specs.{Cost.{cost, branches_cost}, Meaning.Means, Syntax.Tree, Words.trees}
+use Rattle.wax_capture.specs.{Captures.MeansBranch, Pieces.{WayIn, size_of}}
+use Rattle.wax_lengths.specs.{Forms.{TakenBy, form_size}, declared.form.Form.Form}
 use Rattle.wax_lengths.proofs.Lists.{slice_left, slice_seam, some_same}
 
 -- ---- one token of a row

@@ -1,14 +1,9 @@
 -- The pieces of tokens that stand one after another.
 use Rattle.std.proofs.Common.{◌≡◌, ℕ, zero, suc, ◌+◌, ◌<◌, ◌≤◌, Bool, true, false, List, [], ◌∷◌, ◌++◌}
 use Rattle.std.proofs.Common.{length, get_or, drop, reverse, ltb, refl, sym, ◌∙◌, ap, subst, inl, inr, arith}
-use Rattle.std.proofs.lemmas.Bool.{cases_lt}
-use Rattle.std.proofs.lemmas.List.{drop_all, reverse-append}
-use Rattle.wax_token.specs.Cost.{cost, costs}
-use Rattle.wax_token.specs.Syntax.{Tree, Trees, none, more}
-use Rattle.wax_token.specs.Words.{trees}
-use Rattle.wax_capture.specs.Captures.{has_more}
-use Rattle.wax_capture.specs.Pieces.{ArePieces, IsPiece}
-use Rattle.wax_capture.specs.inner.Splits.{all_sizes}
+use Rattle.std.proofs.{lemmas.Bool.cases_lt, lemmas.List.{drop_all, reverse-append}}
+use Rattle.wax_token.specs.{Cost.{cost, costs}, Syntax.{Tree, Trees, none, more}, Words.trees}
+use Rattle.wax_capture.specs.{Captures.has_more, Pieces.{ArePieces, IsPiece}, inner.Splits.all_sizes}
 use Rattle.wax_capture.specs.declared.piece.Piece.{Piece}
 
 -- ---- all tokens

@@ -1,19 +1,16 @@
 -- Parts of a text by places in its characters and in its bytes.
 use Rattle.std.proofs.Common.{◌≡◌, ℕ, zero, suc, ◌+◌, ◌-◌, ◌<◌, ◌≤◌, List, [], ◌∷◌, ◌++◌, length, map, take}
-use Rattle.std.proofs.Common.{drop, chars, encode_utf8}
-use Rattle.std.proofs.Common.{encode_utf8_all, get_or, refl, sym, ◌∙◌, ap, subst, arith, length-append}
-use Rattle.std.specs.List.{All}
-use Rattle.std.specs.Str.{IsUtf8, IsCharBoundary}
+use Rattle.std.proofs.Common.{drop, chars, encode_utf8, encode_utf8_all, get_or, refl, sym, ◌∙◌, ap, subst}
+use Rattle.std.proofs.Common.{arith, length-append}
 use Rattle.std.proofs.Math.Seq.{take-add, take-append_seam, drop-append_seam, take-suc}
 use Rattle.std.proofs.lemmas.List.{take-append-drop}
 use Rattle.std.proofs.lemmas.List.Elements.{All-cons, All-head, All-nil, All-tail}
 use Rattle.std.proofs.lemmas.Str.{encodes-append, encodes-chars, encodes_same, length-encode, len_utf8_bounds}
 use Rattle.std.proofs.lemmas.Str.{IsCharBoundary-at_seam, IsUtf8-between, IsUtf8-past_char}
-use Rattle.std.specs.Char.{len_utf8}
+use Rattle.std.specs.{List.All, Str.{IsUtf8, IsCharBoundary}, Char.len_utf8}
 use Rattle.wax_token.specs.Reads.{utf8_len}
 use Rattle.wax_query.specs.Parts.{IsPart, cut}
-use Rattle.wax_capture.specs.inner.Bytes.{byte_at, in_bytes}
-use Rattle.wax_capture.specs.inner.Parts.{IsWithin, part_between, parts}
+use Rattle.wax_capture.specs.{inner.Bytes.{byte_at, in_bytes}, inner.Parts.{IsWithin, part_between, parts}}
 
 -- ---- how many bytes characters have
 pub length-encodes : (cs : List ℕ) → length (encode_utf8_all cs) ≡ utf8_len cs

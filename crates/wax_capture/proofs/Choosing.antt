@@ -1,20 +1,14 @@
 -- The best part of a text that a piece takes before the further ones take the rest.
 use Rattle.std.proofs.Common.{◌≡◌, ℕ, ◌+◌, ◌<◌, ◌≤◌, Bool, true, false, List, ◌∷◌, length, take, drop, Option}
 use Rattle.std.proofs.Common.{Some, None, is_some, slice_get, get_or, sym, ◌∙◌, subst, inl, inr, arith}
-use Rattle.std.proofs.Common.{length-drop, true≢false}
-use Rattle.std.proofs.lemmas.Bool.{cases_lt}
-use Rattle.std.proofs.lemmas.List.{drop-drop}
+use Rattle.std.proofs.{Common.{length-drop, true≢false}, lemmas.Bool.cases_lt, lemmas.List.drop-drop}
 use Rattle.std.proofs.lemmas.Option.{slice_get_within}
-use Rattle.wax_lengths.specs.Prefers.{Prefers}
-use Rattle.wax_capture.specs.Pieces.{forms_of}
-use Rattle.wax_lengths.specs.Forms.{TakenBy}
-use Rattle.wax_capture.specs.inner.Rows.{FitsIn, IsFilled, Row}
-use Rattle.wax_lengths.specs.Spans.{HasLengths, InSpan, IsNarrowed, IsPicked}
-use Rattle.wax_capture.specs.inner.Splits.{FitsBy, IsChosenBy, Splits}
-use Rattle.wax_capture.specs.inner.Trials.{AreLeft}
-use Rattle.wax_lengths.specs.declared.form.Form.{Form}
-use Rattle.wax_capture.specs.declared.piece.Piece.{Piece}
+use Rattle.wax_lengths.specs.{Prefers.Prefers, Forms.TakenBy}
+use Rattle.wax_lengths.specs.{Spans.{HasLengths, InSpan, IsNarrowed, IsPicked}, declared.form.Form.Form}
 use Rattle.wax_lengths.specs.declared.span.LengthSpan.{LengthSpan}
+use Rattle.wax_capture.specs.{Pieces.forms_of, inner.Rows.{FitsIn, IsFilled, Row}}
+use Rattle.wax_capture.specs.{inner.Splits.{FitsBy, IsChosenBy, Splits}, inner.Trials.AreLeft}
+use Rattle.wax_capture.specs.declared.piece.Piece.{Piece}
 use Rattle.wax_lengths.proofs.Lists.{some_same}
 use Rattle.wax_capture.proofs.Rows.{cell_filled}
 

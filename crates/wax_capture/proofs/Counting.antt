@@ -2,11 +2,9 @@
 use Rattle.std.proofs.Common.{◌≡◌, ℕ, zero, suc, ◌+◌, ◌*◌, ◌<◌, ◌≤◌, List, [], ◌∷◌, length, get_or, take}
 use Rattle.std.proofs.Common.{drop, drop-cons, refl, sym, ◌∙◌, ap, subst, arith}
 use Rattle.std.proofs.Math.Nat.{add-mul, mul-add, mul_assoc, mul-one, mul-le-mul_left, mul-le-mul_right}
-use Rattle.wax_capture.specs.Pieces.{forms_of, size_of}
-use Rattle.wax_lengths.specs.Forms.{form_size}
-use Rattle.wax_lengths.specs.declared.form.Form.{Form}
-use Rattle.wax_capture.specs.inner.Splits.{all_sizes, split_visits}
+use Rattle.wax_capture.specs.{Pieces.{forms_of, size_of}, inner.Splits.{all_sizes, split_visits}}
 use Rattle.wax_capture.specs.declared.piece.Piece.{Piece}
+use Rattle.wax_lengths.specs.{Forms.form_size, declared.form.Form.Form}
 
 -- one form more
 pub size_of_more : (ways : List Form) (k : ℕ) (w : Form) → k < length ways → w ≡ get_or ways k w →

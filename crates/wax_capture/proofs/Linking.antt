@@ -3,12 +3,11 @@ use Rattle.std.proofs.Common.{◌≡◌, ℕ, zero, suc, ◌+◌, ◌<◌, ◌�
 use Rattle.std.proofs.Common.{get_or, set, take, Some, slice_get, refl, sym, ◌∙◌, ap, subst, inl, inr, arith}
 use Rattle.std.proofs.lemmas.List.{get_or-set_other, get_or-set_same, length-set}
 use Rattle.std.proofs.lemmas.Bool.{cases_eq, cases_lt}
-use Rattle.wax_lengths.specs.Forms.{IsLetter, SpelledBy, TakenBy}
-use Rattle.wax_lengths.specs.declared.form.Form.{Form}
-use Rattle.wax_lengths.specs.declared.form.Form.TheVariants as form
-use Rattle.wax_lengths.proofs.Lists.{some_same}
+use Rattle.wax_lengths.specs.{Forms.{IsLetter, SpelledBy, TakenBy}, declared.form.Form.Form}
 use Rattle.wax_lengths.specs.FirstLetters.{first_letter, group_of, is_folded, letter_of}
+use Rattle.wax_lengths.proofs.Lists.{some_same}
 use Rattle.wax_capture.specs.inner.Letters.{AreLinked, ArePassed, NoneBegins}
+use Rattle.wax_lengths.specs.declared.form.Form.TheVariants as form
 
 pub passed_more : (forms : List Form) (from k : ℕ) (f : Form) (s : List ℕ) → slice_get forms k ≡ Some f
     → ((n : ℕ) → TakenBy f (take n s) → ⊥) → ArePassed forms from k s → ArePassed forms from (k + 1) s

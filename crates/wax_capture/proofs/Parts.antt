@@ -1,11 +1,9 @@
 -- Parts of a text by places in its characters.
 use Rattle.std.proofs.Common.{◌≡◌, ℕ, zero, suc, ◌+◌, ◌-◌, ◌≤◌, inl, inr, false, List, [], ◌∷◌, ◌++◌, length}
-use Rattle.std.proofs.Common.{min, get_or}
-use Rattle.std.proofs.Common.{take, drop, refl, sym, ◌∙◌, ap, arith, length-drop, length-take}
+use Rattle.std.proofs.Common.{min, get_or, take, drop, refl, sym, ◌∙◌, ap, arith, length-drop, length-take}
 use Rattle.std.proofs.lemmas.Bool.{cases_eq}
 use Rattle.std.proofs.lemmas.List.{get_or-drop, get_or-take, drop-drop, drop-take, map-append}
-use Rattle.wax_capture.specs.Captures.{tree_capture}
-use Rattle.wax_capture.specs.inner.Parts.{part_between, parts}
+use Rattle.wax_capture.specs.{Captures.tree_capture, inner.Parts.{part_between, parts}}
 
 pub unless_slash : (x : List ℕ) → (x ≡ 47 ∷ [] → ⊥) → tree_capture false false x ≡ x
 unless_slash [] h = refl

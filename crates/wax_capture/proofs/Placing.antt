@@ -2,22 +2,16 @@
 use Rattle.std.proofs.Common.{◌≡◌, ℕ, zero, suc, ◌+◌, ◌-◌, ◌<◌, ◌≤◌, Bool, true, false, List, [], ◌∷◌, ◌++◌}
 use Rattle.std.proofs.Common.{length, map, get_or, take, drop, refl, sym, ◌∙◌, ap, subst, arith, inl, inr}
 use Rattle.std.proofs.Common.{append_assoc, append-nil, length-drop, length-take, chars, slice_index_or}
-use Rattle.std.specs.List.{All}
-use Rattle.std.specs.Str.{IsUtf8}
-use Rattle.std.proofs.lemmas.List.Elements.{All-map}
-use Rattle.wax_query.specs.Parts.{IsPart, cut}
-use Rattle.std.proofs.lemmas.Bool.{cases_eq}
+use Rattle.std.proofs.{lemmas.List.Elements.All-map, lemmas.Bool.cases_eq}
 use Rattle.std.proofs.lemmas.List.{drop-drop, drop_all, map-append}
-use Rattle.wax_token.specs.Reads.{utf8_len}
-use Rattle.wax_token.specs.Syntax.{Trees, none, more}
-use Rattle.wax_capture.specs.Captures.{Captured, CapturedAt, token_skips, token_spans}
-use Rattle.wax_capture.specs.Captures.{tree_capture}
-use Rattle.wax_capture.specs.Matched.{AreSpans, ends_of}
-use Rattle.wax_capture.specs.Pieces.{ArePieces, captured_by, skipped_by}
+use Rattle.std.specs.{List.All, Str.IsUtf8}
+use Rattle.wax_query.specs.Parts.{IsPart, cut}
+use Rattle.wax_token.specs.{Reads.utf8_len, Syntax.{Trees, none, more}}
+use Rattle.wax_capture.specs.Captures.{Captured, CapturedAt, token_skips, token_spans, tree_capture}
+use Rattle.wax_capture.specs.{Matched.{AreSpans, ends_of}, Pieces.{ArePieces, captured_by, skipped_by}}
 use Rattle.wax_capture.specs.declared.piece.Capture.{Capture}
-use Rattle.wax_capture.specs.declared.piece.Capture.TheVariants.{Nothing, Piece as WholePiece}
-use Rattle.wax_capture.specs.declared.piece.Capture.TheVariants.{AfterFirst, UnlessSlash}
-use Rattle.wax_capture.specs.declared.piece.Piece.{Piece}
+use Rattle.wax_capture.specs.declared.piece.Capture.TheVariants.{Nothing, Piece as WholePiece, AfterFirst}
+use Rattle.wax_capture.specs.{declared.piece.Capture.TheVariants.UnlessSlash, declared.piece.Piece.Piece}
 use Rattle.wax_capture.specs.inner.Bytes.{byte_at, in_bytes, span_between}
 use Rattle.wax_capture.specs.inner.Parts.{IsWithin, part_between, parts}
 use Rattle.wax_capture.specs.inner.Splits.{AreChosen, CapturedBy, IsChosenBy, PlacedBy, placed_by}

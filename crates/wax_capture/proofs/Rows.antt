@@ -1,17 +1,13 @@
 -- From which places on pieces split a text, and what is chosen there.
 use Rattle.std.proofs.Common.{◌≡◌, ℕ, zero, suc, ◌+◌, ◌-◌, ◌<◌, ◌≤◌, ◌↔◌, true, List, [], ◌∷◌, ◌++◌, length}
-use Rattle.std.proofs.Common.{get_or}
-use Rattle.std.proofs.Common.{drop, drop-cons, replicate, Option, Some, None, is_some, slice_get, refl, sym}
-use Rattle.std.proofs.Common.{◌∙◌, ap, subst}
-use Rattle.std.proofs.Common.{inl, inr, arith, true≢false, length-drop}
-use Rattle.std.specs.Global.{Vec}
-use Rattle.std.proofs.Math.Seq.{get_or-append_seam}
-use Rattle.std.proofs.lemmas.Bool.{cases_lt}
+use Rattle.std.proofs.Common.{get_or, drop, drop-cons, replicate, Option, Some, None, is_some, slice_get}
+use Rattle.std.proofs.Common.{refl, sym, ◌∙◌, ap, subst, inl, inr, arith, true≢false, length-drop}
+use Rattle.std.proofs.{Math.Seq.get_or-append_seam, lemmas.Bool.cases_lt}
 use Rattle.std.proofs.lemmas.List.{drop_all, get_or_append_left, length-replicate, length_push}
 use Rattle.std.proofs.lemmas.Option.{slice_get_within}
+use Rattle.std.specs.Global.{Vec}
 use Rattle.wax_capture.specs.inner.Rows.{ArePieceRows, IsCell, IsFilled, Row, TakesPiece}
-use Rattle.wax_capture.specs.inner.Splits.{Splits}
-use Rattle.wax_capture.specs.declared.piece.Piece.{Piece}
+use Rattle.wax_capture.specs.{inner.Splits.Splits, declared.piece.Piece.Piece}
 use Rattle.wax_lengths.proofs.Lists.{slice_left, slice_seam, some_same}
 
 -- ---- one cell

@@ -1,17 +1,13 @@
 -- Pieces that come to nothing take the empty text alone.
 use Rattle.std.proofs.Common.{◌≡◌, ◌≤◌, ℕ, zero, suc, Bool, List, [], ◌∷◌, Some, slice_get, length, take}
 use Rattle.std.proofs.Common.{drop, refl, ap, inl, inr, arith, length-take, length-drop}
-use Rattle.std.proofs.lemmas.List.{nil_from_length}
-use Rattle.std.proofs.lemmas.Option.{slice_get_within}
-use Rattle.wax_program.specs.declared.instruction.Instruction.{Instruction}
-use Rattle.wax_program.specs.Machine.{AcceptsIn}
-use Rattle.wax_lengths.specs.declared.form.Form.{Form}
-use Rattle.wax_lengths.specs.declared.form.Form.TheVariants as form
-use Rattle.wax_lengths.specs.Forms.{SpelledBy, TakenBy, form_size}
+use Rattle.std.proofs.{lemmas.List.nil_from_length, lemmas.Option.slice_get_within}
+use Rattle.wax_program.specs.{declared.instruction.Instruction.Instruction, Machine.AcceptsIn}
+use Rattle.wax_lengths.specs.{declared.form.Form.Form, Forms.{SpelledBy, TakenBy, form_size}}
 use Rattle.wax_lengths.proofs.Lists.{some_same}
-use Rattle.wax_capture.specs.Pieces.{forms_of, size_of}
-use Rattle.wax_capture.specs.inner.Splits.{CapturedBy, Splits, all_sizes}
+use Rattle.wax_capture.specs.{Pieces.{forms_of, size_of}, inner.Splits.{CapturedBy, Splits, all_sizes}}
 use Rattle.wax_capture.specs.declared.piece.Piece.{Piece}
+use Rattle.wax_lengths.specs.declared.form.Form.TheVariants as form
 
 spelled_nothing : (folded : Bool) (letters x : List ℕ) → length letters ≡ 0
     → SpelledBy folded letters x → x ≡ []

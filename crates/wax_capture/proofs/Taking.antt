@@ -1,14 +1,11 @@
 -- The chosen pieces from left to right.
 use Rattle.std.proofs.Common.{◌≡◌, ℕ, suc, ◌+◌, ◌-◌, ◌<◌, ◌≤◌, true, false, List, [], ◌∷◌, ◌++◌, length}
-use Rattle.std.proofs.Common.{get_or, take, drop}
-use Rattle.std.proofs.Common.{drop-cons, Option, Some, None, is_some, true≢false, slice_get, refl, sym, ◌∙◌}
-use Rattle.std.proofs.Common.{ap, subst, arith, append_assoc, append-nil, length-drop}
-use Rattle.std.specs.Global.{Vec}
-use Rattle.std.proofs.lemmas.List.{drop-drop, drop_all}
+use Rattle.std.proofs.Common.{get_or, take, drop, drop-cons, Option, Some, None, is_some, true≢false}
+use Rattle.std.proofs.Common.{slice_get, refl, sym, ◌∙◌, ap, subst, arith, append_assoc, append-nil}
+use Rattle.std.proofs.{Common.length-drop, lemmas.List.{drop-drop, drop_all}}
 use Rattle.std.proofs.lemmas.Option.{get_or_from_slice_get}
-use Rattle.wax_capture.specs.Pieces.{captured_by}
-use Rattle.wax_capture.specs.inner.Parts.{parts}
-use Rattle.wax_capture.specs.inner.Rows.{ArePieceRows, IsCell, Row}
+use Rattle.std.specs.Global.{Vec}
+use Rattle.wax_capture.specs.{Pieces.captured_by, inner.Parts.parts, inner.Rows.{ArePieceRows, IsCell, Row}}
 use Rattle.wax_capture.specs.inner.Splits.{AreChosen, CapturedBy, IsChosenBy, Splits}
 use Rattle.wax_capture.specs.declared.piece.Piece.{Piece}
 use Rattle.wax_lengths.proofs.Lists.{slice_read}

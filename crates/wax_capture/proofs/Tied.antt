@@ -8,15 +8,13 @@ use Rattle.wax_token.specs.Meaning.{LeafMeans, Means, MeansSome, MeansEach}
 use Rattle.wax_token.specs.Syntax.{Leaf, literal, class, separator, one, zero_or_more, tree, Tree, leaf}
 use Rattle.wax_token.specs.Syntax.{alternation, concatenation, repetition, Trees, none, more}
 use Rattle.wax_capture.specs.Captures.{Captured, First, FitsPiece, IsChosen, LeafWay, MeansBranch, MeansByWay}
-use Rattle.wax_capture.specs.Captures.{has_more}
-use Rattle.wax_lengths.specs.Prefers.{Prefers}
-use Rattle.wax_capture.specs.Pieces.{ArePieces, IsPiece}
+use Rattle.wax_capture.specs.{Captures.has_more, Pieces.{ArePieces, IsPiece}}
 use Rattle.wax_capture.specs.inner.Splits.{CapturedBy, FitsBy, IsChosenBy, Splits}
+use Rattle.wax_capture.specs.{Matched.{AreOnly, IsMatched}, declared.piece.Piece.Piece}
+use Rattle.wax_lengths.specs.Prefers.{Prefers}
 use Rattle.std.specs.Global.{Vec}
 use Rattle.wax_query.specs.Matched.{MatchedView}
-use Rattle.wax_capture.specs.Matched.{AreOnly, IsMatched}
 use Rattle.wax_capture.proofs.Unique.{captured_unique}
-use Rattle.wax_capture.specs.declared.piece.Piece.{Piece}
 
 -- ---- the ways of a token are all that it means
 pub first_meant : {M : Type 0} (k : ℕ) → First M k → M

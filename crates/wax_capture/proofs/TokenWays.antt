@@ -1,19 +1,15 @@
 -- The forms of the ways of one token.
 use Rattle.std.proofs.Common.{◌≡◌, ℕ, zero, suc, ◌<◌, ◌↔◌, Bool, true, false, List, [], ◌∷◌, map, Err, refl}
-use Rattle.std.proofs.Common.{sym, subst, arith, true≢false}
-use Rattle.std.proofs.lemmas.Option.{slice_get_within}
+use Rattle.std.proofs.{Common.{sym, subst, arith, true≢false}, lemmas.Option.slice_get_within}
 use Rattle.unicode.specs.CaseFolding.{simple_fold}
-use Rattle.wax_query.specs.Outcome.{MatchBuild}
-use Rattle.wax_query.specs.declared.diagnostics.Refusal.{Refusal}
+use Rattle.wax_query.specs.{Outcome.MatchBuild, declared.diagnostics.Refusal.Refusal}
 use Rattle.wax_query.specs.declared.diagnostics.Refusal.TheVariants.{Refused, Memory}
 use Rattle.wax_token.specs.Meaning.{Means, SameFold, SameText, TreeMeans}
 use Rattle.wax_token.specs.Syntax.{literal, class, separator, one, zero_or_more, tree, Tree, leaf}
 use Rattle.wax_token.specs.Syntax.{alternation, concatenation, repetition}
-use Rattle.wax_capture.specs.Captures.{First, LeafWay, MeansByWay, tree_capture}
-use Rattle.wax_capture.specs.inner.Ways.{is_single}
+use Rattle.wax_capture.specs.{Captures.{First, LeafWay, MeansByWay, tree_capture}, inner.Ways.is_single}
 use Rattle.wax_capture.specs.Pieces.{WayIn}
-use Rattle.wax_lengths.specs.Forms.{SpelledBy, TakenBy}
-use Rattle.wax_lengths.specs.declared.form.Form.{Form}
+use Rattle.wax_lengths.specs.{Forms.{SpelledBy, TakenBy}, declared.form.Form.Form}
 use Rattle.wax_lengths.proofs.Lists.{some_same}
 
 pub refused_more : {T U E : Type 0} (e : Refusal E) (P : T → Type 0) (Q : U → Type 0) (M N : Type 0) → (M → N)

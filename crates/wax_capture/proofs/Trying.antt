@@ -1,23 +1,17 @@
 -- What was tried of a text, from left to right.
 use Rattle.std.proofs.Common.{◌≡◌, Bool, true, ℕ, zero, suc, ◌+◌, ◌<◌, ◌≤◌, List, [], ◌∷◌, ◌++◌, length}
 use Rattle.std.proofs.Common.{get_or, take, drop, drop-cons, Some, slice_get, refl, sym, ◌∙◌, ap, subst, inl}
-use Rattle.std.proofs.Common.{inr, arith, length-drop}
-use Rattle.std.proofs.lemmas.Bool.{cases_lt}
+use Rattle.std.proofs.{Common.{inr, arith, length-drop}, lemmas.Bool.cases_lt}
 use Rattle.std.proofs.lemmas.List.{drop-drop, drop_all, length_push}
-use Rattle.wax_lengths.specs.Prefers.{Prefers}
-use Rattle.wax_capture.specs.Pieces.{WayOf, forms_of}
-use Rattle.wax_lengths.specs.Forms.{TakenBy}
-use Rattle.wax_lengths.specs.Spans.{InSpan, IsNarrowed, IsPicked, looks}
-use Rattle.wax_capture.specs.inner.Letters.{ArePassed}
+use Rattle.wax_lengths.specs.{Prefers.Prefers, Forms.TakenBy, Spans.{InSpan, IsNarrowed, IsPicked, looks}}
+use Rattle.wax_lengths.specs.declared.form.Form.{Form}
+use Rattle.wax_capture.specs.{Pieces.{WayOf, forms_of}, inner.Letters.ArePassed}
 use Rattle.wax_capture.specs.inner.Splits.{AreChosen, FitsBy, IsChosenBy, Splits}
 use Rattle.wax_capture.specs.inner.Trials.{AreLeft, HasRoom, HasTaken, IsOpen, Trail, lengths_of}
-use Rattle.wax_capture.specs.inner.Trials.{characters_taken}
-use Rattle.wax_lengths.specs.declared.form.Form.{Form}
-use Rattle.wax_capture.specs.declared.piece.Piece.{Piece}
+use Rattle.wax_capture.specs.{inner.Trials.characters_taken, declared.piece.Piece.Piece}
 use Rattle.wax_capture.specs.declared.trial.Frame.{Frame}
-use Rattle.wax_capture.proofs.Choosing.{prefers_same}
+use Rattle.wax_capture.proofs.{Choosing.prefers_same, Taking.chosen_splits}
 use Rattle.wax_lengths.proofs.Lists.{some_same}
-use Rattle.wax_capture.proofs.Taking.{chosen_splits}
 
 module _ (p : Piece) (ps : List Piece) (s : List ℕ) where
   -- nothing was opened

@@ -1,12 +1,11 @@
 -- The chosen split of a text over tokens that stand one after another, and what each token captures of it.
-use Rattle.std.specs.Prelude.{◌≡◌, ℕ, zero, suc, ◌≤◌, Bool, true, false, ◌||◌, List, [], ◌∷◌, ◌++◌}
-use Rattle.std.specs.Prelude.{◌+◌, length, map, take, drop, ◌==◌, if◌then◌else◌}
+use Rattle.std.specs.Prelude.{◌≡◌, ℕ, zero, suc, ◌≤◌, Bool, true, false, ◌||◌, List, [], ◌∷◌, ◌++◌, ◌+◌}
+use Rattle.std.specs.Prelude.{length, map, take, drop, ◌==◌, if◌then◌else◌}
 use Rattle.wax_lengths.specs.Prefers.{Prefers}
 use Rattle.wax_token.specs.declared.token.Evaluation.TheVariants.{Eager, Lazy}
-use Rattle.wax_token.specs.Meaning.{TreeMeans, LeafMeans, Means, MeansEach}
-use Rattle.wax_token.specs.Reads.{utf8_len}
-use Rattle.wax_token.specs.Syntax.{Leaf, literal, class, separator, one, zero_or_more, tree}
-use Rattle.wax_token.specs.Syntax.{Tree, leaf, alternation, concatenation, repetition, Trees, none, more}
+use Rattle.wax_token.specs.{Meaning.{TreeMeans, LeafMeans, Means, MeansEach}, Reads.utf8_len}
+use Rattle.wax_token.specs.Syntax.{Leaf, literal, class, separator, one, zero_or_more, tree, Tree, leaf}
+use Rattle.wax_token.specs.Syntax.{alternation, concatenation, repetition, Trees, none, more}
 
 -- ---- what is captured of a piece
 

@@ -1,18 +1,13 @@
 -- What is known of the pieces of tokens: which texts they take, which of them is chosen, what is captured.
-use Rattle.std.specs.Prelude.{◌≡◌, ◌↔◌, ℕ, ◌+◌, ◌≤◌, Bool, true, false, ◌||◌, List, [], ◌∷◌}
-use Rattle.std.specs.Prelude.{drop, Some, slice_get, ⊤}
-use Rattle.wax_token.specs.Cost.{cost}
-use Rattle.wax_token.specs.Syntax.{Tree, Trees, none, more}
+use Rattle.std.specs.Prelude.{◌≡◌, ◌↔◌, ℕ, ◌+◌, ◌≤◌, Bool, true, false, ◌||◌, List, [], ◌∷◌, drop, Some}
+use Rattle.std.specs.Prelude.{slice_get, ⊤}
+use Rattle.wax_token.specs.{Cost.cost, Syntax.{Tree, Trees, none, more}}
 use Rattle.wax_capture.specs.Captures.{MeansByWay, has_more, is_lazy, token_captures, token_skips}
-use Rattle.wax_capture.specs.Captures.{tree_capture}
-use Rattle.wax_lengths.specs.Forms.{TakenBy, form_size}
-use Rattle.wax_lengths.specs.declared.form.Form.{Form}
-use Rattle.wax_capture.specs.declared.piece.Capture.{Capture}
-use Rattle.wax_capture.specs.declared.piece.Capture.TheVariants.{Nothing, Piece as WholePiece}
-use Rattle.wax_capture.specs.declared.piece.Capture.TheVariants.{AfterFirst, UnlessSlash}
-use Rattle.wax_capture.specs.declared.piece.Piece.{Piece}
-use Rattle.wax_capture.specs.declared.piece.Ways.{Ways}
-use Rattle.wax_capture.specs.declared.piece.Ways.TheVariants.{Only, Each, Linked}
+use Rattle.wax_capture.specs.{Captures.tree_capture, declared.piece.Capture.Capture}
+use Rattle.wax_capture.specs.declared.piece.Capture.TheVariants.{Nothing, Piece as WholePiece, AfterFirst}
+use Rattle.wax_capture.specs.{declared.piece.Capture.TheVariants.UnlessSlash, declared.piece.Piece.Piece}
+use Rattle.wax_capture.specs.{declared.piece.Ways.Ways, declared.piece.Ways.TheVariants.{Only, Each, Linked}}
+use Rattle.wax_lengths.specs.{Forms.{TakenBy, form_size}, declared.form.Form.Form}
 
 abbrev pub forms_of : Ways → List Form
 forms_of (Only form) = form ∷ []

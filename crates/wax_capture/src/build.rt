@@ -1,8 +1,7 @@
 //! Building the pieces of tokens.
 ghost use Rattle.std.specs.Prelude.{◌≡◌, ◌+◌, ◌<◌, ◌∷◌, [], ◌++◌, List, OnOk, false, length};
 ghost use Rattle.wax_query.specs.Outcome.{MatchBuild};
-ghost use Rattle.wax_token.specs.Cost.{cost, costs};
-ghost use Rattle.wax_token.specs.Words.{trees};
+ghost use Rattle.wax_token.specs.{Cost.{cost, costs}, Words.trees};
 ghost use Rattle.wax_capture.specs.Pieces.{ArePieces, IsPiece};
 
 use crate::piece::Piece;

@@ -1,9 +1,7 @@
 //! Converting places in the characters of a text to places in its bytes.
-ghost use Rattle.std.specs.Prelude.{◌≡◌, ◌+◌, ◌^◌, ◌<◌, ◌≤◌, ℕ, IfOk, chars, length, map};
-ghost use Rattle.std.specs.List.{All};
+ghost use Rattle.std.specs.{Prelude.{◌≡◌, ◌+◌, ◌^◌, ◌<◌, ◌≤◌, ℕ, IfOk, chars, length, map}, List.All};
 ghost use Rattle.wax_token.specs.Reads.{utf8_len};
-ghost use Rattle.wax_capture.specs.inner.Bytes.{byte_at, in_bytes, span_between};
-ghost use Rattle.wax_capture.specs.inner.Parts.{IsWithin};
+ghost use Rattle.wax_capture.specs.{inner.Bytes.{byte_at, in_bytes, span_between}, inner.Parts.IsWithin};
 
 use std::alloc::{AllocError, Global};
 use wax_lengths::Text;

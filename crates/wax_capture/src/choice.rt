@@ -1,10 +1,8 @@
 //! Choosing what a piece takes of a text, if it is known from which places on the pieces after it
 //! can take the rest.
 ghost use Rattle.std.specs.Prelude.{◌≡◌, ◌+◌, ◌*◌, ◌≤◌, ◌∷◌, ℕ, List, IfOk, MatchOption, length, drop};
-ghost use Rattle.wax_lengths.specs.Prefers.{Prefers};
-ghost use Rattle.wax_capture.specs.Pieces.{forms_of, size_of};
-ghost use Rattle.wax_lengths.specs.Forms.{form_size};
-ghost use Rattle.wax_capture.specs.inner.Rows.{FitsIn, IsCell, Row};
+ghost use Rattle.wax_lengths.specs.{Prefers.Prefers, Forms.form_size};
+ghost use Rattle.wax_capture.specs.{Pieces.{forms_of, size_of}, inner.Rows.{FitsIn, IsCell, Row}};
 ghost use Rattle.wax_capture.specs.declared.piece.Piece.{Piece};
 
 use crate::piece::Piece;

@@ -1,10 +1,9 @@
 //! Building the forms of leaves.
 ghost use Rattle.std.specs.Prelude.{◌≡◌, ◌↔◌, ◌≤◌, ℕ, Bool, true, List, IfOk, IfSome, chars, length, map};
 ghost use Rattle.unicode.specs.CaseFolding.{simple_fold};
-ghost use Rattle.wax_token.specs.Cost.{cost, leaf_cost};
-ghost use Rattle.wax_program.specs.Machine.{PassesTest};
-ghost use Rattle.wax_token.specs.Meaning.{LeafMeans, Means, SameText, in_class};
+ghost use Rattle.wax_token.specs.{Cost.{cost, leaf_cost}, Meaning.{LeafMeans, Means, SameText, in_class}};
 ghost use Rattle.wax_token.specs.View.{leaf_of, wildcard_leaf};
+ghost use Rattle.wax_program.specs.Machine.{PassesTest};
 ghost use Rattle.wax_lengths.specs.Forms.{TakenBy, form_size};
 ghost use Rattle.wax_capture.specs.inner.Ways.{PassesOne};
 

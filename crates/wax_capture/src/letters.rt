@@ -1,7 +1,6 @@
 //! Forms of letters, found by their first letters.
 ghost use Rattle.std.specs.Prelude.{◌≡◌, ◌<◌, ◌≤◌, IfOk, length, drop};
-ghost use Rattle.wax_capture.specs.Pieces.{forms_of};
-ghost use Rattle.wax_capture.specs.inner.Letters.{ArePassed, NoneBegins};
+ghost use Rattle.wax_capture.specs.{Pieces.forms_of, inner.Letters.{ArePassed, NoneBegins}};
 
 use crate::piece::Ways;
 use std::alloc::{AllocError, Global};
@@ -26,11 +25,10 @@ pub struct ByLetter {
 }
 
 impl Model for ByLetter {
-    ghost use Rattle.std.specs.Prelude.{List};
-    ghost use Rattle.std.specs.Coded.{coded_list};
+    ghost use Rattle.std.specs.{Prelude.List, Coded.coded_list};
     ghost use Rattle.wax_lengths.specs.declared.form.Form.{Form};
-    ghost use Rattle.wax_lengths.specs.contracts.form.Form as form;
     ghost use Rattle.wax_capture.specs.inner.Letters.{AreLinked};
+    ghost use Rattle.wax_lengths.specs.contracts.form.Form as form;
 
     ghost Value = { List Form };
 

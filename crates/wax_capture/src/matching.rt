@@ -1,14 +1,8 @@
 //! Matching texts with captures.
 ghost use Rattle.std.specs.Prelude.{◌+◌, ◌*◌, ◌<◌, ◌≤◌, false, IfOk, IfSome, MatchOption, chars, length};
-ghost use Rattle.wax_query.specs.Outcome.{MatchBuild};
-ghost use Rattle.wax_token.specs.Cost.{costs};
-ghost use Rattle.wax_token.specs.Meaning.{MeansEach};
-ghost use Rattle.wax_token.specs.Reads.{Span};
-ghost use Rattle.wax_token.specs.Syntax.{Trees};
-ghost use Rattle.wax_token.specs.Words.{trees};
-ghost use Rattle.wax_query.specs.Matched.{cube_visits};
-ghost use Rattle.wax_capture.specs.Matched.{AreOnly, AreSpans, IsMatched, square_visits};
-ghost use Rattle.wax_capture.specs.Pieces.{ArePieces};
+ghost use Rattle.wax_query.specs.{Outcome.MatchBuild, Matched.cube_visits};
+ghost use Rattle.wax_token.specs.{Cost.costs, Meaning.MeansEach, Reads.Span, Syntax.Trees, Words.trees};
+ghost use Rattle.wax_capture.specs.{Matched.{AreOnly, AreSpans, IsMatched, square_visits}, Pieces.ArePieces};
 
 use crate::build::pieces_of;
 use crate::bytes::{to_bytes, to_spans};
@@ -41,11 +35,9 @@ impl Drop for Pieces {
 }
 
 impl Model for Pieces {
-    ghost use Rattle.std.specs.Prelude.{List, ◌≤◌};
-    ghost use Rattle.std.specs.Coded.{coded_list};
-    ghost use Rattle.wax_capture.specs.declared.piece.Piece.{Piece};
+    ghost use Rattle.std.specs.{Prelude.{List, ◌≤◌}, Coded.coded_list};
+    ghost use Rattle.wax_capture.specs.{declared.piece.Piece.Piece, inner.Splits.all_sizes};
     ghost use Rattle.wax_capture.specs.contracts.piece.Piece as piece;
-    ghost use Rattle.wax_capture.specs.inner.Splits.{all_sizes};
 
     ghost Value = { List Piece };
 

@@ -1,7 +1,6 @@
 //! Sizes of forms: bounds of how often they look at each character of a text.
 ghost use Rattle.std.specs.Prelude.{◌≡◌, ◌≤◌};
-ghost use Rattle.wax_capture.specs.Pieces.{size_of};
-ghost use Rattle.wax_capture.specs.inner.Splits.{all_sizes};
+ghost use Rattle.wax_capture.specs.{Pieces.size_of, inner.Splits.all_sizes};
 
 use crate::piece::Piece;
 use wax_lengths::Form;

@@ -1,13 +1,10 @@
 //! The chosen split of a text, and what is captured by it.
-ghost use Rattle.std.specs.Prelude.{◌≡◌, ◌+◌, ◌*◌, ◌≤◌, ◌++◌, IfOk, IfSome, MatchOption, OnOk};
-ghost use Rattle.std.specs.Prelude.{length, drop, take, false};
-ghost use Rattle.std.specs.List.{All};
-ghost use Rattle.wax_capture.specs.Captures.{tree_capture};
-ghost use Rattle.wax_capture.specs.Pieces.{captured_by};
+ghost use Rattle.std.specs.Prelude.{◌≡◌, ◌+◌, ◌*◌, ◌≤◌, ◌++◌, IfOk, IfSome, MatchOption, OnOk, length, drop};
+ghost use Rattle.std.specs.{Prelude.{take, false}, List.All};
+ghost use Rattle.wax_capture.specs.{Captures.tree_capture, Pieces.captured_by};
 ghost use Rattle.wax_capture.specs.inner.Parts.{IsWithin, part_between, parts};
 ghost use Rattle.wax_capture.specs.inner.Splits.{AreChosen, CapturedBy, PlacedBy, Splits, all_sizes};
-ghost use Rattle.wax_capture.specs.inner.Splits.{placed_by, split_visits};
-ghost use Rattle.wax_capture.specs.inner.Trials.{lengths_of};
+ghost use Rattle.wax_capture.specs.{inner.Splits.{placed_by, split_visits}, inner.Trials.lengths_of};
 
 use crate::piece::{Capture, Piece};
 use crate::table::split_by_table;

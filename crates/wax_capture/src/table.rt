@@ -1,9 +1,7 @@
 //! Splitting a text by a table: how many characters each piece takes from each place on.
 ghost use Rattle.std.specs.Prelude.{◌≡◌, ◌+◌, ◌*◌, ◌≤◌, ◌∷◌, [], ◌++◌, ℕ, List, IfOk, MatchOption, length};
-ghost use Rattle.wax_capture.specs.Pieces.{forms_of, size_of};
-ghost use Rattle.wax_capture.specs.inner.Rows.{ArePieceRows, Row};
-ghost use Rattle.wax_capture.specs.inner.Splits.{AreChosen, Splits, all_sizes};
-ghost use Rattle.wax_capture.specs.inner.Trials.{lengths_of};
+ghost use Rattle.wax_capture.specs.{Pieces.{forms_of, size_of}, inner.Rows.{ArePieceRows, Row}};
+ghost use Rattle.wax_capture.specs.{inner.Splits.{AreChosen, Splits, all_sizes}, inner.Trials.lengths_of};
 ghost use Rattle.wax_capture.specs.declared.piece.Piece.{Piece};
 
 use crate::choice::choose;

@@ -1,13 +1,9 @@
 //! What a token captures of its piece, and which piece it prefers.
 ghost use Rattle.std.specs.Prelude.{◌≡◌, ◌∷◌, [], ℕ, List, IfSome, IsNone, true};
-ghost use Rattle.wax_token.specs.View.{leaf_of, wildcard_leaf};
-ghost use Rattle.wax_token.specs.Words.{is_leaf_tree};
-ghost use Rattle.wax_capture.specs.Captures.{is_lazy, is_lazy_leaf};
-ghost use Rattle.wax_capture.specs.Captures.{leaf_captures, leaf_skips, token_captures, token_skips};
-ghost use Rattle.wax_capture.specs.Captures.{tree_capture};
-ghost use Rattle.wax_capture.specs.Pieces.{captured_by, skipped_by};
-ghost use Rattle.wax_token.specs.Syntax.{tree};
-ghost use Rattle.wax_capture.specs.inner.Ways.{IsTreeToken, is_single};
+ghost use Rattle.wax_token.specs.{View.{leaf_of, wildcard_leaf}, Words.is_leaf_tree, Syntax.tree};
+ghost use Rattle.wax_capture.specs.Captures.{is_lazy, is_lazy_leaf, leaf_captures, leaf_skips};
+ghost use Rattle.wax_capture.specs.Captures.{token_captures, token_skips, tree_capture};
+ghost use Rattle.wax_capture.specs.{Pieces.{captured_by, skipped_by}, inner.Ways.{IsTreeToken, is_single}};
 
 use crate::piece::Capture;
 use wax_token::token::{BranchKind, Evaluation, LeafKind, Sides, Token, Topology, Wildcard};

@@ -1,13 +1,10 @@
 //! Splitting a text by trial, from left to right, with a bound on the time.
 ghost use Rattle.std.specs.Prelude.{◌≡◌, ◌+◌, ◌*◌, ◌<◌, ◌≤◌, ◌∷◌, [], ◌++◌, ℕ, List, IfOk, IsFalse, IsTrue};
-ghost use Rattle.std.specs.Prelude.{length, drop};
-ghost use Rattle.std.specs.Bool.{MatchBool};
-ghost use Rattle.wax_capture.specs.Pieces.{forms_of, size_of};
-ghost use Rattle.wax_lengths.specs.Forms.{form_size};
-ghost use Rattle.wax_lengths.specs.Spans.{InSpan, IsNarrowed, IsPicked, looks};
-ghost use Rattle.wax_capture.specs.inner.Splits.{Splits, all_sizes};
+ghost use Rattle.std.specs.{Prelude.{length, drop}, Bool.MatchBool};
+ghost use Rattle.wax_capture.specs.{Pieces.{forms_of, size_of}, inner.Splits.{Splits, all_sizes}};
 ghost use Rattle.wax_capture.specs.inner.Trials.{AreLeft, HasTaken, IsOpen, IsTried};
 ghost use Rattle.wax_capture.specs.declared.piece.Piece.{Piece};
+ghost use Rattle.wax_lengths.specs.{Forms.form_size, Spans.{InSpan, IsNarrowed, IsPicked, looks}};
 
 use crate::piece::Piece;
 use std::alloc::{AllocError, Global};

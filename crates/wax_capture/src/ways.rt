@@ -2,14 +2,10 @@
 ghost use Rattle.std.specs.Prelude.{◌≡◌, ◌+◌, ◌<◌, ◌≤◌, ◌↔◌, ◌∷◌, [], ◌++◌, ℕ, Bool, List, IfOk, IfSome};
 ghost use Rattle.std.specs.Prelude.{OnOk, length, true};
 ghost use Rattle.wax_query.specs.Outcome.{MatchBuild};
-ghost use Rattle.wax_token.specs.Cost.{branches_cost, cost};
-ghost use Rattle.wax_token.specs.Meaning.{Means};
-ghost use Rattle.wax_token.specs.Syntax.{tree};
-ghost use Rattle.wax_token.specs.Words.{trees};
+ghost use Rattle.wax_token.specs.{Cost.{branches_cost, cost}, Meaning.Means, Syntax.tree, Words.trees};
 ghost use Rattle.wax_capture.specs.Captures.{LeafWay, MeansBranch, MeansByWay};
-ghost use Rattle.wax_capture.specs.Pieces.{WayIn, forms_of, size_of};
+ghost use Rattle.wax_capture.specs.{Pieces.{WayIn, forms_of, size_of}, inner.Ways.is_single};
 ghost use Rattle.wax_lengths.specs.Forms.{TakenBy, form_size};
-ghost use Rattle.wax_capture.specs.inner.Ways.{is_single};
 
 use crate::leaves::{form_of_leaf, lone_leaf, test_of_leaf};
 use crate::letters::linked;

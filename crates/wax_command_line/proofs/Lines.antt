@@ -1,17 +1,13 @@
 -- Lines of a walk that is still going.
 use Rattle.std.proofs.Common.{◌≡◌, ℕ, ◌<◌, Bool, true, false, List, [], ◌∷◌, ◌++◌, refl, sym, ap, subst, ◌∙◌}
-use Rattle.std.proofs.Common.{append_assoc}
-use Rattle.std.specs.Prelude.{Option, Some, None, Result, Ok, Err, IfErr, IsErrAnd, filter, ◌||◌}
-use Rattle.std.specs.Io.KnownBytes.{Appends}
-use Rattle.std.specs.List.{list_any}
-use Rattle.std.proofs.KnownBytes.{Appends-nil, Appends-trans}
-use Rattle.std.proofs.lemmas.Grind.{flat_map-append}
-use Rattle.std.proofs.lemmas.List.{append-nil}
+use Rattle.std.proofs.{Common.append_assoc, KnownBytes.{Appends-nil, Appends-trans}}
+use Rattle.std.proofs.{lemmas.Grind.flat_map-append, lemmas.List.append-nil}
 use Rattle.std.proofs.lemmas.List.Folds.{list_any-append}
+use Rattle.std.specs.Prelude.{Option, Some, None, Result, Ok, Err, IfErr, IsErrAnd, filter, ◌||◌}
+use Rattle.std.specs.{Io.KnownBytes.Appends, List.list_any}
 use Rattle.wax_directory.specs.Law.{Law}
 use Rattle.wax_lines.specs.declared.lines.LinesError.{LinesError}
-use Rattle.wax_lines.specs.declared.lines.LinesError.TheVariants.{Memory, Write}
-use Rattle.wax_lines.specs.Written.{WritesPart}
+use Rattle.wax_lines.specs.{declared.lines.LinesError.TheVariants.{Memory, Write}, Written.WritesPart}
 use Rattle.wax_walk.specs.Collected.{EndsThere, IsCutShort, TookCourse, cut_short}
 use Rattle.wax_walk.specs.Course.{DirectoryCall, answers, asking, calls_of, items_of, unknown}
 use Rattle.wax_walk.specs.declared.error.FaultKind.TheVariants.{Budget}

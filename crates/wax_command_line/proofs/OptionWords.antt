@@ -1,14 +1,11 @@
 -- The words of walks.
 use Rattle.std.proofs.Common.{◌≡◌, ℕ, ◌+◌, ◌≤◌, Bool, true, false, List, [], ◌∷◌, ◌++◌, length, length-append}
 use Rattle.std.proofs.Common.{get_or, Option, Some, None, inl, inr, refl, sym, ap, subst, ◌∙◌, append_assoc}
-use Rattle.std.proofs.Common.{arith}
-use Rattle.std.proofs.lemmas.Grind.{flat_map-append}
-use Rattle.std.specs.List.{flat_map}
-use Rattle.std.specs.Prelude.{◌↔◌, IfNone, String, string_bytes, codes, slice_get}
+use Rattle.std.proofs.{Common.arith, lemmas.Grind.flat_map-append}
+use Rattle.std.specs.{List.flat_map, Prelude.{◌↔◌, IfNone, String, string_bytes, codes, slice_get}}
 use Rattle.wax_command_line.specs.Commands.{WalkOption, excluding, ignoring, at_least, at_most, IsOption}
 use Rattle.wax_command_line.specs.Commands.{SayEach, least_of, greatest_of, list_of, leasts_in, greatests_in}
-use Rattle.wax_command_line.specs.Commands.{count_lists}
-use Rattle.wax_command_line.specs.Commands.{AreBounds, SaysWalk, AsksWalk, WalkRequest}
+use Rattle.wax_command_line.specs.Commands.{count_lists, AreBounds, SaysWalk, AsksWalk, WalkRequest}
 use Rattle.wax_command_line.specs.WalkArguments.{HasNoNext, IsNext}
 use Rattle.wax_command_line.specs.inner.OptionWords.{AreDoubled, AreMore, AreSaidBy, all_in, one_if}
 use Rattle.wax_command_line.specs.inner.OptionWords.{IsFirstWord, IsDoubled}

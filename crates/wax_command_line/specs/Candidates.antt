@@ -1,6 +1,5 @@
 -- The lines that a walk writes.
-use Rattle.std.specs.Prelude.{ℕ, Bool, true, false, List, [], ◌∷◌, ◌++◌}
-use Rattle.std.specs.List.{flat_map}
+use Rattle.std.specs.{Prelude.{ℕ, Bool, true, false, List, [], ◌∷◌, ◌++◌}, List.flat_map}
 use Rattle.wax_walk.specs.Given.{Given, kept, alone, with_tree, entry, fault, no_memory}
 
 -- the candidate of an entry that is kept, with a line feed; nothing for an excluded entry or an error

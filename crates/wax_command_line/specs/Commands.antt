@@ -1,8 +1,6 @@
 -- The commands that arguments request.
-use Rattle.std.specs.Prelude.{◌≡◌, ◌≤◌, ◌<◌, ◌^◌, ⊤, ℕ, List, [], ◌∷◌, Option, Some, String}
-use Rattle.std.specs.Prelude.{string_bytes}
-use Rattle.std.specs.Prelude.{codes, length, slice_get, unwrap_or}
-use Rattle.std.specs.List.{flat_map}
+use Rattle.std.specs.Prelude.{◌≡◌, ◌≤◌, ◌<◌, ◌^◌, ⊤, ℕ, List, [], ◌∷◌, Option, Some, String, string_bytes}
+use Rattle.std.specs.{Prelude.{codes, length, slice_get, unwrap_or}, List.flat_map}
 use Rattle.std.specs.Str.Parse.{IsNumeral, digits_value}
 
 -- the arguments are the name of a command and an expression

@@ -1,23 +1,16 @@
 -- What is written for a walk without what filters exclude.
-use Rattle.std.specs.Prelude.{◌≡◌, ℕ, Bool, false, List, [], ◌++◌, Option, filter}
-use Rattle.std.specs.Io.KnownBytes.{Appends}
+use Rattle.std.specs.{Prelude.{◌≡◌, ℕ, Bool, false, List, [], ◌++◌, Option, filter}, Io.KnownBytes.Appends}
 use Rattle.std.specs.List.{list_any}
 use Rattle.wax_exclude.specs.GlobRequests.{AreRulesOf, ComesWanted, KeepsWanted, CanBegin, GlobRequest}
-use Rattle.wax_exclude.specs.GlobRequests.{request_excluding, request_walk}
-use Rattle.wax_directory.specs.Law.{Law}
-use Rattle.wax_directory.specs.Shown.{Shown}
+use Rattle.wax_exclude.specs.{GlobRequests.{request_excluding, request_walk}, Told.KeepsAnswered}
+use Rattle.wax_exclude.specs.Wanted.{Filter}
+use Rattle.wax_directory.specs.{Law.Law, Shown.Shown}
 use Rattle.wax_lines.specs.declared.lines.LinesError.{LinesError}
 use Rattle.wax_lines.specs.declared.lines.LinesError.TheVariants.{Memory}
 use Rattle.wax_token.specs.Reads.{Span}
 use Rattle.wax_tree.specs.Programs.{any_mark}
-use Rattle.wax_walk.specs.Collected.{Took}
-use Rattle.wax_walk.specs.Forest.{preorder}
-use Rattle.wax_walk.specs.Candidates.{Candidate}
-use Rattle.wax_walk.specs.Given.{Given, Mark, is_kept}
-use Rattle.wax_walk.specs.Ruled.{ruled_view}
-use Rattle.wax_walk.specs.View.{WalkView}
-use Rattle.wax_exclude.specs.Told.{KeepsAnswered}
-use Rattle.wax_exclude.specs.Wanted.{Filter}
+use Rattle.wax_walk.specs.{Collected.Took, Forest.preorder, Candidates.Candidate}
+use Rattle.wax_walk.specs.{Given.{Given, Mark, is_kept}, Ruled.ruled_view, View.WalkView}
 use Rattle.wax_command_line.specs.Candidates.{candidate_lines, is_error}
 
 module _ {D C : Type 0} (law : Law D C) (walk : WalkView D) (rules : List (Candidate → Mark)) where

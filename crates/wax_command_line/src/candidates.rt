@@ -1,10 +1,8 @@
 //! The candidates of a walk, as lines.
-ghost use Rattle.std.specs.Prelude.{◌≡◌, ◌<◌, ◌≤◌, ◌∷◌, ◌++◌, ◌⊎◌, [], IfOk, IfErr, IsErrOf, OnOk};
-ghost use Rattle.std.specs.Prelude.{false, map};
-ghost use Rattle.std.specs.Iterator.{IsFinite};
-ghost use Rattle.wax_command_line.specs.Wanted.{WroteFirst};
+ghost use Rattle.std.specs.Prelude.{◌≡◌, ◌<◌, ◌≤◌, ◌∷◌, ◌++◌, ◌⊎◌, [], IfOk, IfErr, IsErrOf, OnOk, false};
+ghost use Rattle.std.specs.{Prelude.map, Iterator.IsFinite};
+ghost use Rattle.wax_command_line.specs.Wanted.{WroteFirst, WroteWanted};
 ghost use Rattle.wax_command_line.specs.inner.Written.{MovesBytes, StopsAt, WroteAll, WroteSome};
-ghost use Rattle.wax_command_line.specs.Wanted.{WroteWanted};
 ghost use Rattle.wax_command_line.specs.Candidates.{candidate_line, is_error};
 ghost use Rattle.wax_lines.specs.Counts.{greatest_count};
 ghost use Rattle.wax_walk.specs.Entries.{given_of};

@@ -1,14 +1,13 @@
 //! The arguments of a walk.
-ghost use Rattle.std.specs.Prelude.{◌≡◌, ◌≤◌, ◌+◌, ◌++◌, ◌∷◌, [], ℕ, List, length, unwrap_or};
-ghost use Rattle.std.specs.Prelude.{IfSome, IfNone, MatchOption, false, true};
+ghost use Rattle.std.specs.Prelude.{◌≡◌, ◌≤◌, ◌+◌, ◌++◌, ◌∷◌, [], ℕ, List, length, unwrap_or, IfSome, IfNone};
+ghost use Rattle.std.specs.Prelude.{MatchOption, false, true};
 ghost use Rattle.wax_command_line.specs.Commands.{AreBounds, AsksWalk, IsNumber, IsOption, SayEach};
-ghost use Rattle.wax_command_line.specs.Commands.{WalkOption as AskedOption, WalkRequest};
-ghost use Rattle.wax_command_line.specs.Commands.{count_lists, greatests_in, leasts_in};
-ghost use Rattle.wax_tree.specs.Depths.{greatest, least};
+ghost use Rattle.wax_command_line.specs.Commands.{WalkOption as AskedOption, WalkRequest, count_lists};
+ghost use Rattle.wax_command_line.specs.Commands.{greatests_in, leasts_in};
 ghost use Rattle.wax_command_line.specs.inner.OptionWords.{AreDoubled, AreMore, AreSaidBy, HasNoFirst};
+ghost use Rattle.wax_command_line.specs.inner.OptionWords.{IsDoubled, IsFirstWord, all_in, one_if};
 ghost use Rattle.wax_command_line.specs.WalkArguments.{HasNoNext, IsNext, IsRead, asked_by};
-ghost use Rattle.wax_command_line.specs.inner.OptionWords.{IsDoubled, IsFirstWord};
-ghost use Rattle.wax_command_line.specs.inner.OptionWords.{all_in, one_if};
+ghost use Rattle.wax_tree.specs.Depths.{greatest, least};
 
 use wax_tree::{DepthBehavior, DepthMax, DepthMin, DepthMinMax};
 

@@ -1,19 +1,13 @@
 -- What an option adds to the filters.
-use Rattle.std.proofs.Common.{◌≡◌, ℕ, List, [], ◌∷◌, ◌++◌, map, ap, subst, sym, ◌∙◌}
+use Rattle.std.proofs.{Common.{◌≡◌, ℕ, List, [], ◌∷◌, ◌++◌, map, ap, subst, sym, ◌∙◌}, lemmas.List.map-append}
 use Rattle.std.specs.Prelude.{Result, Ok, Err, IfErr, IsErrAnd, OnOk, chars}
-use Rattle.std.proofs.lemmas.List.{map-append}
-use Rattle.wax.specs.Exclusions.{IsNotRule}
-use Rattle.wax.specs.Patterns.{Spells}
-use Rattle.wax_exclude.specs.GlobRequests.{AreRulesOf, IsRuleOf}
-use Rattle.wax_token.specs.Reads.{Span}
-use Rattle.wax_token.specs.Syntax.{Tree}
-use Rattle.wax_walk.specs.Candidates.{Candidate}
-use Rattle.wax_walk.specs.Given.{Mark}
-use Rattle.wax_exclude.specs.Ignored.{Line}
+use Rattle.wax.specs.{Exclusions.IsNotRule, Patterns.Spells}
+use Rattle.wax_exclude.specs.{GlobRequests.{AreRulesOf, IsRuleOf}, Ignored.Line}
 use Rattle.wax_exclude.specs.Wanted.{Filter, not_ignored, not_meant}
+use Rattle.wax_token.specs.{Reads.Span, Syntax.Tree}
+use Rattle.wax_walk.specs.{Candidates.Candidate, Given.Mark}
 use Rattle.wax_command_line.specs.Commands.{WalkOption, excluding, ignoring}
-use Rattle.wax_commands.specs.Files.{FileAnswers, IsListIn}
-use Rattle.wax_commands.specs.Walked.{AreAskedBy, IsNotOf}
+use Rattle.wax_commands.specs.{Files.{FileAnswers, IsListIn}, Walked.{AreAskedBy, IsNotOf}}
 
 map_on_ok : {A E P Q : Type 0} → (P → Q) → (r : Result A E) → OnOk r P → OnOk r Q
 map_on_ok f (Ok a) h = f h

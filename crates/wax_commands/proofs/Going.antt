@@ -2,39 +2,28 @@
 use Rattle.std.proofs.Common.{◌≡◌, ◌≢◌, ◌⊎◌, ℕ, ◌-◌, ◌^◌, Bool, true, false, ◌++◌, List, [], refl, sym, ap}
 use Rattle.std.proofs.Common.{arith, inl, inr, subst, ◌∙◌}
 use Rattle.std.specs.Prelude.{Option, chars}
-use Rattle.wax.specs.Headline.{IsGlob}
-use Rattle.wax.specs.GlobView.{GlobView}
+use Rattle.wax.specs.{Headline.IsGlob, GlobView.GlobView, GlobWalks.{BeginsBy, request_by}, Walks.any_mark}
 use Rattle.wax_exclude.proofs.Telling.{answered_before}
 use Rattle.wax_exclude.specs.GlobRequests.{AreRulesOf, KeepsWanted, GlobRequest, goes, request_walk}
-use Rattle.wax_directory.specs.Law.{Law}
-use Rattle.wax_directory.specs.Shown.{Shown}
+use Rattle.wax_exclude.specs.{Wanted.Filter, Pruned.by_matches}
+use Rattle.wax_directory.specs.{Law.Law, Shown.Shown}
 use Rattle.wax_token.specs.Reads.{Span}
-use Rattle.wax_tree.specs.Begins.{or_greatest, behavior_range}
-use Rattle.wax_tree.specs.Depths.{behavior_at}
+use Rattle.wax_tree.specs.{Begins.{or_greatest, behavior_range}, Depths.behavior_at}
 use Rattle.wax_tree.specs.declared.behavior.WalkBehavior.{WalkBehavior}
-use Rattle.wax_walk.specs.Candidates.{Candidate}
-use Rattle.wax_walk.specs.Given.{Given, Mark}
-use Rattle.wax_walk.specs.View.{WalkView}
-use Rattle.wax_exclude.specs.Wanted.{Filter}
-use Rattle.wax.specs.GlobWalks.{BeginsBy, request_by}
-use Rattle.wax_exclude.specs.Pruned.{by_matches}
-use Rattle.wax_walk.specs.Forest.{preorder}
-use Rattle.wax_command_line.specs.Candidates.{candidate_lines}
-use Rattle.wax_commands.specs.Files.{FileAnswers}
-use Rattle.wax_command_line.specs.Commands.{SayEach, WalkOption, WalkRequest}
-use Rattle.wax_lines.specs.declared.counted.Counted.{Counted}
-use Rattle.wax_lines.specs.declared.lines.LinesError.{LinesError}
-use Rattle.wax_lines.specs.declared.lines.LinesError.TheVariants.{Read, Write, Memory}
-use Rattle.wax_commands.specs.Streams.{HasFailedWrite, SaysNoMemory, Stream, Writers, stream_of, writers}
-use Rattle.wax_commands.specs.Walked.{EndsInNoMemory, KeepsAllWanted, KeepsOnWalk, WroteStart}
-use Rattle.wax.specs.Walks.{any_mark}
-use Rattle.wax.proofs.Kept.{gave_within}
-use Rattle.wax_commands.specs.Walked.{AreAskedByAll, AreBuilt, Environment, HasRefused, OnWalk, WalkEnds}
-use Rattle.wax_commands.specs.Walked.{WalkGlobs, cut_short, done, faulty, lacks_memory, no_filter}
-use Rattle.wax_commands.specs.Walked.{range_in, refused, stopped}
+use Rattle.wax_walk.specs.{Candidates.Candidate, Given.{Given, Mark}, View.WalkView, Forest.preorder}
+use Rattle.wax_command_line.specs.{Candidates.candidate_lines, Commands.{SayEach, WalkOption, WalkRequest}}
 use Rattle.wax_command_line.specs.declared.walk_words.WalkArguments.{WalkArguments}
 use Rattle.wax_command_line.specs.Wanted.{KeepsOnRequests, OnRequests, WroteFirst, WroteWanted}
 use Rattle.wax_command_line.specs.WalkArguments.{IsRead}
+use Rattle.wax_commands.specs.Files.{FileAnswers}
+use Rattle.wax_commands.specs.Streams.{HasFailedWrite, SaysNoMemory, Stream, Writers, stream_of, writers}
+use Rattle.wax_commands.specs.Walked.{EndsInNoMemory, KeepsAllWanted, KeepsOnWalk, WroteStart, AreAskedByAll}
+use Rattle.wax_commands.specs.Walked.{AreBuilt, Environment, HasRefused, OnWalk, WalkEnds, WalkGlobs}
+use Rattle.wax_commands.specs.Walked.{cut_short, done, faulty, lacks_memory, no_filter, range_in, refused}
+use Rattle.wax_commands.specs.Walked.{stopped}
+use Rattle.wax_lines.specs.{declared.counted.Counted.Counted, declared.lines.LinesError.LinesError}
+use Rattle.wax_lines.specs.declared.lines.LinesError.TheVariants.{Read, Write, Memory}
+use Rattle.wax.proofs.Kept.{gave_within}
 
 module _ {D C : Type 0} (law : Law D C) (d : D) (asked : WalkRequest) (globs : WalkGlobs)
     (view : WalkView D) where

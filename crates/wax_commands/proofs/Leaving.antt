@@ -1,16 +1,13 @@
 -- What the options of a walk exclude, one after another.
 use Rattle.std.proofs.Common.{◌≡◌, List, [], ◌∷◌, ◌++◌, refl, sym, ap, subst, ◌∙◌, append_assoc}
-use Rattle.std.specs.Prelude.{Option, String}
 use Rattle.std.proofs.lemmas.List.{append-nil}
-use Rattle.wax_exclude.specs.GlobRequests.{AreRulesOf}
+use Rattle.std.specs.Prelude.{Option, String}
+use Rattle.wax_exclude.specs.{GlobRequests.AreRulesOf, Wanted.Filter}
 use Rattle.wax_token.specs.Reads.{Span}
-use Rattle.wax_walk.specs.Candidates.{Candidate}
-use Rattle.wax_walk.specs.Given.{Mark}
-use Rattle.wax_exclude.specs.Wanted.{Filter}
-use Rattle.wax_command_line.specs.Commands.{WalkOption, SayEach}
+use Rattle.wax_walk.specs.{Candidates.Candidate, Given.Mark}
+use Rattle.wax_command_line.specs.{Commands.{WalkOption, SayEach}, WalkArguments.{HasNoNext, IsNext}}
 use Rattle.wax_commands.specs.Files.{FileAnswers}
 use Rattle.wax_commands.specs.Walked.{AreAskedBy, AreAskedByAll, HasRefused, IsRefusedOption}
-use Rattle.wax_command_line.specs.WalkArguments.{HasNoNext, IsNext}
 use Rattle.wax_command_line.proofs.OptionWords.{next_says, says_none}
 
 rules_more : (xs ys : List (Filter Span)) (rules others : List (Candidate → Mark)) → AreRulesOf xs rules

@@ -1,7 +1,6 @@
 -- Lines of facts.
-use Rattle.std.proofs.Common.{◌≡◌, ◌≢◌, ◌∙◌, ℕ, List, ◌∷◌, ◌++◌, ap, append_assoc}
+use Rattle.std.proofs.{Common.{◌≡◌, ◌≢◌, ◌∙◌, ℕ, List, ◌∷◌, ◌++◌, ap, append_assoc}, lemmas.Bool.ne_eqb}
 use Rattle.std.specs.Prelude.{Some, decimal, if◌then◌else◌}
-use Rattle.std.proofs.lemmas.Bool.{ne_eqb}
 use Rattle.wax_commands.specs.QueryText.{QueryFacts, fact_lines, part_lines, query_text, range_text}
 use Rattle.wax_commands.specs.QueryText.{token_lines}
 

@@ -1,12 +1,9 @@
 -- Ignore lists in files.
-use Rattle.std.specs.Prelude.{ℕ, List, Result, Ok, Err, Vec}
-use Rattle.std.specs.List.{AllZip}
-use Rattle.std.specs.Str.{IsUtf8}
+use Rattle.std.specs.{Prelude.{ℕ, List, Result, Ok, Err, Vec}, List.AllZip, Str.IsUtf8}
 use Rattle.wax.specs.Ignoring.{IsFirstUnread, IsReadAs}
 use Rattle.wax_set.specs.declared.error.build_error.BuildError.{BuildError}
-use Rattle.wax_exclude.specs.Lines.{written_lines}
+use Rattle.wax_exclude.specs.{Lines.written_lines, Ignored.Line}
 use Rattle.wax_token.specs.Reads.{Span}
-use Rattle.wax_exclude.specs.Ignored.{Line}
 use Rattle.wax_commands.specs.declared.files.FileFault.{FileFault}
 use Rattle.wax_commands.specs.declared.files.FileFault.TheVariants.{ReadFailed}
 

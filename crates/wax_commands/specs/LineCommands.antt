@@ -1,11 +1,9 @@
 -- How a run of `match` or of `captures` can end.
 use Rattle.std.specs.Prelude.{◌≡◌, ◌≢◌, ℕ, List, chars}
-use Rattle.wax.specs.Headline.{IsGlob}
-use Rattle.wax.specs.GlobView.{GlobView, HasCaptures, IsMeant}
+use Rattle.wax.specs.{Headline.IsGlob, GlobView.{GlobView, HasCaptures, IsMeant}}
 use Rattle.wax_lines.specs.Lines.{Filtered, Stopped, WritesCaptures, WritesMeant}
 use Rattle.wax_lines.specs.declared.lines.LinesError.{LinesError}
-use Rattle.wax_commands.specs.Refused.{IsRefused}
-use Rattle.wax_commands.specs.Streams.{IsShown, SaysNoMemory, Stream, Writers}
+use Rattle.wax_commands.specs.{Refused.IsRefused, Streams.{IsShown, SaysNoMemory, Stream, Writers}}
 
 -- an expression, and which bytes may be written for a text, by the glob of the expression
 pub record LineCommand : Type 1 where

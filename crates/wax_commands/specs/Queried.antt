@@ -1,11 +1,8 @@
 -- How a run of `query` can end.
-use Rattle.std.specs.Prelude.{◌≡◌, ℕ, List, chars}
-use Rattle.std.specs.Io.KnownBytes.{Appends}
-use Rattle.wax.specs.Headline.{IsGlob}
-use Rattle.wax.specs.GlobView.{GlobView}
+use Rattle.std.specs.{Prelude.{◌≡◌, ℕ, List, chars}, Io.KnownBytes.Appends}
+use Rattle.wax.specs.{Headline.IsGlob, GlobView.GlobView}
 use Rattle.wax_lines.specs.Written.{WritesPart}
-use Rattle.wax_commands.specs.QueryText.{AreFactsOf, QueryFacts, query_text}
-use Rattle.wax_commands.specs.Refused.{IsRefused}
+use Rattle.wax_commands.specs.{QueryText.{AreFactsOf, QueryFacts, query_text}, Refused.IsRefused}
 use Rattle.wax_commands.specs.Streams.{HasFailedWrite, SaysNoMemory, Writers}
 
 -- The query of the expression e was run, with the writers `old` before and `new` after.

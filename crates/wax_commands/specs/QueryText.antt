@@ -1,13 +1,10 @@
 -- The facts of a glob, and the lines that `query` writes of them.
-use Rattle.std.specs.Prelude.{◌≡◌, ◌==◌, ℕ, List, [], ◌∷◌, ◌++◌, Option, Some, None, MatchOption}
-use Rattle.std.specs.Prelude.{chars, codes, decimal, encode_utf8_all, if◌then◌else◌, length}
-use Rattle.std.specs.List.{flat_map}
-use Rattle.wax.specs.GlobView.{GlobView}
-use Rattle.wax.specs.Partition.{HasParts}
+use Rattle.std.specs.Prelude.{◌≡◌, ◌==◌, ℕ, List, [], ◌∷◌, ◌++◌, Option, Some, None, MatchOption, chars}
+use Rattle.std.specs.{Prelude.{codes, decimal, encode_utf8_all, if◌then◌else◌, length}, List.flat_map}
+use Rattle.wax.specs.{GlobView.GlobView, Partition.HasParts}
 use Rattle.wax.specs.Queries.{Always, Bounds, Depth, Never, Sometimes, Text, Variant, When, captures}
 use Rattle.wax.specs.Queries.{exhaustive, root, warnings}
-use Rattle.wax_components.specs.Warnings.{span_of_warning}
-use Rattle.wax_components.specs.declared.warnings.Warning.{Warning}
+use Rattle.wax_components.specs.{Warnings.span_of_warning, declared.warnings.Warning.Warning}
 use Rattle.wax_components.specs.declared.warnings.Warning.TheVariants.{SemanticLiteral, TerminatingSeparator}
 
 -- what is known of a glob: among others, the bytes of its text, if it has only one, and of its prefix; the

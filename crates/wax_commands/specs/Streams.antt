@@ -1,8 +1,6 @@
 -- The streams of a run, and what shows that it failed.
-use Rattle.std.specs.Prelude.{◌≡◌, ◌<◌, ◌⊎◌, ℕ, List, Option, codes}
-use Rattle.std.specs.Io.KnownBytes.{Appends}
-use Rattle.wax_lines.specs.Counts.{greatest_count}
-use Rattle.wax_lines.specs.declared.counted.Counted.{Counted}
+use Rattle.std.specs.{Prelude.{◌≡◌, ◌<◌, ◌⊎◌, ℕ, List, Option, codes}, Io.KnownBytes.Appends}
+use Rattle.wax_lines.specs.{Counts.greatest_count, declared.counted.Counted.Counted}
 use Rattle.wax_lines.specs.declared.lines.LinesError.{LinesError}
 use Rattle.wax_lines.specs.declared.lines.LinesError.TheVariants.{Read, Write, Memory}
 

@@ -1,35 +1,23 @@
 -- How a run of `walk` can end.
 use Rattle.std.specs.Prelude.{◌≡◌, ◌≢◌, ◌<◌, ◌⊎◌, ℕ, ◌-◌, ◌^◌, true, false, ⊤, List, [], ◌∷◌, ◌++◌, Option}
-use Rattle.std.specs.Prelude.{chars, filter}
-use Rattle.std.specs.Io.KnownBytes.{Appends}
-use Rattle.std.specs.List.{list_any}
-use Rattle.wax.specs.Headline.{IsGlob}
-use Rattle.wax.specs.Exclusions.{FitsAlone, NoExclusion}
-use Rattle.wax.specs.GlobView.{GlobView}
+use Rattle.std.specs.{Prelude.{chars, filter}, Io.KnownBytes.Appends, List.list_any}
+use Rattle.wax.specs.{Headline.IsGlob, Exclusions.{FitsAlone, NoExclusion}, GlobView.GlobView}
 use Rattle.wax.specs.GlobWalks.{Beginning, GaveBy, HasBrokenPrefix, request_by, origin_from}
-use Rattle.wax_exclude.specs.Pruned.{by_matches}
 use Rattle.wax.specs.Patterns.{Refuses, Spells}
+use Rattle.wax_exclude.specs.{Pruned.by_matches, GlobRequests.{KeepsWanted, GlobRequest, request_walk}}
+use Rattle.wax_exclude.specs.{Told.KeepsAnswered, Wanted.{Filter, not_meant, not_ignored}}
 use Rattle.wax_set.specs.declared.error.build_error.BuildError.{BuildError}
 use Rattle.wax_set.specs.declared.error.build_error.BuildError.TheVariants.{Memory}
-use Rattle.wax_exclude.specs.GlobRequests.{KeepsWanted, GlobRequest, request_walk}
 use Rattle.wax_components.specs.Depth.{Depth}
-use Rattle.wax_directory.specs.Law.{Law}
-use Rattle.wax_directory.specs.Shown.{Shown}
+use Rattle.wax_directory.specs.{Law.Law, Shown.Shown}
 use Rattle.wax_query.specs.Ranges.{Bounds}
-use Rattle.wax_token.specs.Reads.{Span}
-use Rattle.wax_token.specs.Syntax.{Tree}
-use Rattle.wax_tree.specs.Begins.{or_greatest}
-use Rattle.wax_tree.specs.Prefix.{ArePlain}
-use Rattle.wax_tree.specs.declared.steps.DepthRange.{DepthRange}
-use Rattle.wax_walk.specs.Forest.{preorder}
-use Rattle.wax_walk.specs.Given.{Given, is_kept}
+use Rattle.wax_token.specs.{Reads.Span, Syntax.Tree}
+use Rattle.wax_tree.specs.{Begins.or_greatest, Prefix.ArePlain, declared.steps.DepthRange.DepthRange}
+use Rattle.wax_walk.specs.{Forest.preorder, Given.{Given, is_kept}}
 use Rattle.wax_command_line.specs.Candidates.{candidate_lines, is_error}
-use Rattle.wax_exclude.specs.Told.{KeepsAnswered}
-use Rattle.wax_exclude.specs.Wanted.{Filter, not_meant, not_ignored}
 use Rattle.wax_command_line.specs.Commands.{WalkOption, excluding, ignoring, at_least, at_most, WalkRequest}
 use Rattle.wax_command_line.specs.Commands.{greatest_in, least_in}
-use Rattle.wax_commands.specs.Files.{FileAnswers, IsListIn, IsUnlisted}
-use Rattle.wax_commands.specs.Refused.{IsRefused}
+use Rattle.wax_commands.specs.{Files.{FileAnswers, IsListIn, IsUnlisted}, Refused.IsRefused}
 use Rattle.wax_commands.specs.Streams.{HasFailedWrite, SaysNoMemory, Stream, Writers, no_memory_line}
 
 -- what a walk is run over: a directory, with its law; what reading files may return; and what a writer of

@@ -1,19 +1,15 @@
 //! Globs and filters that are built from the arguments.
 ghost use Rattle.std.specs.Fn.{FnReturnsAt};
-ghost use Rattle.std.specs.Prelude.{◌≡◌, ◌≢◌, ◌⊎◌, ◌∷◌, ◌++◌, [], List, chars, map};
-ghost use Rattle.std.specs.Prelude.{IfSome, IfNone, IfOk, IfErr, OnOk, IsSome};
+ghost use Rattle.std.specs.Prelude.{◌≡◌, ◌≢◌, ◌⊎◌, ◌∷◌, ◌++◌, [], List, chars, map, IfSome, IfNone, IfOk};
+ghost use Rattle.std.specs.Prelude.{IfErr, OnOk, IsSome};
 ghost use Rattle.wax.specs.Headline.{IsGlob};
-ghost use Rattle.wax_exclude.specs.GlobRequests.{AreRulesOf};
-ghost use Rattle.wax_token.specs.Reads.{Span};
-ghost use Rattle.wax_token.specs.Syntax.{Tree};
-ghost use Rattle.wax_walk.specs.Candidates.{Candidate};
-ghost use Rattle.wax_walk.specs.Given.{Mark};
-ghost use Rattle.wax_exclude.specs.Ignored.{Line};
+ghost use Rattle.wax_exclude.specs.{GlobRequests.AreRulesOf, Ignored.Line};
 ghost use Rattle.wax_exclude.specs.Wanted.{Filter, not_ignored, not_meant};
+ghost use Rattle.wax_token.specs.{Reads.Span, Syntax.Tree};
+ghost use Rattle.wax_walk.specs.{Candidates.Candidate, Given.Mark};
 ghost use Rattle.wax_command_line.specs.Commands.{SayEach, WalkOption as AskedOption};
 ghost use Rattle.wax_command_line.specs.WalkArguments.{asked_by};
-ghost use Rattle.wax_commands.specs.Files.{IsListIn, IsUnlisted};
-ghost use Rattle.wax_commands.specs.Refused.{IsRefused};
+ghost use Rattle.wax_commands.specs.{Files.{IsListIn, IsUnlisted}, Refused.IsRefused};
 ghost use Rattle.wax_commands.specs.Streams.{SaysNoMemory, stream_of};
 ghost use Rattle.wax_commands.specs.Walked.{AreAskedBy, AreAskedByAll, HasRefused, IsNoPattern, IsNotOf};
 ghost use Rattle.wax_commands.specs.Walked.{IsRefusedOption};

@@ -1,6 +1,5 @@
 //! Files with ignore lists.
-ghost use Rattle.std.specs.Fn.{FnReturnsAt};
-ghost use Rattle.std.specs.Prelude.{◌≢◌, IfErr, IfOk};
+ghost use Rattle.std.specs.{Fn.FnReturnsAt, Prelude.{◌≢◌, IfErr, IfOk}};
 ghost use Rattle.wax_commands.specs.Files.{IsListIn, IsUnlisted};
 
 use crate::building::FilterFault;

@@ -1,7 +1,6 @@
 //! The output of `globs query`.
 ghost use Rattle.std.specs.Prelude.{◌≡◌, ◌++◌, List, None, Option, Some, ℕ, IfOk, OnOk, length};
-ghost use Rattle.std.specs.Prelude.{option_copied, string_bytes};
-ghost use Rattle.std.specs.List.{flat_map};
+ghost use Rattle.std.specs.{Prelude.{option_copied, string_bytes}, List.flat_map};
 ghost use Rattle.wax.specs.Queries.{Bounds, bounds, captures, exhaustive, root, warnings};
 ghost use Rattle.wax_commands.specs.QueryText.{AreFactsOf, IsDepthOf, IsTextOf, QueryFacts, query_text};
 ghost use Rattle.wax_commands.specs.QueryText.{fact_lines as lines_of_facts, part_lines as lines_of_parts};

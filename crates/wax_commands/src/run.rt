@@ -1,14 +1,11 @@
 //! What the program does with its arguments and its streams.
-ghost use Rattle.std.specs.Fn.{FnReturnsAt};
-ghost use Rattle.std.specs.Prelude.{◌≡◌, ℕ, List, IfOk, IfErr, IfSome, IfNone, IsErrOf};
+ghost use Rattle.std.specs.{Fn.FnReturnsAt, Prelude.{◌≡◌, ℕ, List, IfOk, IfErr, IfSome, IfNone, IsErrOf}};
 ghost use Rattle.wax_lines.specs.Lines.{Filtered, Stopped};
 ghost use Rattle.wax_command_line.specs.Commands.{Asks, AsksMatch, AsksCaptures, AsksQuery, AsksWalk};
 ghost use Rattle.wax_command_line.specs.Commands.{HasNoCommand, WalkRequest};
-ghost use Rattle.wax_commands.specs.LineCommands.{LinesEnd, captures_of, match_command};
-ghost use Rattle.wax_commands.specs.Queried.{QueryEnds};
+ghost use Rattle.wax_commands.specs.{LineCommands.{LinesEnd, captures_of, match_command}, Queried.QueryEnds};
 ghost use Rattle.wax_commands.specs.Streams.{HasFailedRead, HasFailedWrite, stream_of, writers};
-ghost use Rattle.wax_commands.specs.Walked.{WalkEnds};
-ghost use Rattle.wax_commands.specs.inner.Outputs.{command_of, writes_of};
+ghost use Rattle.wax_commands.specs.{Walked.WalkEnds, inner.Outputs.{command_of, writes_of}};
 
 use crate::building::built;
 use crate::faults::say_no_memory;

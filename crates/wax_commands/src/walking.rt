@@ -1,10 +1,7 @@
 //! The command `walk`.
-ghost use Rattle.std.specs.Fn.{FnReturnsAt};
-ghost use Rattle.std.specs.Prelude.{◌≡◌};
-ghost use Rattle.wax_command_line.specs.Commands.{WalkRequest};
-ghost use Rattle.wax_commands.specs.Streams.{stream_of, writers};
-ghost use Rattle.wax_commands.specs.Walked.{WalkEnds};
-ghost use Rattle.wax_command_line.specs.WalkArguments.{IsRead};
+ghost use Rattle.std.specs.{Fn.FnReturnsAt, Prelude.◌≡◌};
+ghost use Rattle.wax_command_line.specs.{Commands.WalkRequest, WalkArguments.IsRead};
+ghost use Rattle.wax_commands.specs.{Streams.{stream_of, writers}, Walked.WalkEnds};
 
 use crate::building::{built, built_filters};
 use crate::faults::say_no_memory;

@@ -1,11 +1,9 @@
 -- An answer about programs is one about what they match.
 use Rattle.std.proofs.Common.{◌↔◌, ℕ, List}
 use Rattle.wax_compare.proofs.Selecting.{wanted_as}
-use Rattle.wax_compare.specs.Comparison.{IsAnswer, IsWanted}
-use Rattle.wax_compare.specs.declared.wanted.Comparison.{Comparison}
+use Rattle.wax_compare.specs.{Comparison.{IsAnswer, IsWanted}, declared.wanted.Comparison.Comparison}
 use Rattle.wax_compare.specs.declared.wanted.Comparison.TheVariants.{Nothing, Text, Unknown}
-use Rattle.wax_compare.specs.declared.wanted.Texts.{Texts}
-use Rattle.wax_compare.specs.declared.wanted.Wanted.{Wanted}
+use Rattle.wax_compare.specs.{declared.wanted.Texts.Texts, declared.wanted.Wanted.Wanted}
 
 -- an answer about a property is one about a property that the same texts have
 pub answer_for : (P Q : List ℕ → Type 0) → ((s : List ℕ) → P s ↔ Q s) → (found : Comparison)

@@ -1,36 +1,24 @@
 -- States that are added.
-use Rattle.std.proofs.Common.{◌≡◌, ℕ, zero, suc, Bool, true, false, Contains, ◌-◌, ◌+◌, ◌*◌, ◌<◌, ◌≤◌, ◌↔◌}
-use Rattle.std.proofs.Common.{List, [], ◌∷◌, ◌++◌, Some, None, HashMap, IsTrue, length, nat_eq, get_or, set}
-use Rattle.std.proofs.Common.{length-set, get_or-set_same, get_or-set_other, ◌≢◌, replicate, refl, sym, ◌∙◌}
-use Rattle.std.proofs.Common.{ap, append_assoc, arith, slice_get, slice_index, length-append, subst, inl, inr}
+use Rattle.std.proofs.Common.{◌≡◌, ℕ, zero, suc, Contains, ◌-◌, ◌+◌, ◌*◌, ◌<◌, ◌≤◌, ◌↔◌, List, [], ◌∷◌, ◌++◌}
+use Rattle.std.proofs.Common.{Some, IsTrue, length, get_or, set, length-set, get_or-set_same}
+use Rattle.std.proofs.Common.{get_or-set_other, ◌≢◌, replicate, refl, sym, ◌∙◌, ap, append_assoc, arith}
+use Rattle.std.proofs.Common.{slice_get, slice_index, length-append, subst, inl, inr}
 use Rattle.std.proofs.lemmas.Bool.{cases_eq, cases_lt}
-use Rattle.std.proofs.lemmas.Bool.Decides.{Decides-eqb}
-use Rattle.std.proofs.lemmas.List.{get_or_default, get_or-replicate, length-replicate}
-use Rattle.std.proofs.lemmas.Option.{none-some, same_Some, slice_get_cases, slice_get_within}
-use Rattle.std.proofs.lemmas.Slice.Eq.{slice_eq-Decides}
-use Rattle.std.specs.Char.{IsScalar}
-use Rattle.std.specs.Global.{Vec}
-use Rattle.std.specs.Cmp.Lexicographic.{pointwise}
-use Rattle.std.specs.HashMap.{Updates, get, get_by}
-use Rattle.std.specs.Map.{lookup}
-use Rattle.std.specs.List.Sorted.{IsStrictlyIncreasing}
-use Rattle.wax_program.specs.Threads.{AnyAmong}
-use Rattle.wax_program.specs.declared.instruction.Instruction.{Instruction}
-use Rattle.wax_states.specs.Reached.{AreReached, taken_if}
-use Rattle.wax_program.specs.Machine.{Accepts, AcceptsIn}
-use Rattle.wax_compare.specs.declared.automaton.Automaton.{Automaton}
-use Rattle.wax_compare.specs.Selected.{CanSelect, IsSelected}
+use Rattle.std.proofs.lemmas.List.{get_or_default, get_or-replicate, length-map, length-replicate, map-append}
+use Rattle.std.proofs.lemmas.Option.{slice_get-map, slice_get_cases, slice_get_within}
+use Rattle.std.specs.{Char.IsScalar, List.Sorted.IsStrictlyIncreasing, Option.option_map}
+use Rattle.wax_program.specs.{Threads.AnyAmong, declared.instruction.Instruction.Instruction, Machine.Accepts}
+use Rattle.wax_states.specs.{Indexed.{AreIndexed, HasNone}, Reached.{AreReached, AreWithin}}
+use Rattle.wax_compare.specs.{declared.automaton.Automaton.Automaton, Selected.{CanSelect, IsSelected}}
 use Rattle.wax_compare.specs.declared.automaton.ProgramState.{ProgramState}
 use Rattle.wax_compare.specs.declared.wanted.Criterion.{Criterion}
-use Rattle.wax_compare.specs.Limit.{IsAtPlaces, IsReachedState, bytes_of_states}
-use Rattle.wax_compare.specs.inner.Automata.{AcceptAlike, BeginsAsProgram, HasLearned, HasTextTo}
-use Rattle.wax_compare.specs.inner.Automata.{IsAutomatonOf, IsIndexOf, IsStateOf, LeadsToState, StatesStay}
-use Rattle.wax_compare.specs.inner.Automata.{all_places, option_marks, option_places, same_places}
-use Rattle.wax_compare.specs.inner.Automata.{state_marks, state_places}
+use Rattle.wax_compare.specs.Limit.{AllDiffer, IsAtPlaces, IsReachedState, bytes_of_states}
+use Rattle.wax_compare.specs.inner.Automata.{BeginsAsProgram, HasLearned, IsAutomatonOf, IsStateOf}
+use Rattle.wax_compare.specs.inner.Automata.{LeadsToState, StatesStay, all_places, option_marks}
+use Rattle.wax_compare.specs.inner.Automata.{option_places, state_marks, state_places}
 use Rattle.wax_compare.specs.inner.Distinctions.{AreDistinctions, MarksOthers}
-use Rattle.wax_compare.proofs.Blocks.{scalars_push}
-use Rattle.wax_compare.proofs.Copying.{AreUpTo}
-use Rattle.wax_compare.proofs.Selecting.{along, selected_as, turned}
+use Rattle.wax_states.proofs.Slots.{mapped_at}
+use Rattle.wax_compare.proofs.{Blocks.scalars_push, Selecting.along}
 
 slice_get_append : {X : Type 0} (xs ys : List X) (t : ℕ) → t < length xs
     → slice_get (xs ++ ys) t ≡ slice_get xs t
@@ -76,84 +64,50 @@ state_keeps criterion code letters old new keeps s h = record {
   says = λ k n lt e. step_keeps code old new keeps s.places.items (slice_index letters k) n (h.says k n lt e);
 }
 
--- ---- the index of the states
+-- ---- states that differ
 
-same_items : (p q : Vec ℕ) → same_places p q ≡ true → p.items ≡ q.items
-same_items p q = (slice_eq-Decides Decides-eqb p.items q.items (same_places p q) refl).0
+-- one more that none of them is
+differ_push : {X : Type 0} (xs : List X) (x : X) → AllDiffer xs → ((t : ℕ) → slice_get xs t ≢ Some x)
+    → AllDiffer (xs ++ x ∷ [])
+differ_push xs x differ none i j lt within same = elim (cases_lt j (length xs)) [
+  | inl inside ↦ differ i j lt inside (sym (slice_get_append xs (x ∷ []) i (omega (arith, lt, inside)))
+      ∙ same ∙ slice_get_append xs (x ∷ []) j inside)
+  | inr past ↦ (let last : j ≡ length xs = omega (arith, within, past, length-append xs (x ∷ [])) in
+      none i (sym (slice_get_append xs (x ∷ []) i (omega (arith, lt, last))) ∙ same
+      ∙ ap (slice_get (xs ++ x ∷ [])) last ∙ slice_get_end xs x))
+]
 
--- what is found depends on the places alone
-found_alike : {S : Type 0} (index : HashMap (Vec ℕ) ℕ S) (p q : Vec ℕ) → p.items ≡ q.items
-    → get same_places index p ≡ get same_places index q
-found_alike index p q e = ap (λ z. get_by (λ y. pointwise nat_eq z y.items) index) e
-
-module _ {S : Type 0} (states : List ProgramState) (s : ProgramState) (old new : HashMap (Vec ℕ) ℕ S)
-    (key : Vec ℕ) (same : key.items ≡ s.places.items) (held : IsIndexOf states old)
-    (absent : get same_places old key ≡ None)
-    (updates : Updates same_places old new key (Some (length states))) where
-  has_more : (t : ℕ) (r : ProgramState) → slice_get (states ++ s ∷ []) t ≡ Some r
-      → get same_places new r.places ≡ Some t
-  has_more t r is = elim (cases_lt t (length states)) [
-    | inl lt ↦ (let before : get same_places old r.places ≡ Some t =
-        held.has t r (sym (slice_get_append states (s ∷ []) t lt) ∙ is) in
-        other (same_places key r.places) refl before)
-    | inr past ↦ (let within : t < length (states ++ s ∷ []) =
-        slice_get_within (states ++ s ∷ []) t r is in
-        let last : t ≡ length states = omega (arith, within, past, length-append states (s ∷ [])) in
-        let one : s ≡ r =
-        some_same (sym (slice_get_end states s) ∙ ap (slice_get (states ++ s ∷ [])) (sym last) ∙ is) in
-        subst (λ z. get same_places new z.places ≡ Some t) one
-        (found_alike new s.places key (sym same) ∙ updates.1 ∙ ap Some (sym last)))
-  ]
-    where
-      other : (b : Bool) → same_places key r.places ≡ b → get same_places old r.places ≡ Some t
-          → get same_places new r.places ≡ Some t
-      other true e before = absurd (none-some t (sym absent
-          ∙ found_alike old key r.places (same_items key r.places e) ∙ before))
-      other false e before = updates.2 r.places e ∙ before
-
-  only_more : (p : Vec ℕ) (t : ℕ) → get same_places new p ≡ Some t
-      → (t < length (states ++ s ∷ [])) × (state_places (states ++ s ∷ []) t ≡ p.items)
-  only_more p t found = other (same_places key p) refl
-    where
-      other : (b : Bool) → same_places key p ≡ b
-          → (t < length (states ++ s ∷ [])) × (state_places (states ++ s ∷ []) t ≡ p.items)
-      other true e = (let items : key.items ≡ p.items = same_items key p e in
-          let number : length states ≡ t =
-          same_Some (length states) t (sym updates.1 ∙ found_alike new key p items ∙ found) in (
-            omega (arith, number, length-append states (s ∷ [])),
-            subst (λ n. state_places (states ++ s ∷ []) n ≡ p.items) number
-                (ap option_places (slice_get_end states s) ∙ sym same ∙ items),
-          ))
-      other false e = (let told = held.only p t (sym (updates.2 p e) ∙ found) in
-          let keeps = keeps_append states (s ∷ []) t told.0 in (keeps.0, keeps.1 ∙ told.1))
-
-  pub index_more : IsIndexOf (states ++ s ∷ []) new
-  index_more = record { has = has_more; only = only_more }
-
-pub index_none : {S : Type 0} (states : List ProgramState) (index : HashMap (Vec ℕ) ℕ S) → states ≡ []
-    → index.entries ≡ [] → IsIndexOf states index
-index_none states index none empty = record {
-  has = λ t s is. absurd (let lt : t < length states = slice_get_within states t s is in
-      let no : ⊥ = omega (arith, lt, ap length none) in no);
-  only = λ p t found. absurd (none-some t (sym (nothing p) ∙ found));
-}
-  where
-    nothing : (p : Vec ℕ) → get same_places index p ≡ None
-    nothing p = ap (λ es. lookup (same_places p) es) empty
-
--- states with the same places have the same number
-pub same_number : {S : Type 0} (states : List ProgramState) (index : HashMap (Vec ℕ) ℕ S)
-    → IsIndexOf states index → (t u : ℕ) → t < length states → u < length states
-    → state_places states t ≡ state_places states u → t ≡ u
-same_number states index held t u lt ltu e = elim (slice_get_cases states t).1 [
-  | inl one ↦ elim (slice_get_cases states u).1 [
-    | inl two ↦ same_Some t u (sym (held.has t one.0 one.2)
-        ∙ found_alike index one.0.places two.0.places
-        (sym (ap option_places one.2) ∙ e ∙ ap option_places two.2) ∙ held.has u two.0 two.2)
-    | inr none ↦ (let no : ⊥ = omega (arith, ltu, none.0) in absurd no)
-  ]
+pub placed_at : (states : List ProgramState) (t : ℕ) → t < length states
+    → slice_get (all_places states) t ≡ Some (state_places states t)
+placed_at states t lt = elim (slice_get_cases states t).1 [
+  | inl found ↦ slice_get-map (λ s. s.places.items) states t
+      ∙ ap (option_map (λ s. s.places.items)) found.2 ∙ ap Some (sym (ap option_places found.2))
   | inr none ↦ (let no : ⊥ = omega (arith, lt, none.0) in absurd no)
 ]
+
+-- the number of a state that was found
+pub found_at : (states : List ProgramState) (t : ℕ) (places : List ℕ)
+    → slice_get (all_places states) t ≡ Some places
+    → (t < length states) × (state_places states t ≡ places)
+found_at states t places is = let found = mapped_at (λ s. s.places.items) states t places is in
+    (slice_get_within states t found.0 found.1, ap option_places found.1 ∙ found.2)
+
+-- states with the same places have the same number
+pub same_number : (states : List ProgramState) → AllDiffer (all_places states) → (t u : ℕ)
+    → t < length states → u < length states → state_places states t ≡ state_places states u → t ≡ u
+same_number states differ t u lt ltu e = elim (cases_lt t u) [
+  | inl less ↦ absurd (differ t u less (long u ltu) same)
+  | inr past ↦ elim (cases_lt u t) [
+    | inl more ↦ absurd (differ u t more (long t lt) (sym same))
+    | inr least ↦ omega (arith, past, least)
+  ]
+]
+  where
+    long : (k : ℕ) → k < length states → k < length (all_places states)
+    long k h = omega (arith, h, length-map states (λ s. s.places.items))
+
+    same : slice_get (all_places states) t ≡ slice_get (all_places states) u
+    same = placed_at states t lt ∙ ap Some e ∙ sym (placed_at states u ltu)
 
 -- ---- the bytes of the states
 
@@ -169,21 +123,27 @@ pub added : (code : List Instruction) (letters : List ℕ) (old new : Automaton)
     → AreDistinctions code letters new.distinctions
     → new.states.items ≡ old.states.items ++ s ∷ []
     → IsStateOf old.criterion code letters (old.states.items ++ s ∷ []) s
-    → IsIndexOf (old.states.items ++ s ∷ []) new.index
+    → AreIndexed new.index (all_places old.states.items ++ s.places.items ∷ [])
+    → HasNone (all_places old.states.items) s.places.items
     → new.bytes ≤ old.bytes + (8 * length s.places.items + 5 * length letters)
     → IsAutomatonOf code letters new
-added code letters old new s held stepper criterion distinctions e good index bytes = record {
+added code letters old new s held stepper criterion distinctions e good index none bytes = record {
   size = stepper ∙ held.size;
   can_select = subst (λ v. CanSelect v code) (sym criterion) held.can_select;
   distinctions = distinctions;
   rows = λ t r is. subst (λ v. IsStateOf v code letters new.states.items r) (sym criterion)
       (subst (λ z. IsStateOf old.criterion code letters z r) (sym e)
       (row t r (subst (λ z. slice_get z t ≡ Some r) e is)));
-  index = subst (λ z. IsIndexOf z new.index) (sym e) index;
+  index = subst (AreIndexed new.index) (sym pushed) index;
+  differ = subst AllDiffer (sym pushed)
+      (differ_push (all_places old.states.items) s.places.items held.differ none);
   bytes = subst (λ z. new.bytes ≤ bytes_of_states (length letters) (all_places z)) (sym e)
       (omega (arith, bytes, held.bytes, bytes_push (length letters) old.states.items s));
 }
   where
+    pushed : all_places new.states.items ≡ all_places old.states.items ++ s.places.items ∷ []
+    pushed = ap all_places e ∙ map-append (λ z. z.places.items) old.states.items (s ∷ [])
+
     row : (t : ℕ) (r : ProgramState) → slice_get (old.states.items ++ s ∷ []) t ≡ Some r
         → IsStateOf old.criterion code letters (old.states.items ++ s ∷ []) r
     row t r is = elim (cases_lt t (length old.states.items)) [
@@ -208,26 +168,16 @@ added_places old new s e = (
 
 -- ---- a state of which nothing is known yet
 
--- what is known of places holds of others from which the same is accepted
-marks_alike : (code : List Instruction) (letters places others : List ℕ) (marked : List Bool)
-    → AcceptAlike code places others → MarksOthers code letters others marked
-    → MarksOthers code letters places marked
-marks_alike code letters places others marked alike marks n m ltn ltm un um s =
-    along (alike (slice_index letters n ∷ s))
-    (along (marks n m ltn ltm un um s) (turned (alike (slice_index letters m ∷ s))))
-
 pub new_state : (criterion : Criterion) (code : List Instruction) (letters : List ℕ)
-    (states : List ProgramState) (s : ProgramState) (reached : List ℕ)
-    → IsReachedState code s.places.items → AcceptAlike code s.places.items reached
-    → (IsTrue s.is_selected ↔ IsSelected criterion (AnyAmong code reached) [])
-    → MarksOthers code letters reached s.marked.items
+    (states : List ProgramState) (s : ProgramState) → IsReachedState code s.places.items
+    → (IsTrue s.is_selected ↔ IsSelected criterion (AnyAmong code s.places.items) [])
+    → MarksOthers code letters s.places.items s.marked.items
     → (n : ℕ) → n ≡ length letters → s.next.items ≡ replicate n 0
     → IsStateOf criterion code letters states s
-new_state criterion code letters states s reached state alike selects marks n e zeros = record {
+new_state criterion code letters states s state selects marks n e zeros = record {
   reached = state;
-  ends = along selects (turned (selected_as criterion (AnyAmong code s.places.items) (AnyAmong code reached)
-      alike []));
-  marks = marks_alike code letters s.places.items reached s.marked.items alike marks;
+  ends = selects;
+  marks = marks;
   room = ap length zeros ∙ length-replicate {A = ℕ} n 0 ∙ e;
   says = λ k m lt is. (let zeroth : get_or s.next.items k 0 ≡ 0 =
       ap (λ z. get_or z k 0) zeros ∙ get_or-replicate n k 0 0 (omega (arith, lt, e)) in
@@ -289,18 +239,6 @@ module _ (old new : List ProgramState) (state number next : ℕ)
   fill_places : all_places new ≡ all_places old
   fill_places = ap all_places f.set ∙ set_places old state f.was f.is f.at (ap (λ v. v.items) f.places)
 
-  fill_index : {S : Type 0} (index : HashMap (Vec ℕ) ℕ S) → IsIndexOf old index → IsIndexOf new index
-  fill_index index held = record {
-    has = λ t s is. elim (cases_eq t state) [
-      | inr other ↦ held.has t s (sym (others t other) ∙ is)
-      | inl same ↦ (let one : f.is ≡ s = some_same (sym filled_at ∙ ap (slice_get new) (sym same) ∙ is) in
-          subst (λ z. get same_places index z.places ≡ Some t) one
-          (ap (get same_places index) f.places ∙ held.has t f.was (ap (slice_get old) same ∙ f.at)))
-    ];
-    only = λ p t found. (let told = held.only p t found in
-        let keeps = fill_keeps t told.0 in (keeps.0, keeps.1 ∙ told.1));
-  }
-
   module _ (code : List Instruction) (letters : List ℕ)
       (step : LeadsToState code old (state_places old state) (slice_index letters number) next) where
     good_row : (criterion : Criterion) → IsStateOf criterion code letters old f.was
@@ -353,9 +291,9 @@ module _ (old new : List ProgramState) (state number next : ℕ)
       rows = λ t r at. subst (λ v. IsStateOf v code letters after.states.items r) (sym criterion)
           (subst (λ z. IsStateOf before.criterion code letters z r) (sym is)
           (row t r (subst (λ z. slice_get z t ≡ Some r) is at)));
-      index = subst (IsIndexOf after.states.items) (sym index)
-          (subst (λ z. IsIndexOf z before.index) (sym is)
-          (fill_index before.index (subst (λ z. IsIndexOf z before.index) was held.index)));
+      index = subst (λ z. AreIndexed z (all_places after.states.items)) (sym index)
+          (subst (AreIndexed before.index) same_all held.index);
+      differ = subst AllDiffer same_all held.differ;
       bytes = subst (λ n. n ≤ bytes_of_states (length letters) (all_places after.states.items)) (sym bytes)
           (subst (λ z. before.bytes ≤ bytes_of_states (length letters) z) same_all held.bytes);
     }
@@ -389,59 +327,61 @@ at_beginning code s = (
   (λ h. subst (λ k. Accepts code k s) (zeroth_only h.0 h.1) h.2),
 )
 
-pub text_to_beginning : (code : List Instruction) → HasTextTo code (0 ∷ [])
-text_to_beginning code = ([], refl, at_beginning code)
-
-pub begins_at : (code : List Instruction) (states : List ProgramState) (n : ℕ) → n ≡ 0 → n < length states
-    → AcceptAlike code (state_places states n) (0 ∷ []) → BeginsAsProgram code states
-begins_at code states n e lt alike = record {
-  some = omega (arith, lt, e);
-  accepts = λ s. along (at_beginning code s)
-      (turned (subst (λ k. AnyAmong code (state_places states k) s ↔ AnyAmong code (0 ∷ []) s) e (alike s)));
+pub state_of_beginning : (code : List Instruction) → IsReachedState code (0 ∷ [])
+state_of_beginning code = record {
+  ascending = λ k lt. absurd (omega (arith, lt));
+  within = λ k h. omega (arith, zeroth_only k h);
+  text = [];
+  scalars = refl;
+  at = at_beginning code;
 }
 
-pub taken_nothing : (b : Bool) → taken_if b [] ≡ []
-taken_nothing true = refl
-taken_nothing false = refl
+pub begins_at : (code : List Instruction) (states : List ProgramState) (n : ℕ) → n ≡ 0 → n < length states
+    → state_places states n ≡ 0 ∷ [] → BeginsAsProgram code states
+begins_at code states n e lt places = record {
+  some = omega (arith, lt, e);
+  accepts = λ s. subst (λ z. Accepts code 0 s ↔ AnyAmong code z s)
+      (sym places ∙ ap (state_places states) e) (at_beginning code s);
+}
 
 -- ---- what a step reached
-
-reached_by : (code : List Instruction) (c : ℕ) (places reached : List ℕ) (leads : Bool)
-    → AreReached code c places (taken_if leads []) reached → AreReached code c places [] reached
-reached_by code c places reached leads step =
-    subst (λ z. AreReached code c places z reached) (taken_nothing leads) step
-
--- is a state
-pub step_to : (code : List Instruction) (old mid : List ProgramState) (c state next : ℕ)
-    (places reached : List ℕ) (leads : Bool) → places ≡ state_places old state
-    → AreReached code c places (taken_if leads []) reached
-    → next < length mid → AcceptAlike code (state_places mid next) reached
-    → LeadsToState code mid (state_places old state) c next
-step_to code old mid c state next places reached leads e step within alike = (
-  within,
-  (λ s. along (alike s)
-      (subst (λ z. AreReached code c z [] reached) e (reached_by code c places reached leads step) s)),
-)
 
 nothing_among : (code : List Instruction) (s : List ℕ) → AnyAmong code [] s → ⊥
 nothing_among code s h = let no : ⊥ = omega (arith, h.1.1) in no
 
--- a text leads there
-pub text_on : (code : List Instruction) (c : ℕ) (places reached : List ℕ) (leads : Bool) → IsScalar c
-    → AreReached code c places (taken_if leads []) reached → IsReachedState code places
-    → HasTextTo code reached
-text_on code c places reached leads scalar step state =
-    (state.text ++ c ∷ [], scalars_push state.text c state.scalars scalar, at)
+-- is a state
+pub state_on : (code : List Instruction) (c : ℕ) (places reached : List ℕ) → IsScalar c
+    → IsReachedState code places → AreReached code c places [] reached → IsStrictlyIncreasing reached
+    → AreWithin code reached → IsReachedState code reached
+state_on code c places reached scalar state step ascending within = record {
+  ascending = ascending;
+  within = within;
+  text = state.text ++ c ∷ [];
+  scalars = scalars_push state.text c state.scalars scalar;
+  at = at;
+}
   where
     on : (s : List ℕ) → AnyAmong code places (c ∷ s) ↔ AnyAmong code reached s
-    on s = (let both = reached_by code c places reached leads step s in (
-      (λ h. both.1 (inl h)),
-      (λ h. elim (both.0 h) [ inl there ↦ there | inr none ↦ absurd (nothing_among code s none) ]),
-    ))
+    on s = (
+      (λ h. (step s).1 (inl h)),
+      (λ h. elim ((step s).0 h) [ inl there ↦ there | inr none ↦ absurd (nothing_among code s none) ]),
+    )
 
     at : IsAtPlaces code (state.text ++ c ∷ []) reached
     at s = subst (λ z. Accepts code 0 z ↔ AnyAmong code reached s) (sym (append_assoc state.text (c ∷ []) s))
         (along (state.at (c ∷ s)) (on s))
+
+-- from a state to the one with the places that a step reached
+pub step_to : (code : List Instruction) (old mid : List ProgramState) (state next c d : ℕ) (s : ProgramState)
+    (places reached : List ℕ) → slice_get old state ≡ Some s → places ≡ s.places.items → c ≡ d
+    → AreReached code c places [] reached → next < length mid → state_places mid next ≡ reached
+    → LeadsToState code mid (state_places old state) d next
+step_to code old mid state next c d s places reached at e is step within same = (
+  within,
+  subst (AreReached code d (state_places old state) []) (sym same)
+      (subst (λ z. AreReached code d z [] reached) (e ∙ sym (ap option_places at))
+      (subst (λ n. AreReached code n places [] reached) is step)),
+)
 
 -- what a state knows
 pub known_step : (criterion : Criterion) (code : List Instruction) (letters : List ℕ)
@@ -455,29 +395,3 @@ known_step criterion code letters states state number known s at row lt read pos
     let one : slice_index s.next.items number ≡ known - 1 + 1 = omega (arith, is, positive) in
     subst (λ z. LeadsToState code states z (slice_index letters number) (known - 1))
     (sym (ap option_places at)) (row.says number (known - 1) lt one)
-
--- ---- places that are copied as those of a state
-
-accepted_within : (code : List Instruction) (n k : ℕ) (s : List ℕ) → AcceptsIn code n k s → k ≤ length code
-accepted_within code zero k s h = absurd h
-accepted_within code (suc n) k s (inl h) = omega (arith, h.0)
-accepted_within code (suc n) k s (inr h) =
-    let lt : k < length code = slice_get_within code k h.0 h.1 in omega (arith, lt)
-
-pub copy_alike : (code : List Instruction) (reached copy : List ℕ) (end : ℕ) → end ≡ length code
-    → AreUpTo reached end copy → AcceptAlike code copy reached
-copy_alike code reached copy end size same s = (
-  (λ h. (h.0, ((same h.0).0 h.1).0, h.2)),
-  (λ h. (h.0, (same h.0).1 (h.1, omega (arith, accepted_within code h.2.0 h.0 s h.2.1, size)), h.2)),
-)
-
-pub copy_reached : (code : List Instruction) (reached copy : List ℕ) (end : ℕ) → end ≡ length code
-    → AreUpTo reached end copy → IsStrictlyIncreasing copy → HasTextTo code reached
-    → IsReachedState code copy
-copy_reached code reached copy end size same ascending text = record {
-  ascending = ascending;
-  within = λ k h. omega (arith, ((same k).0 h).1, size);
-  text = text.0;
-  scalars = text.1;
-  at = λ s. along (text.2 s) (turned (copy_alike code reached copy end size same s));
-}

@@ -1,22 +1,15 @@
 -- The pair of the beginning.
 use Rattle.std.proofs.Common.{◌≡◌, ◌<◌, ◌↔◌, ℕ, zero, suc, List, [], ◌∷◌, Some, length, slice_get, refl, sym}
-use Rattle.std.proofs.Common.{ap, subst, arith}
-use Rattle.std.proofs.lemmas.Option.{slice_get_within}
+use Rattle.std.proofs.{Common.{ap, subst, arith}, lemmas.Option.slice_get_within}
 use Rattle.wax_program.specs.declared.instruction.Instruction.{Instruction}
-use Rattle.wax_compare.specs.declared.pairs.StatePair.{StatePair}
-use Rattle.wax_compare.specs.declared.pairs.Reached.{Reached}
-use Rattle.wax_compare.specs.declared.search.Search.{Search}
-use Rattle.wax_compare.specs.Comparison.{IsShortest}
-use Rattle.wax_compare.specs.Cuts.{AreLetters, AreUnlike}
-use Rattle.wax_compare.specs.Limit.{IsAtPlaces}
-use Rattle.wax_compare.specs.inner.Going.{Goes, GoesOnAmong, starts}
-use Rattle.wax_compare.specs.inner.Automata.{state_places}
+use Rattle.wax_compare.specs.{declared.pairs.StatePair.StatePair, declared.pairs.Reached.Reached}
+use Rattle.wax_compare.specs.{declared.search.Search.Search, Comparison.IsShortest}
+use Rattle.wax_compare.specs.{Cuts.{AreLetters, AreUnlike}, Limit.IsAtPlaces}
+use Rattle.wax_compare.specs.{inner.Going.{Goes, GoesOnAmong, starts}, inner.Automata.state_places}
 use Rattle.wax_compare.specs.inner.Reaching.{BeginAsPrograms, GoesAt, GoesFrom, HasTextToPair, IsLedBy}
-use Rattle.wax_compare.specs.inner.Reaching.{Readings}
-use Rattle.wax_compare.specs.inner.Searching.{AreAutomataOf, WantedText, readings}
+use Rattle.wax_compare.specs.{inner.Reaching.Readings, inner.Searching.{AreAutomataOf, WantedText, readings}}
 use Rattle.wax_compare.specs.inner.Visiting.{IsHeld}
-use Rattle.wax_compare.proofs.Steps.{goes_wanted}
-use Rattle.wax_compare.proofs.Visiting.{some_same}
+use Rattle.wax_compare.proofs.{Steps.goes_wanted, Visiting.some_same}
 
 only : (x y : Reached) (i : ℕ) → slice_get (x ∷ []) i ≡ Some y → (i ≡ 0) × (x ≡ y)
 only x y zero is = (refl, some_same is)

@@ -2,15 +2,11 @@
 use Rattle.std.proofs.Common.{◌≡◌, ◌+◌, ◌<◌, ◌≤◌, ◌==◌, ◌&&◌, ◌||◌, ℕ, zero, suc, Bool, true, false, not}
 use Rattle.std.proofs.Common.{if◌then◌else◌, nat_le, nat_lt, List, [], ◌∷◌, ◌++◌, IfSome, Contains, All}
 use Rattle.std.proofs.Common.{length, get_or, refl, sym, ◌∙◌, ap, subst, inl, inr, arith, rules}
-use Rattle.std.specs.Str.{all_scalars}
-use Rattle.std.specs.Char.{IsScalar}
-use Rattle.std.specs.List.{list_any, list_all}
 use Rattle.std.proofs.lemmas.Bool.{cases_eq, cases_lt, eq-eqb, eqb-true, le-leb, leb-true, ltb-true}
-use Rattle.std.proofs.lemmas.List.Elements.{All-head, All-tail}
-use Rattle.std.proofs.lemmas.Option.{slice_get_within}
+use Rattle.std.proofs.{lemmas.List.Elements.{All-head, All-tail}, lemmas.Option.slice_get_within}
+use Rattle.std.specs.{Str.all_scalars, Char.IsScalar, List.{list_any, list_all}}
 use Rattle.unicode.specs.CaseFolding.{simple_fold, fold_pairs}
-use Rattle.ucd_case.proofs.BoundLemmas.{simple_fold_idem}
-use Rattle.ucd_case.proofs.FoldPairsLemmas.{IsFoldPairs-fold_pairs}
+use Rattle.ucd_case.proofs.{BoundLemmas.simple_fold_idem, FoldPairsLemmas.IsFoldPairs-fold_pairs}
 use Rattle.ucd_case.specs.FoldOtherRows.{fold_other_rows}
 use Rattle.wax_token.specs.declared.token.Archetype.{Archetype}
 use Rattle.wax_token.specs.declared.token.Archetype.TheVariants.{Character, Range}
@@ -20,9 +16,7 @@ use Rattle.wax_program.specs.declared.instruction.Instruction.TheVariants.{Check
 use Rattle.wax_program.specs.declared.instruction.Instruction.TheVariants.{Jump, Back, End}
 use Rattle.wax_program.specs.declared.instruction.Test.{Test}
 use Rattle.wax_program.specs.declared.instruction.Test.TheVariants.{Char, Folded, Class, NotSlash, Any, Never}
-use Rattle.wax_program.specs.Machine.{PassesTest, mark}
-use Rattle.wax_program.specs.Steady.{Alike}
-use Rattle.wax_program.specs.Tests.{test_of}
+use Rattle.wax_program.specs.{Machine.{PassesTest, mark}, Steady.Alike, Tests.test_of}
 use Rattle.wax_compare.specs.Cuts.{CutApart, SameBlock}
 use Rattle.wax_compare.specs.inner.Cutting.{CutsArchetype, CutsBefore, CutsFoldings, CutsTest, IsCutOut}
 

@@ -1,16 +1,12 @@
 -- What is read before a character is taken.
-use Rattle.std.proofs.Common.{◌≡◌, ◌+◌, ◌-◌, ◌<◌, ℕ, zero, suc, List, [], ◌∷◌, Some, Contains}
-use Rattle.std.proofs.Common.{length, slice_get, slice_index, sym, ◌∙◌, ap, subst, inl, inr, arith}
-use Rattle.std.proofs.lemmas.Bool.{cases_lt}
-use Rattle.std.proofs.lemmas.List.{get_or_append_left, get_or_default}
-use Rattle.std.proofs.lemmas.List.Elements.{Contains-append_left}
-use Rattle.std.proofs.lemmas.Option.{slice_get_within}
+use Rattle.std.proofs.Common.{◌≡◌, ◌+◌, ◌-◌, ◌<◌, ℕ, zero, suc, List, [], ◌∷◌, Some, Contains, length}
+use Rattle.std.proofs.Common.{slice_get, slice_index, sym, ◌∙◌, ap, subst, inl, inr, arith}
+use Rattle.std.proofs.{lemmas.Bool.cases_lt, lemmas.List.{get_or_append_left, get_or_default}}
+use Rattle.std.proofs.{lemmas.List.Elements.Contains-append_left, lemmas.Option.slice_get_within}
 use Rattle.wax_program.specs.declared.instruction.Instruction.{Instruction}
 use Rattle.wax_program.specs.declared.instruction.Instruction.TheVariants.{Check, Repeat, Components, Fork}
 use Rattle.wax_program.specs.declared.instruction.Instruction.TheVariants.{Jump, Back, End}
-use Rattle.wax_program.specs.Machine.{AcceptsIn, Moves}
-use Rattle.wax_program.specs.Steady.{Alike}
-use Rattle.wax_program.specs.Threads.{AnyAmong}
+use Rattle.wax_program.specs.{Machine.{AcceptsIn, Moves}, Steady.Alike, Threads.AnyAmong}
 use Rattle.wax_compare.specs.inner.Cutting.{AreKept}
 use Rattle.wax_compare.specs.inner.Distinctions.{Extends, GoesOnIn, GoesTo, IsClosing, IsClosure, IsInClosure}
 use Rattle.wax_states.proofs.Replaced.{marked}

@@ -1,18 +1,13 @@
 -- Where every pair was followed, each text leads to one, or the search ends before.
-use Rattle.std.proofs.Common.{◌≡◌, ◌⊎◌, ℕ, true, List, [], ◌∷◌, ◌++◌, Some, append-nil, append_assoc, ap}
-use Rattle.std.proofs.Common.{inl, inr, length, map, slice_get, subst, sym, ◌∙◌}
+use Rattle.std.proofs.Common.{◌≡◌, ◌⊎◌, ℕ, true, List, [], ◌∷◌, ◌++◌, Some, append-nil, append_assoc, ap, inl}
+use Rattle.std.proofs.Common.{inr, length, map, slice_get, subst, sym, ◌∙◌}
 use Rattle.std.proofs.lemmas.Option.{slice_get-map, slice_get_within}
-use Rattle.std.specs.Option.{option_map}
-use Rattle.std.specs.Str.{all_scalars}
-use Rattle.wax_compare.specs.Limit.{AcceptsNoneFrom, AreAllPairs, EndsSearch, LeadsToOneOf}
-use Rattle.wax_compare.specs.Limit.{PairOfStates}
-use Rattle.wax_compare.specs.declared.pairs.Reached.{Reached}
-use Rattle.wax_compare.specs.inner.Going.{GoesOnAmong}
+use Rattle.std.specs.{Option.option_map, Str.all_scalars}
+use Rattle.wax_compare.specs.Limit.{AcceptsNoneFrom, AreAllPairs, EndsSearch, LeadsToOneOf, PairOfStates}
+use Rattle.wax_compare.specs.{declared.pairs.Reached.Reached, inner.Going.GoesOnAmong}
 use Rattle.wax_compare.specs.inner.Reaching.{AreFollowed, AreReachedPairs, BeginAsPrograms, IsLedBy, Readings}
-use Rattle.wax_compare.proofs.Beginning.{led_begin}
-use Rattle.wax_compare.proofs.Blocks.{scalar_first, scalar_rest}
-use Rattle.wax_compare.proofs.Leading.{ends_from, led_along, leads_to, seen}
-use Rattle.wax_compare.proofs.Steps.{allowed_first, kind_in}
+use Rattle.wax_compare.proofs.{Beginning.led_begin, Blocks.{scalar_first, scalar_rest}}
+use Rattle.wax_compare.proofs.{Leading.{ends_from, led_along, leads_to, seen}, Steps.{allowed_first, kind_in}}
 
 -- the pairs as a reader sees them
 abbrev pub all_seen : Readings → List Reached → List PairOfStates

@@ -1,21 +1,17 @@
 -- Letters that instructions distinguish.
-use Rattle.std.proofs.Common.{◌≡◌, ◌+◌, ◌<◌, ◌≤◌, ◌↔◌, ◌⊎◌, ℕ, zero, suc, Bool, true, false, IsTrue}
-use Rattle.std.proofs.Common.{List, [], ◌∷◌, ◌++◌, Some, Contains, length, set, length-append, slice_get}
-use Rattle.std.proofs.Common.{slice_index, replicate, refl, sym, ◌∙◌, ap, subst, inl, inr, arith}
-use Rattle.std.proofs.Math.Bool.{beq}
-use Rattle.std.proofs.lemmas.Bool.{cases_lt}
-use Rattle.std.proofs.lemmas.List.{get_or_default}
+use Rattle.std.proofs.Common.{◌≡◌, ◌+◌, ◌<◌, ◌≤◌, ◌↔◌, ◌⊎◌, ℕ, zero, suc, Bool, true, false, IsTrue, List, []}
+use Rattle.std.proofs.Common.{◌∷◌, ◌++◌, Some, Contains, length, set, length-append, slice_get, slice_index}
+use Rattle.std.proofs.{Common.{replicate, refl, sym, ◌∙◌, ap, subst, inl, inr, arith}, Math.Bool.beq}
+use Rattle.std.proofs.{lemmas.Bool.cases_lt, lemmas.List.get_or_default}
 use Rattle.std.proofs.lemmas.Option.{slice_get_cases, slice_get_within}
 use Rattle.wax_program.specs.declared.instruction.Instruction.{Instruction}
 use Rattle.wax_program.specs.declared.instruction.Instruction.TheVariants.{Check, Repeat, Components, Fork}
-use Rattle.wax_program.specs.declared.instruction.Instruction.TheVariants.{Jump, Back, End}
-use Rattle.wax_program.specs.Steady.{Alike}
+use Rattle.wax_program.specs.{declared.instruction.Instruction.TheVariants.{Jump, Back, End}, Steady.Alike}
 use Rattle.wax_compare.specs.declared.distinctions.Exceptions.{Exceptions}
 use Rattle.wax_compare.specs.inner.Distinctions.{AreExceptions, AreExceptionsOf, AreExceptionsUpTo}
-use Rattle.wax_compare.specs.inner.Distinctions.{AreMarkedAt, IsClosure, IsUnmarked, KeepsMarks}
-use Rattle.wax_compare.specs.inner.Distinctions.{MarksOthers, TakesCharacter}
-use Rattle.wax_compare.proofs.Blocks.{no_mark}
-use Rattle.wax_compare.proofs.Closures.{closed_at, replaced_among}
+use Rattle.wax_compare.specs.inner.Distinctions.{AreMarkedAt, IsClosure, IsUnmarked, KeepsMarks, MarksOthers}
+use Rattle.wax_compare.specs.inner.Distinctions.{TakesCharacter}
+use Rattle.wax_compare.proofs.{Blocks.no_mark, Closures.{closed_at, replaced_among}}
 
 swapped : {P Q R : Type 0} → P ↔ R → Q ↔ R → P ↔ Q
 swapped f g = ((λ p. g.1 (f.0 p)), (λ q. f.1 (g.0 q)))

@@ -1,23 +1,16 @@
 -- What was reached when a search ends at its limit.
-use Rattle.std.proofs.Common.{All, ◌≡◌, ◌<◌, ℕ, List, Some, ap, arith, get_or}
-use Rattle.std.proofs.Common.{inl, inr, length, slice_get, subst, sym, ◌∙◌}
-use Rattle.std.proofs.lemmas.List.{length-map}
-use Rattle.std.proofs.lemmas.List.Elements.{All-map}
-use Rattle.std.proofs.lemmas.Option.{same_Some, slice_get-get_or, slice_get-map, slice_get_cases}
-use Rattle.std.specs.Option.{option_map}
+use Rattle.std.proofs.Common.{All, ◌≡◌, ◌<◌, ℕ, List, Some, ap, arith, get_or, inl, inr, length, slice_get}
+use Rattle.std.proofs.{Common.{subst, sym, ◌∙◌}, lemmas.List.length-map, lemmas.List.Elements.All-map}
+use Rattle.std.proofs.lemmas.Option.{same_Some, slice_get-get_or, slice_get_cases}
 use Rattle.wax_program.specs.declared.instruction.Instruction.{Instruction}
 use Rattle.wax_compare.specs.Limit.{AllDiffer, AreExplored, Explored, IsMoreThan, IsReachedPair}
-use Rattle.wax_compare.specs.Limit.{IsReachedState, ReachesMore}
-use Rattle.wax_compare.specs.declared.automaton.Automaton.{Automaton}
-use Rattle.wax_compare.specs.declared.automaton.ProgramState.{ProgramState}
-use Rattle.wax_compare.specs.declared.pairs.Reached.{Reached}
+use Rattle.wax_compare.specs.{Limit.{IsReachedState, ReachesMore}, declared.automaton.Automaton.Automaton}
+use Rattle.wax_compare.specs.{declared.automaton.ProgramState.ProgramState, declared.pairs.Reached.Reached}
 use Rattle.wax_compare.specs.declared.search.Search.{Search}
 use Rattle.wax_compare.specs.inner.Automata.{IsAutomatonOf, all_places, option_places, state_places}
-use Rattle.wax_compare.specs.inner.Reaching.{AreSamePairs, Readings}
-use Rattle.wax_compare.specs.inner.Searching.{readings}
+use Rattle.wax_compare.specs.{inner.Reaching.{AreSamePairs, Readings}, inner.Searching.readings}
 use Rattle.wax_compare.specs.inner.Visiting.{IsHeld, IsOverLimit}
-use Rattle.wax_compare.proofs.Automata.{same_number}
-use Rattle.wax_compare.proofs.Covering.{all_seen, seen_at}
+use Rattle.wax_compare.proofs.{Automata.same_number, Covering.{all_seen, seen_at}}
 use Rattle.wax_compare.proofs.Leading.{begins_among, leads_to, seen}
 
 -- ---- the states of a program
@@ -37,24 +30,6 @@ module _ (code : List Instruction) (letters : List ℕ) (r : Automaton)
   pub states_reached : All (IsReachedState code) (all_places states)
   states_reached = All-map (IsReachedState code) (λ s. s.places.items) states
       (λ k s lt. (held.rows k (get_or states k s) (slice_get-get_or states k s lt)).reached)
-
-  placed_at : (t : ℕ) → t < length states → slice_get (all_places states) t ≡ Some (state_places states t)
-  placed_at t lt = elim (slice_get_cases states t).1 [
-    | inl found ↦ slice_get-map (λ s. s.places.items) states t
-        ∙ ap (option_map (λ s. s.places.items)) found.2 ∙ ap Some (sym (ap option_places found.2))
-    | inr none ↦ (let no : ⊥ = omega (arith, lt, none.0) in absurd no)
-  ]
-
-  -- and no two are equal
-  pub states_differ : AllDiffer (all_places states)
-  states_differ i j lt within same =
-      let long : length (all_places states) ≡ length states = length-map states (λ s. s.places.items) in
-      let first : i < length states = omega (arith, lt, within, long) in
-      let second : j < length states = omega (arith, within, long) in
-      let equal : i ≡ j = same_number states r.index held.index i j first second
-      (same_Some (state_places states i) (state_places states j)
-      (sym (placed_at i first) ∙ same ∙ placed_at j second)) in
-      let no : ⊥ = omega (arith, lt, equal) in no
 
 -- ---- the pairs, and what was reached at all
 module _ (code other : List Instruction) (s : Search) (reached : List Reached) (at : ℕ)
@@ -79,10 +54,10 @@ module _ (code other : List Instruction) (s : Search) (reached : List Reached) (
       let first = held.pairs.placed i one.0 one.1 in
       let second = held.pairs.placed j two.0 two.1 in
       let pair : AreSamePairs one.0.pair two.0.pair = record {
-        first = same_number r.firsts s.first.index held.automata.one.index one.0.pair.first two.0.pair.first
+        first = same_number r.firsts held.automata.one.differ one.0.pair.first two.0.pair.first
             first.0 second.0 (ap (λ p. p.first) equal);
-        second = same_number r.seconds s.second.index held.automata.two.index one.0.pair.second
-            two.0.pair.second first.1 second.1 (ap (λ p. p.second) equal);
+        second = same_number r.seconds held.automata.two.differ one.0.pair.second two.0.pair.second
+            first.1 second.1 (ap (λ p. p.second) equal);
         may_end = ap (λ p. p.may_end) equal;
       } in
       held.pairs.differ i j one.0 two.0 lt one.1 two.1 pair
@@ -115,9 +90,9 @@ module _ (code other : List Instruction) (s : Search) (reached : List Reached) (
   explored : AreExplored code other s.texts all
   explored = record {
     unlike = held.unlike;
-    firsts_differ = states_differ code s.letters.items s.first held.automata.one;
+    firsts_differ = held.automata.one.differ;
     firsts = states_reached code s.letters.items s.first held.automata.one;
-    seconds_differ = states_differ other s.letters.items s.second held.automata.two;
+    seconds_differ = held.automata.two.differ;
     seconds = states_reached other s.letters.items s.second held.automata.two;
     pairs_differ = pairs_differ;
     pairs = pairs_reached;

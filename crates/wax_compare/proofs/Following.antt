@@ -1,15 +1,10 @@
 -- A pair that was followed by every letter.
 use Rattle.std.proofs.Common.{◌≡◌, ◌+◌, ◌<◌, ◌≤◌, ℕ, List, Some, length, get_or, slice_get, slice_index, sym}
-use Rattle.std.proofs.Common.{◌∙◌, subst, inl, inr, arith}
-use Rattle.std.proofs.lemmas.Bool.{cases_lt}
-use Rattle.std.proofs.lemmas.List.{get_or_default}
+use Rattle.std.proofs.{Common.{◌∙◌, subst, inl, inr, arith}, lemmas.Bool.cases_lt, lemmas.List.get_or_default}
 use Rattle.std.proofs.lemmas.Option.{slice_get-get_or, slice_get_cases, slice_get_within}
 use Rattle.wax_program.specs.declared.instruction.Instruction.{Instruction}
-use Rattle.wax_compare.specs.declared.pairs.Reached.{Reached}
-use Rattle.wax_compare.specs.declared.search.Search.{Search}
-use Rattle.wax_compare.specs.Cuts.{StandsFor}
-use Rattle.wax_compare.specs.inner.Reaching.{AreFollowed}
-use Rattle.wax_compare.specs.inner.Searching.{IsSameSearch, readings}
+use Rattle.wax_compare.specs.{declared.pairs.Reached.Reached, declared.search.Search.Search, Cuts.StandsFor}
+use Rattle.wax_compare.specs.{inner.Reaching.AreFollowed, inner.Searching.{IsSameSearch, readings}}
 use Rattle.wax_compare.specs.inner.Visiting.{AreShallow, Grow, IsHeld, IsVisited}
 
 module _ (code other : List Instruction) (s : Search) (reached : List Reached) (at : ℕ)

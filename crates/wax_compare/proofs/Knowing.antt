@@ -1,15 +1,10 @@
 -- The set of the pairs that were reached.
 use Rattle.std.proofs.Common.{◌≡◌, ◌==◌, ◌&&◌, ◌∷◌, ◌++◌, [], Bool, HashSet, IsTrue, List, ap, cond, false}
-use Rattle.std.proofs.Common.{inl, inr, length, refl, subst, sym, true, ◌∙◌}
-use Rattle.std.proofs.lemmas.Bool.{eq-eqb, eqb-true}
-use Rattle.std.specs.Bool.{beq}
-use Rattle.std.specs.HashSet.{Updates, contains}
-use Rattle.wax_compare.specs.declared.pairs.Reached.{Reached}
-use Rattle.wax_compare.specs.declared.pairs.StatePair.{StatePair}
-use Rattle.wax_compare.specs.inner.Reaching.{AreSamePairs}
-use Rattle.wax_compare.specs.inner.Visiting.{AreKnown, HasPair, same_pair}
-use Rattle.wax_compare.proofs.Pushing.{grow_push, old_or_new}
-use Rattle.wax_compare.proofs.Visiting.{get_end}
+use Rattle.std.proofs.{Common.{inl, inr, length, refl, subst, sym, true, ◌∙◌}, lemmas.Bool.{eq-eqb, eqb-true}}
+use Rattle.std.specs.{Bool.beq, HashSet.{Updates, contains}}
+use Rattle.wax_compare.specs.{declared.pairs.Reached.Reached, declared.pairs.StatePair.StatePair}
+use Rattle.wax_compare.specs.{inner.Reaching.AreSamePairs, inner.Visiting.{AreKnown, HasPair, same_pair}}
+use Rattle.wax_compare.proofs.{Pushing.{grow_push, old_or_new}, Visiting.get_end}
 
 and_parts : (x y : Bool) → (x && y) ≡ true → (x ≡ true) × (y ≡ true)
 and_parts true true e = (refl, refl)

@@ -1,16 +1,12 @@
 -- The greatest of numbers that ascend.
 use Rattle.std.proofs.Common.{◌≡◌, ◌∙◌, ◌↔◌, ◌+◌, ◌-◌, ◌<◌, ◌≤◌, ℕ, zero, suc, Bool, IsTrue, List, [], ◌∷◌}
 use Rattle.std.proofs.Common.{Some, Contains, ap, arith, get_or, length, slice_get, subst, sym}
-use Rattle.std.proofs.lemmas.List.{get_or_default}
-use Rattle.std.proofs.lemmas.Option.{get_or_from_slice_get, slice_get_within}
+use Rattle.std.proofs.{lemmas.List.get_or_default, lemmas.Option.{get_or_from_slice_get, slice_get_within}}
 use Rattle.std.specs.List.Sorted.{IsStrictlyIncreasing}
 use Rattle.wax_compare.proofs.Selecting.{odd_as}
-use Rattle.wax_compare.specs.Selected.{HasOddLast, IsSelected, is_odd}
-use Rattle.wax_compare.specs.declared.wanted.Criterion.{Criterion}
+use Rattle.wax_compare.specs.{Selected.{HasOddLast, IsSelected, is_odd}, declared.wanted.Criterion.Criterion}
 use Rattle.wax_compare.specs.declared.wanted.Criterion.TheVariants.{OddLast}
-use Rattle.wax_program.specs.Machine.{mark}
-use Rattle.wax_program.specs.Threads.{AnyAmong}
-use Rattle.wax_program.specs.declared.instruction.Instruction.{Instruction}
+use Rattle.wax_program.specs.{Machine.mark, Threads.AnyAmong, declared.instruction.Instruction.Instruction}
 use Rattle.wax_states.specs.Reached.{AreEndsMarked}
 
 rising : (xs : List ℕ) (k more : ℕ) → IsStrictlyIncreasing xs → k + more < length xs

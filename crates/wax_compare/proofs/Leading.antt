@@ -1,24 +1,16 @@
 -- Texts that lead to pairs.
-use Rattle.std.proofs.Common.{◌≡◌, ◌↔◌, ℕ, Bool, true, IsTrue, List, [], ◌∷◌, ◌++◌}
-use Rattle.std.proofs.Common.{append-nil, append_assoc, arith, refl, subst, sym}
-use Rattle.std.specs.Char.{IsScalar}
-use Rattle.std.specs.Str.{all_scalars}
-use Rattle.wax_program.specs.Machine.{Accepts}
-use Rattle.wax_program.specs.Threads.{AnyAmong}
-use Rattle.wax_program.specs.declared.instruction.Instruction.{Instruction}
+use Rattle.std.proofs.Common.{◌≡◌, ◌↔◌, ℕ, Bool, true, IsTrue, List, [], ◌∷◌, ◌++◌, append-nil, append_assoc}
+use Rattle.std.proofs.Common.{arith, refl, subst, sym}
+use Rattle.std.specs.{Char.IsScalar, Str.all_scalars}
+use Rattle.wax_program.specs.{Machine.Accepts, Threads.AnyAmong, declared.instruction.Instruction.Instruction}
 use Rattle.wax_states.specs.States.{LeadOn}
 use Rattle.wax_compare.specs.Limit.{AcceptsNoneFrom, BeginsAmong, EndsSearch, IsAtPlaces, LeadsToPair}
-use Rattle.wax_compare.specs.Limit.{PairOfStates}
-use Rattle.wax_compare.specs.Texts.{IsAmongTexts}
-use Rattle.wax_compare.specs.declared.pairs.StatePair.{StatePair}
-use Rattle.wax_compare.specs.declared.wanted.Texts.{Texts}
-use Rattle.wax_compare.specs.declared.wanted.Texts.TheVariants.{All, Paths}
-use Rattle.wax_compare.specs.inner.Automata.{state_places}
-use Rattle.wax_compare.specs.inner.Going.{GoesOnAmong, starts}
+use Rattle.wax_compare.specs.{Limit.PairOfStates, Texts.IsAmongTexts, declared.pairs.StatePair.StatePair}
+use Rattle.wax_compare.specs.{declared.wanted.Texts.Texts, declared.wanted.Texts.TheVariants.{All, Paths}}
+use Rattle.wax_compare.specs.{inner.Automata.state_places, inner.Going.{GoesOnAmong, starts}}
 use Rattle.wax_compare.specs.inner.Reaching.{EndsBy, HasTextToPair, IsLedBy, IsPairStep, OtherTakesNone}
 use Rattle.wax_compare.specs.inner.Reaching.{Readings, TakesNone}
-use Rattle.wax_compare.proofs.Blocks.{scalars_push}
-use Rattle.wax_compare.proofs.Selecting.{along, ends_along}
+use Rattle.wax_compare.proofs.{Blocks.scalars_push, Selecting.{along, ends_along}}
 use Rattle.wax_compare.proofs.Steps.{ends_here, kind_in, kind_out, may_end}
 
 -- ---- a text with a character more

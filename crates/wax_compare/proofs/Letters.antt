@@ -1,10 +1,8 @@
 -- Each character is in a block, and no cut is between two of a block.
 use Rattle.std.proofs.Common.{◌≡◌, ◌+◌, ◌<◌, ◌≤◌, ◌⊎◌, ℕ, zero, suc, List, Contains, length, get_or, sym, ◌∙◌}
-use Rattle.std.proofs.Common.{subst, inl, inr, arith}
-use Rattle.std.proofs.lemmas.Bool.{cases_lt}
+use Rattle.std.proofs.{Common.{subst, inl, inr, arith}, lemmas.Bool.cases_lt}
 use Rattle.std.proofs.lemmas.List.{get_or_default, get_or_past}
-use Rattle.std.specs.List.Sorted.{IsNonDecreasing}
-use Rattle.std.specs.Char.{IsScalar}
+use Rattle.std.specs.{List.Sorted.IsNonDecreasing, Char.IsScalar}
 use Rattle.wax_program.specs.declared.instruction.Instruction.{Instruction}
 use Rattle.wax_compare.specs.Cuts.{AreLetters, CutApart, SameBlock, StandsFor}
 use Rattle.wax_compare.specs.inner.Cutting.{AreKept, HasLetter, IsCutOut, IsInBlock, Serve}

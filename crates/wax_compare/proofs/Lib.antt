@@ -3,7 +3,6 @@ pub mod Beginning
 pub mod Blocks
 pub mod Closed
 pub mod Closures
-pub mod Copying
 pub mod Covering
 pub mod Distinguished
 pub mod Exceeding
@@ -22,5 +21,5 @@ pub mod ReadingBack
 pub mod Searching
 pub mod Selecting
 pub mod Steps
-pub mod Usual
+pub mod Undistinguished
 pub mod Visiting

@@ -2,22 +2,18 @@
 use Rattle.std.proofs.Common.{◌≡◌, ◌↔◌, ◌⊎◌, ◌+◌, ◌<◌, ◌≤◌, ◌==◌, ℕ, zero, suc, Bool, true, false, List, ◌∷◌}
 use Rattle.std.proofs.Common.{[], ◌++◌, Some, IsTrue, IfSome, Contains, add-one, ap, length, length-append}
 use Rattle.std.proofs.Common.{slice_get, slice_index, refl, sym, ◌∙◌, subst, inl, inr, arith}
-use Rattle.std.proofs.Math.Bool.{beq, not}
-use Rattle.std.specs.Char.{IsScalar}
-use Rattle.std.proofs.lemmas.Bool.{cases_lt, eq-eqb, eqb-true}
+use Rattle.std.proofs.{Math.Bool.{beq, not}, lemmas.Bool.{cases_lt, eq-eqb, eqb-true}}
 use Rattle.std.proofs.lemmas.List.{get_or_append_left, get_or_default, get_or_push}
 use Rattle.std.proofs.lemmas.List.Elements.{Contains-get_or}
 use Rattle.std.proofs.lemmas.Option.{IfSome_then, same_Some, slice_get_cases, slice_get_within}
+use Rattle.std.specs.Char.{IsScalar}
 use Rattle.wax_program.specs.declared.instruction.Instruction.{Instruction}
 use Rattle.wax_program.specs.declared.instruction.Instruction.TheVariants.{Check, Repeat, Components, Fork}
 use Rattle.wax_program.specs.declared.instruction.Instruction.TheVariants.{Jump, Back, End}
-use Rattle.wax_program.specs.Machine.{PassesTest}
-use Rattle.wax_program.specs.Steady.{Alike}
-use Rattle.wax_program.specs.declared.instruction.Test.{Test}
+use Rattle.wax_program.specs.{Machine.PassesTest, Steady.Alike, declared.instruction.Test.Test}
 use Rattle.wax_program.specs.Tests.{IsTestAt, test_of}
 use Rattle.wax_states.specs.Alike.{AreAlike}
-use Rattle.wax_compare.specs.Cuts.{AreLetters, AreUnlike, HasStandIn, StandsFor}
-use Rattle.wax_compare.specs.inner.Cutting.{AreKept}
+use Rattle.wax_compare.specs.{Cuts.{AreLetters, HasStandIn, StandsFor}, inner.Cutting.AreKept}
 use Rattle.wax_compare.specs.inner.Merging.{AgreeAt, AgreeBefore, AreKeptLetters, AreMerged, IsDigestBefore}
 use Rattle.wax_compare.specs.inner.Merging.{IsDigestOf, PassesAt, stirred}
 use Rattle.wax_compare.proofs.Blocks.{no_mark, scalars_push}

@@ -1,11 +1,9 @@
 -- Plain paths, read character by character.
-use Rattle.std.proofs.Common.{◌≡◌, ◌≢◌, ◌==◌, ℕ, Bool, true, false, not, List, [], ◌∷◌, ◌++◌}
-use Rattle.std.proofs.Common.{refl, sym, ◌∙◌, ap, subst, inl, inr}
-use Rattle.std.proofs.lemmas.Bool.{cases_eq, eq-eqb, eqb-true}
+use Rattle.std.proofs.Common.{◌≡◌, ◌≢◌, ◌==◌, ℕ, Bool, true, false, not, List, [], ◌∷◌, ◌++◌, refl, sym, ◌∙◌}
+use Rattle.std.proofs.{Common.{ap, subst, inl, inr}, lemmas.Bool.{cases_eq, eq-eqb, eqb-true}}
 use Rattle.wax_query.specs.Below.{AreNames, IsPlainPath, slashed}
 use Rattle.wax_query.specs.Components.{Bare, BeginsWithSlash, EndsWithSlash, HasNoSlash}
-use Rattle.wax_compare.specs.Texts.{HasTwoSlashes}
-use Rattle.wax_compare.specs.inner.Going.{GoesOnInNames}
+use Rattle.wax_compare.specs.{Texts.HasTwoSlashes, inner.Going.GoesOnInNames}
 
 -- a character other than `/`
 other_false : (c : ℕ) → c ≢ 47 → (c == 47) ≡ false

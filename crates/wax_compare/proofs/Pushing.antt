@@ -1,25 +1,20 @@
 -- A pair that is added, and what a letter led to.
 use Rattle.std.proofs.Common.{◌≡◌, ◌+◌, ◌<◌, ◌≤◌, ◌⊎◌, ◌↔◌, ℕ, List, [], ◌∷◌, ◌++◌, Some, None, length}
 use Rattle.std.proofs.Common.{length-append, slice_get, sym, ◌∙◌, ap, subst, inl, inr, arith}
-use Rattle.std.proofs.lemmas.Bool.{cases_lt}
-use Rattle.std.proofs.lemmas.Option.{slice_get_within}
+use Rattle.std.proofs.{lemmas.Bool.cases_lt, lemmas.Option.slice_get_within}
 use Rattle.std.specs.Char.{IsScalar}
 use Rattle.wax_program.specs.declared.instruction.Instruction.{Instruction}
-use Rattle.wax_compare.specs.declared.pairs.StatePair.{StatePair}
-use Rattle.wax_compare.specs.declared.pairs.Reached.{Reached}
-use Rattle.wax_compare.specs.declared.search.Search.{Search}
-use Rattle.wax_states.specs.States.{LeadOn}
-use Rattle.wax_compare.specs.Cuts.{AreLetters, AreUnlike}
-use Rattle.wax_compare.specs.inner.Going.{GoesOnAmong}
-use Rattle.wax_compare.specs.inner.Automata.{state_places}
+use Rattle.wax_compare.specs.{declared.pairs.StatePair.StatePair, declared.pairs.Reached.Reached}
+use Rattle.wax_compare.specs.{declared.search.Search.Search, Cuts.{AreLetters, AreUnlike}}
+use Rattle.wax_compare.specs.{inner.Going.GoesOnAmong, inner.Automata.state_places}
 use Rattle.wax_compare.specs.inner.Reaching.{AreFollowed, AreReachedPairs, AreSamePairs, CameFrom, GoesAt}
 use Rattle.wax_compare.specs.inner.Reaching.{GoesFrom, HasNext, HasTextToPair, IsFollowedBy, IsPairStep}
 use Rattle.wax_compare.specs.inner.Reaching.{Readings}
 use Rattle.wax_compare.specs.inner.Searching.{AreAutomataOf, IsNextOrNone, IsNextPair, IsSameSearch}
 use Rattle.wax_compare.specs.inner.Searching.{KeepsBoth, readings}
 use Rattle.wax_compare.specs.inner.Visiting.{AreShallow, EndsAt, Grow, HasPair, IsHeld, IsVisited}
-use Rattle.wax_compare.proofs.Leading.{text_along}
-use Rattle.wax_compare.proofs.Steps.{goes_back_along, stands_itself}
+use Rattle.wax_states.specs.States.{LeadOn}
+use Rattle.wax_compare.proofs.{Leading.text_along, Steps.{goes_back_along, stands_itself}}
 use Rattle.wax_compare.proofs.Visiting.{Later, begin_later, followed_later, get_append, get_end, pairs_later}
 use Rattle.wax_compare.proofs.Visiting.{search_later, some_same}
 

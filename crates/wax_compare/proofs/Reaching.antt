@@ -4,14 +4,10 @@ use Rattle.std.proofs.Common.{sym, ◌∙◌, ap, subst, arith, inl, inr}
 use Rattle.std.proofs.lemmas.Option.{get_or_from_slice_get, slice_get-get_or, slice_get_within}
 use Rattle.std.specs.Str.{all_scalars}
 use Rattle.wax_program.specs.Machine.{Accepts}
-use Rattle.wax_compare.specs.declared.pairs.Reached.{Reached}
-use Rattle.wax_compare.specs.Comparison.{IsWanted}
-use Rattle.wax_compare.specs.Selected.{IsSelected}
-use Rattle.wax_compare.specs.inner.Going.{Goes, starts}
-use Rattle.wax_compare.specs.inner.Automata.{state_places}
+use Rattle.wax_compare.specs.{declared.pairs.Reached.Reached, Comparison.IsWanted, Selected.IsSelected}
+use Rattle.wax_compare.specs.{inner.Going.{Goes, starts}, inner.Automata.state_places}
 use Rattle.wax_compare.specs.inner.Reaching.{AreFollowed, AreReachedPairs, BeginAsPrograms, GoesAt, Readings}
-use Rattle.wax_compare.proofs.Blocks.{scalar_first}
-use Rattle.wax_compare.proofs.Closed.{longer, nothing}
+use Rattle.wax_compare.proofs.{Blocks.scalar_first, Closed.{longer, nothing}}
 use Rattle.wax_compare.proofs.Steps.{allowed_first, ends_wanted, goes_along, goes_wanted, wanted_goes}
 
 module _ (r : Readings) (reached : List Reached) (first : Reached)

@@ -1,26 +1,19 @@
 -- One step back to the first pair.
 use Rattle.std.proofs.Common.{◌≡◌, ◌+◌, ◌<◌, ℕ, List, [], ◌∷◌, ◌≤◌, true, Some, length, get_or, slice_get}
-use Rattle.std.proofs.Common.{inl, inr, sym, ◌∙◌, ap, subst, arith}
-use Rattle.std.proofs.lemmas.List.{length-map}
+use Rattle.std.proofs.{Common.{inl, inr, sym, ◌∙◌, ap, subst, arith}, lemmas.List.length-map}
 use Rattle.std.proofs.lemmas.Option.{slice_get-get_or, slice_get_cases}
 use Rattle.std.specs.Str.{all_scalars}
-use Rattle.wax_program.specs.declared.instruction.Instruction.{Instruction}
-use Rattle.wax_program.specs.Machine.{Accepts}
-use Rattle.wax_compare.specs.declared.pairs.Reached.{Reached}
-use Rattle.wax_compare.specs.declared.search.Search.{Search}
-use Rattle.wax_compare.specs.Comparison.{IsShortest, IsWanted}
-use Rattle.wax_compare.specs.Limit.{KeepsLimit}
+use Rattle.wax_program.specs.{declared.instruction.Instruction.Instruction, Machine.Accepts}
+use Rattle.wax_compare.specs.{declared.pairs.Reached.Reached, declared.search.Search.Search}
+use Rattle.wax_compare.specs.{Comparison.{IsShortest, IsWanted}, Limit.KeepsLimit}
 use Rattle.wax_compare.specs.declared.wanted.Comparison.{Comparison}
-use Rattle.wax_compare.specs.declared.wanted.Comparison.TheVariants.{Nothing}
-use Rattle.wax_compare.specs.Selected.{IsSelected}
+use Rattle.wax_compare.specs.{declared.wanted.Comparison.TheVariants.Nothing, Selected.IsSelected}
 use Rattle.wax_compare.specs.inner.Searching.{IsSameSearch, WantedText, readings}
-use Rattle.wax_compare.proofs.Covering.{all_pairs, all_seen}
-use Rattle.wax_compare.proofs.Leading.{seen}
-use Rattle.wax_compare.proofs.Reaching.{none_shorter, none_wanted, read_back}
 use Rattle.wax_compare.specs.inner.Reaching.{AreReachedPairs, CameFrom, GoesAt, Readings}
 use Rattle.wax_compare.specs.inner.Visiting.{EndsAt, IsHeld}
 use Rattle.wax_compare.specs.inner.ReadBack.{AreEarlier, IsReadBack, IsReadFrom}
-use Rattle.wax_compare.proofs.Steps.{goes_back_along}
+use Rattle.wax_compare.proofs.{Covering.{all_pairs, all_seen}, Leading.seen}
+use Rattle.wax_compare.proofs.{Reaching.{none_shorter, none_wanted, read_back}, Steps.goes_back_along}
 use Rattle.wax_compare.proofs.Visiting.{some_same}
 
 pub read_last : (reached : List Reached) (from last : ℕ) (s : List ℕ) → s ≡ last ∷ []

@@ -1,16 +1,12 @@
 -- A step of two automata at once.
 use Rattle.std.proofs.Common.{◌≡◌, ◌≢◌, ◌<◌, ◌↔◌, ℕ, List, [], ◌∷◌, None, length, slice_index, sym, subst}
 use Rattle.std.proofs.Common.{inl, inr, refl}
-use Rattle.wax_program.specs.declared.instruction.Instruction.{Instruction}
-use Rattle.wax_program.specs.Threads.{AnyAmong}
+use Rattle.wax_program.specs.{declared.instruction.Instruction.Instruction, Threads.AnyAmong}
 use Rattle.wax_states.specs.States.{LeadOn}
 use Rattle.wax_compare.specs.declared.automaton.ProgramState.{ProgramState}
-use Rattle.wax_compare.specs.declared.pairs.StatePair.{StatePair}
-use Rattle.wax_compare.specs.declared.wanted.Wanted.{Wanted}
-use Rattle.wax_compare.specs.declared.wanted.Wanted.TheVariants.{Both, FirstOnly, OneOnly}
-use Rattle.wax_compare.specs.Cuts.{StandsFor}
-use Rattle.wax_compare.specs.Limit.{EndsSearch}
-use Rattle.wax_compare.specs.inner.Going.{GoesOnAmong, IsAllowed, begun_after}
+use Rattle.wax_compare.specs.{declared.pairs.StatePair.StatePair, declared.wanted.Wanted.Wanted}
+use Rattle.wax_compare.specs.{declared.wanted.Wanted.TheVariants.{Both, FirstOnly, OneOnly}, Cuts.StandsFor}
+use Rattle.wax_compare.specs.{Limit.EndsSearch, inner.Going.{GoesOnAmong, IsAllowed, begun_after}}
 use Rattle.wax_compare.specs.inner.Automata.{LeadsToState, StatesStay, state_places}
 use Rattle.wax_compare.specs.inner.Reaching.{IsPairStep, OtherTakesNone, Readings, TakesNone}
 use Rattle.wax_compare.specs.inner.Searching.{IsNextOrNone, IsNextPair}

@@ -1,8 +1,6 @@
 -- Texts that programs select, and that are wanted so.
 use Rattle.std.proofs.Common.{◌↔◌, ◌++◌, ◌∷◌, [], ℕ, List, inl, inr}
-use Rattle.wax_compare.specs.Comparison.{AsWanted}
-use Rattle.wax_compare.specs.Limit.{EndsSearch}
-use Rattle.wax_compare.specs.Selected.{HasOddLast, IsSelected}
+use Rattle.wax_compare.specs.{Comparison.AsWanted, Limit.EndsSearch, Selected.{HasOddLast, IsSelected}}
 use Rattle.wax_compare.specs.declared.wanted.Criterion.{Criterion}
 use Rattle.wax_compare.specs.declared.wanted.Criterion.TheVariants.{Accepted, OddLast}
 use Rattle.wax_compare.specs.declared.wanted.Wanted.{Wanted}

@@ -1,31 +1,20 @@
 -- A step of both programs by a letter.
 use Rattle.std.proofs.Common.{◌≡◌, ◌⊎◌, ◌↔◌, ◌==◌, ℕ, Bool, true, not, List, [], ◌∷◌, refl, subst, inl, inr}
-use Rattle.std.proofs.Common.{arith, false, sym, ◌∙◌}
-use Rattle.std.proofs.lemmas.Bool.{eq-eqb, eqb-true, true≢false}
+use Rattle.std.proofs.{Common.{arith, false, sym, ◌∙◌}, lemmas.Bool.{eq-eqb, eqb-true, true≢false}}
 use Rattle.std.specs.Str.{all_scalars}
-use Rattle.wax_compare.proofs.Blocks.{same_bits}
-use Rattle.wax_program.specs.declared.instruction.Instruction.{Instruction}
-use Rattle.wax_program.specs.Machine.{Accepts}
-use Rattle.wax_program.specs.Threads.{AnyAmong}
-use Rattle.wax_states.specs.Reached.{AreReached}
-use Rattle.wax_compare.specs.declared.wanted.Texts.{Texts}
-use Rattle.wax_compare.specs.declared.wanted.Texts.TheVariants.{All, Paths}
-use Rattle.wax_compare.specs.declared.pairs.StatePair.{StatePair}
-use Rattle.wax_states.specs.Alike.{AreAlike}
-use Rattle.wax_compare.specs.Cuts.{StandsFor}
-use Rattle.wax_compare.specs.Comparison.{AsWanted, IsWanted}
-use Rattle.wax_compare.specs.Selected.{IsSelected}
-use Rattle.wax_compare.specs.Texts.{IsAmongTexts}
-use Rattle.wax_compare.proofs.PlainPaths.{goes_plain, plain_goes}
+use Rattle.wax_compare.proofs.{Blocks.same_bits, PlainPaths.{goes_plain, plain_goes}}
+use Rattle.wax_compare.proofs.Selecting.{along, ends_along, never_wanted, none_selected_past, selected_as}
+use Rattle.wax_compare.proofs.Selecting.{selected_past, turned, wanted_along, wanted_as}
+use Rattle.wax_program.specs.{declared.instruction.Instruction.Instruction, Machine.Accepts, Threads.AnyAmong}
+use Rattle.wax_states.specs.{Reached.AreReached, Alike.AreAlike}
+use Rattle.wax_compare.specs.{declared.wanted.Texts.Texts, declared.wanted.Texts.TheVariants.{All, Paths}}
+use Rattle.wax_compare.specs.{declared.pairs.StatePair.StatePair, Cuts.StandsFor}
+use Rattle.wax_compare.specs.{Comparison.{AsWanted, IsWanted}, Selected.IsSelected, Texts.IsAmongTexts}
 use Rattle.wax_compare.specs.inner.Going.{Goes, GoesOnAmong, GoesOnInNames, IsAllowed, Task, begun_after}
-use Rattle.wax_compare.specs.inner.Going.{starts}
-use Rattle.wax_compare.specs.inner.Automata.{state_places}
-use Rattle.wax_compare.specs.inner.Distinctions.{LeadAlike}
+use Rattle.wax_compare.specs.{inner.Going.starts, inner.Automata.state_places, inner.Distinctions.LeadAlike}
 use Rattle.wax_compare.specs.inner.Reaching.{EndsBy, GoesFrom, IsPairStep, OtherTakesNone, Readings}
 use Rattle.wax_compare.specs.inner.Reaching.{TakesNone}
 use Rattle.wax_states.proofs.Replaced.{alike_turned, replaced, same_alike}
-use Rattle.wax_compare.proofs.Selecting.{along, ends_along, never_wanted, none_selected_past, selected_as}
-use Rattle.wax_compare.proofs.Selecting.{selected_past, turned, wanted_along, wanted_as}
 
 -- no place accepts anything
 pub none_among : (code : List Instruction) (s : List ℕ) → AnyAmong code [] s → ⊥

@@ -1,25 +1,18 @@
 -- Pairs that are followed by letters.
-use Rattle.std.proofs.Common.{◌≡◌, ◌<◌, ◌↔◌, ℕ, zero, suc, List, [], ◌∷◌, ◌++◌, Some, length, slice_get}
-use Rattle.std.proofs.Common.{inl, inr, refl, sym, ◌∙◌, ap, subst, arith}
-use Rattle.wax_program.specs.declared.instruction.Instruction.{Instruction}
-use Rattle.wax_program.specs.Machine.{Accepts}
-use Rattle.wax_program.specs.Threads.{AnyAmong}
-use Rattle.wax_compare.specs.declared.pairs.StatePair.{StatePair}
-use Rattle.wax_compare.specs.declared.pairs.Reached.{Reached}
-use Rattle.wax_compare.specs.declared.automaton.ProgramState.{ProgramState}
-use Rattle.wax_compare.specs.declared.search.Search.{Search}
-use Rattle.wax_compare.specs.Cuts.{StandsFor}
-use Rattle.wax_compare.specs.declared.wanted.Criterion.{Criterion}
-use Rattle.wax_compare.specs.declared.wanted.Texts.{Texts}
-use Rattle.wax_compare.specs.declared.wanted.Wanted.{Wanted}
-use Rattle.wax_states.specs.States.{LeadOn}
+use Rattle.std.proofs.Common.{◌≡◌, ◌<◌, ◌↔◌, ℕ, zero, suc, List, [], ◌∷◌, ◌++◌, Some, length, slice_get, inl}
+use Rattle.std.proofs.Common.{inr, refl, sym, ◌∙◌, ap, subst, arith}
+use Rattle.wax_program.specs.{declared.instruction.Instruction.Instruction, Machine.Accepts, Threads.AnyAmong}
+use Rattle.wax_compare.specs.{declared.pairs.StatePair.StatePair, declared.pairs.Reached.Reached}
+use Rattle.wax_compare.specs.{declared.automaton.ProgramState.ProgramState, declared.search.Search.Search}
+use Rattle.wax_compare.specs.{Cuts.StandsFor, declared.wanted.Criterion.Criterion}
+use Rattle.wax_compare.specs.{declared.wanted.Texts.Texts, declared.wanted.Wanted.Wanted}
 use Rattle.wax_compare.specs.Limit.{EndsSearch, IsAtPlaces}
 use Rattle.wax_compare.specs.inner.Going.{Goes, GoesOnAmong, IsAllowed, Task, starts}
 use Rattle.wax_compare.specs.inner.Automata.{BeginsAsProgram, StatesStay, state_places}
 use Rattle.wax_compare.specs.inner.Reaching.{AreFollowed, AreReachedPairs, BeginAsPrograms, CameFrom, EndsBy}
 use Rattle.wax_compare.specs.inner.Reaching.{GoesFrom, HasNext, IsFollowedBy, IsLedBy, IsPairStep, Readings}
-use Rattle.wax_compare.specs.inner.Searching.{IsSameSearch, KeepsBoth, readings}
-use Rattle.wax_compare.specs.inner.Visiting.{IsVisited}
+use Rattle.wax_compare.specs.{inner.Searching.{IsSameSearch, KeepsBoth, readings}, inner.Visiting.IsVisited}
+use Rattle.wax_states.specs.States.{LeadOn}
 
 pub some_same : {x y : Reached} → Some x ≡ Some y → x ≡ y
 some_same e = cc

@@ -1,8 +1,6 @@
 -- What is found of two sets of texts.
-use Rattle.std.specs.Prelude.{◌≡◌, ◌≤◌, ◌⊎◌, ℕ, List, true, length, chars, string_bytes, ⊤}
-use Rattle.std.specs.Str.{all_scalars}
-use Rattle.wax_compare.specs.declared.wanted.Texts.{Texts}
-use Rattle.wax_compare.specs.declared.wanted.Wanted.{Wanted}
+use Rattle.std.specs.{Prelude.{◌≡◌, ◌≤◌, ◌⊎◌, ℕ, List, true, length, chars, string_bytes, ⊤}, Str.all_scalars}
+use Rattle.wax_compare.specs.{declared.wanted.Texts.Texts, declared.wanted.Wanted.Wanted}
 use Rattle.wax_compare.specs.declared.wanted.Wanted.TheVariants.{Both, FirstOnly, OneOnly}
 use Rattle.wax_compare.specs.declared.wanted.Comparison.{Comparison}
 use Rattle.wax_compare.specs.declared.wanted.Comparison.TheVariants.{Nothing, Text, Unknown}

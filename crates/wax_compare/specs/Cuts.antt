@@ -1,7 +1,6 @@
 -- Characters that stand for others, by which each instruction of two programs does the same.
 use Rattle.std.specs.Prelude.{◌≡◌, ◌↔◌, ◌<◌, ◌≤◌, ℕ, true, List, Contains, length, slice_index}
-use Rattle.std.specs.Char.{IsScalar}
-use Rattle.std.specs.Str.{all_scalars}
+use Rattle.std.specs.{Char.IsScalar, Str.all_scalars}
 use Rattle.wax_program.specs.declared.instruction.Instruction.{Instruction}
 use Rattle.wax_states.specs.Alike.{AreAlike}
 

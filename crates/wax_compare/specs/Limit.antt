@@ -1,18 +1,12 @@
 -- How far a search goes, and what each result says of that.
 use Rattle.std.specs.Prelude.{◌≡◌, ◌≢◌, ◌+◌, ◌*◌, ◌<◌, ◌≤◌, ◌⊎◌, ◌↔◌, ℕ, Bool, true, IsTrue, List, [], ◌∷◌}
 use Rattle.std.specs.Prelude.{◌++◌, All, Contains, Some, chars, length, slice_get, string_bytes}
-use Rattle.std.specs.List.Sorted.{IsStrictlyIncreasing}
-use Rattle.std.specs.Str.{all_scalars}
-use Rattle.wax_program.specs.Machine.{Accepts}
-use Rattle.wax_program.specs.Threads.{AnyAmong}
-use Rattle.wax_program.specs.declared.instruction.Instruction.{Instruction}
-use Rattle.wax_compare.specs.Cuts.{AreUnlike}
-use Rattle.wax_compare.specs.Selected.{SelectsTexts}
-use Rattle.wax_compare.specs.Texts.{IsAmongTexts}
+use Rattle.std.specs.{List.Sorted.IsStrictlyIncreasing, Str.all_scalars}
+use Rattle.wax_program.specs.{Machine.Accepts, Threads.AnyAmong, declared.instruction.Instruction.Instruction}
+use Rattle.wax_compare.specs.{Cuts.AreUnlike, Selected.SelectsTexts, Texts.IsAmongTexts}
 use Rattle.wax_compare.specs.declared.wanted.Comparison.{Comparison}
 use Rattle.wax_compare.specs.declared.wanted.Comparison.TheVariants.{Nothing, Text, Unknown}
-use Rattle.wax_compare.specs.declared.wanted.Texts.{Texts}
-use Rattle.wax_compare.specs.declared.wanted.Wanted.{Wanted}
+use Rattle.wax_compare.specs.{declared.wanted.Texts.Texts, declared.wanted.Wanted.Wanted}
 use Rattle.wax_compare.specs.declared.wanted.Wanted.TheVariants.{Both, FirstOnly, OneOnly}
 
 -- ---- where a text leads

@@ -2,8 +2,7 @@
 use Rattle.std.specs.Prelude.{◌≡◌, ◌↔◌, ◌%◌, ◌==◌, ◌≤◌, ℕ, Bool, true, List, [], ◌∷◌, ◌++◌, ⊤}
 use Rattle.wax_compare.specs.declared.wanted.Criterion.{Criterion}
 use Rattle.wax_compare.specs.declared.wanted.Criterion.TheVariants.{Accepted, OddLast}
-use Rattle.wax_program.specs.Closed.{IsClosed}
-use Rattle.wax_program.specs.Machine.{Accepts, mark}
+use Rattle.wax_program.specs.{Closed.IsClosed, Machine.{Accepts, mark}}
 use Rattle.wax_program.specs.declared.instruction.Instruction.{Instruction}
 
 abbrev pub is_odd : ℕ → Bool

@@ -1,9 +1,7 @@
 -- Among which texts one is looked for.
 use Rattle.std.specs.Prelude.{◌≡◌, ◌↔◌, ℕ, List, ◌∷◌, ◌++◌, ⊤}
-use Rattle.wax_query.specs.Below.{IsPlainPath}
-use Rattle.wax_query.specs.Components.{Bare}
-use Rattle.wax_compare.specs.declared.wanted.Texts.{Texts}
-use Rattle.wax_compare.specs.declared.wanted.Texts.TheVariants.{All, Paths}
+use Rattle.wax_query.specs.{Below.IsPlainPath, Components.Bare}
+use Rattle.wax_compare.specs.{declared.wanted.Texts.Texts, declared.wanted.Texts.TheVariants.{All, Paths}}
 
 abbrev pub IsAmongTexts : Texts → List ℕ → Type 0
 IsAmongTexts All s = ⊤

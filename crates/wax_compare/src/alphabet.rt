@@ -1,8 +1,6 @@
 //! Characters that stand for all others.
 ghost use Rattle.std.specs.Prelude.{◌≡◌, ◌+◌, ◌<◌, ◌≤◌, ℕ, None, IfOk, IfSome, Contains, length, slice_index};
-ghost use Rattle.std.specs.Prelude.{slice_index_or};
-ghost use Rattle.std.specs.Char.{IsScalar};
-ghost use Rattle.std.specs.List.Sorted.{IsNonDecreasing};
+ghost use Rattle.std.specs.{Prelude.slice_index_or, Char.IsScalar, List.Sorted.IsNonDecreasing};
 ghost use Rattle.wax_compare.specs.Cuts.{AreLetters, AreUnlike};
 ghost use Rattle.wax_compare.specs.inner.Cutting.{AreKept, HasLetter, IsInBlock, Serve};
 

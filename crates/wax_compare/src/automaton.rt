@@ -1,35 +1,42 @@
 //! The states of a program that texts lead to.
-ghost use Rattle.std.specs.Prelude.{◌≡◌, ◌+◌, ◌*◌, ◌<◌, ◌≤◌, ◌↔◌, ◌⊎◌, ℕ, [], None, Contains, IfOk, IsTrue};
-ghost use Rattle.std.specs.Prelude.{length, slice_index, slice_set};
-ghost use Rattle.std.specs.Char.{IsScalar};
-ghost use Rattle.std.specs.HashMap.{get};
+ghost use Rattle.std.specs.Prelude.{◌≡◌, ◌+◌, ◌*◌, ◌<◌, ◌≤◌, ◌↔◌, ◌⊎◌, [], Contains, IfOk, IsTrue, length};
+ghost use Rattle.std.specs.{Prelude.{slice_index, slice_set}, Char.IsScalar};
 ghost use Rattle.std.specs.List.Sorted.{IsStrictlyIncreasing};
 ghost use Rattle.wax_program.specs.Threads.{AnyAmong};
-ghost use Rattle.wax_compare.specs.inner.Automata.{AcceptAlike, BeginsAsProgram, HasLearned, HasTextTo};
-ghost use Rattle.wax_compare.specs.inner.Automata.{IsAutomatonOf, LeadsToState, StatesStay, same_places};
-ghost use Rattle.wax_compare.specs.inner.Automata.{state_marks, state_places};
-ghost use Rattle.wax_compare.specs.inner.Distinctions.{IsUnmarked};
-ghost use Rattle.wax_compare.specs.Limit.{IsReachedState};
+ghost use Rattle.wax_states.specs.Indexed.{HasNone};
+ghost use Rattle.wax_compare.specs.inner.Automata.{BeginsAsProgram, HasLearned, IsAutomatonOf, LeadsToState};
+ghost use Rattle.wax_compare.specs.inner.Automata.{StatesStay, all_places, state_marks, state_places};
+ghost use Rattle.wax_compare.specs.{inner.Distinctions.IsUnmarked, Limit.IsReachedState};
 ghost use Rattle.wax_compare.specs.Selected.{CanSelect, HasOddLast, IsSelected};
 
 use crate::distinctions::Distinctions;
 use crate::wanted::Criterion;
 use std::alloc::{AllocError, Global};
-use std::collections::HashMap;
 use wax_program::{CompiledProgram, Meter};
-use wax_states::Stepper;
+use wax_states::{HasPlaces, Index, Stepper};
+
+/// The number of states for which there is room in the index from the beginning.
+const FEW_STATES: usize = 256;
 
 /// A state: places of the program that a text leads to.
 #[derive(Drop)]
 pub struct ProgramState {
     /// The places, ascending.
-    pub places: Vec<u32>,
+    pub places: Vec<usize>,
     /// True if a text that ends here is selected.
     pub is_selected: bool,
     /// Which letters are marked. All others lead to the same.
     pub marked: Vec<bool>,
     /// For each letter, the number of the next state plus 1, or 0 if it isn't known.
     pub next: Vec<u32>,
+}
+
+impl HasPlaces for ProgramState {
+    ghost places_of = { λ s. s.places.items };
+
+    fn places(&self) -> &[usize] {
+        &self.places
+    }
 }
 
 /// The states of a program, and where letters lead from them.
@@ -41,16 +48,10 @@ pub struct Automaton {
     pub stepper: Stepper,
     pub distinctions: Distinctions,
     pub states: Vec<ProgramState>,
-    /// The numbers of the states, by their places.
-    pub index: HashMap<Vec<u32>, usize>,
-    /// The places from which the last step began.
-    pub begun: Vec<usize>,
+    /// Finds the states by their places.
+    pub index: Index,
     /// The places that the last step reached.
     pub reached: Vec<usize>,
-    /// The second list that a step writes. It isn't read.
-    pub own: Vec<usize>,
-    /// The places that the last step reached, as those of a state.
-    pub sought: Vec<u32>,
     /// The numbers with which the program accepts a text that leads to the last state.
     pub numbers: Vec<usize>,
     /// The number of bytes that the states' places and rows take.
@@ -73,17 +74,15 @@ impl Automaton {
     {
         let stepper = Stepper::new(alloc, program)?;
         let distinctions = Distinctions::new(alloc, program, letters)?;
+        let index = Index::new(alloc, FEW_STATES)?;
         let mut automaton = Automaton {
             alloc,
             criterion,
             stepper,
             distinctions,
             states: Vec::new(alloc),
-            index: HashMap::new(alloc),
-            begun: Vec::new(alloc),
+            index,
             reached: vec![in alloc; 0usize]?,
-            own: Vec::new(alloc),
-            sought: Vec::new(alloc),
             numbers: Vec::new(alloc),
             bytes: 0,
             meter: Meter::new(),
@@ -114,14 +113,11 @@ impl Automaton {
             return Ok(known as usize - 1);
         }
         let letter = letter_at(letters, number);
-        copy_wide(&self.states[state].places, &mut self.begun)?;
-        self.stepper.step(
+        self.stepper.reach(
             program,
-            &self.begun,
+            &self.states[state].places,
             letter,
-            &[],
             &mut self.reached,
-            &mut self.own,
             &mut self.meter,
         )?;
         let next = self.intern(program, letters)?;
@@ -132,17 +128,16 @@ impl Automaton {
     /// Finds or adds the state with the places that were reached.
     fn intern(&mut self, program: &CompiledProgram, letters: &[char]) -> Result<usize, AllocError>
         requires automaton { IsAutomatonOf program.now.0 letters.now self.old }
-        requires text { HasTextTo program.now.0 self.old.reached.items }
+        requires state { IsReachedState program.now.0 self.old.reached.items }
         ensures automaton { IfOk result (λ _. IsAutomatonOf program.now.0 letters.now self.new) }
         ensures kept { IfOk result (λ _. StatesStay self.old.states.items self.new.states.items) }
         ensures criterion { IfOk result (λ _. self.new.criterion ≡ self.old.criterion) }
         ensures zeroth { IfOk result (λ n. length self.old.states.items ≡ 0 → n ≡ 0) }
         ensures within { IfOk result (λ n. n < length self.new.states.items) }
-        ensures places { IfOk result (λ n. AcceptAlike program.now.0
-            (state_places self.new.states.items n) self.old.reached.items) }
+        ensures places { IfOk result (λ n.
+            state_places self.new.states.items n ≡ self.old.reached.items) }
     {
-        copy_ascending(&self.reached, program.size(), &mut self.sought)?;
-        match self.index.get(&self.sought).copied() {
+        match self.index.find(&self.states, &self.reached) {
             Some(number) => Ok(number),
             None => self.add(program, letters),
         }
@@ -176,19 +171,18 @@ impl Automaton {
         number < marked.len() && !marked[number]
     }
 
-    /// Adds a state with the places that are sought, and returns its number.
+    /// Adds a state with the places that were reached, and returns its number.
     fn add(&mut self, program: &CompiledProgram, letters: &[char]) -> Result<usize, AllocError>
         requires automaton { IsAutomatonOf program.now.0 letters.now self.old }
-        requires state { IsReachedState program.now.0 self.old.sought.items }
-        requires alike { AcceptAlike program.now.0 self.old.sought.items self.old.reached.items }
-        requires absent { get same_places self.old.index self.old.sought ≡ None }
+        requires state { IsReachedState program.now.0 self.old.reached.items }
+        requires absent { HasNone (all_places self.old.states.items) self.old.reached.items }
         ensures automaton { IfOk result (λ _. IsAutomatonOf program.now.0 letters.now self.new) }
         ensures kept { IfOk result (λ _. StatesStay self.old.states.items self.new.states.items) }
         ensures criterion { IfOk result (λ _. self.new.criterion ≡ self.old.criterion) }
         ensures number { IfOk result (λ n. n ≡ length self.old.states.items) }
         ensures within { IfOk result (λ n. n < length self.new.states.items) }
         ensures places { IfOk result (λ n.
-            state_places self.new.states.items n ≡ self.old.sought.items) }
+            state_places self.new.states.items n ≡ self.old.reached.items) }
     {
         let number = self.states.len();
         let is_selected = selects(
@@ -205,16 +199,16 @@ impl Automaton {
         let next = vec![in self.alloc; 0u32; letters.len()]?;
         self.bytes = self
             .bytes
-            .saturating_add(bytes_of(self.sought.len(), letters.len()));
-        let places = Vec::from_slice(self.alloc, &self.sought)?;
-        let key = Vec::from_slice(self.alloc, &self.sought)?;
-        self.index.insert(key, number)?;
-        self.states.push(ProgramState {
+            .saturating_add(bytes_of(self.reached.len(), letters.len()));
+        let places = Vec::from_slice(self.alloc, &self.reached)?;
+        let state = ProgramState {
             places,
             is_selected,
             marked,
             next,
-        })?;
+        };
+        self.index.enter(&self.states, &state)?;
+        self.states.push(state)?;
         Ok(number)
     }
 }
@@ -234,55 +228,6 @@ fn learn(states: &mut Vec<ProgramState>, state: usize, number: usize, next: usiz
     ensures { HasLearned states.old.items states.new.items state number next }
 {
     fill_row(&mut states[state].next, number, next);
-}
-
-/// Copies places of a state into a list as a step reads it.
-fn copy_wide(places: &[u32], wide: &mut Vec<usize>) -> Result<(), AllocError>
-    ensures { IfOk result (λ _. wide.new.items ≡ places.now) }
-{
-    wide.clear();
-    for place in places {
-        wide.push(*place as usize)?;
-    }
-    Ok(())
-}
-
-/// Copies the places up to the greatest one that a program has, its end, in ascending order and each once.
-///
-/// # Errors
-///
-/// Returns `AllocError` if allocation fails, or if such a place has more than 32 bits.
-fn copy_ascending(places: &[usize], end: usize, copy: &mut Vec<u32>) -> Result<(), AllocError>
-    ensures ascending { IfOk result (λ _. IsStrictlyIncreasing copy.new.items) }
-    ensures same { IfOk result (λ _. (k : ℕ)
-        → Contains copy.new.items k ↔ (Contains places.now k × (k ≤ end))) }
-{
-    copy_up_to(places, end, copy)?;
-    copy.sort_unstable();
-    copy.dedup();
-    Ok(())
-}
-
-/// Copies the places up to the end of a program.
-///
-/// # Errors
-///
-/// Returns `AllocError` if allocation fails, or if such a place has more than 32 bits.
-fn copy_up_to(places: &[usize], end: usize, copy: &mut Vec<u32>) -> Result<(), AllocError>
-    ensures { IfOk result (λ _. (k : ℕ)
-        → Contains copy.new.items k ↔ (Contains places.now k × (k ≤ end))) }
-{
-    copy.clear();
-    for place in places {
-        if *place > end {
-            continue;
-        }
-        if *place > u32::MAX as usize {
-            return Err(AllocError);
-        }
-        copy.push(*place as u32)?;
-    }
-    Ok(())
 }
 
 /// Returns whether a text that leads to the places and ends there is selected. Writes into `numbers`.

@@ -26,7 +26,9 @@ impl Closure {
         })
     }
 
-    /// Lists what is read from `places` on. Returns `false` if not all of it is listed, which can't be.
+    /// Lists what is read from `places` on. Returns whether all of it is listed. It always is, since no
+    /// place is listed twice; returning it saves the proof that the places are no more than the program
+    /// has.
     pub fn list(&mut self, program: &CompiledProgram, places: &[usize]) -> Result<bool, AllocError>
         requires { length self.old.index.items ≡ length program.now.0 }
         ensures room { IfOk result (λ _. length self.new.index.items ≡ length program.now.0) }

@@ -1,7 +1,6 @@
 //! What can be compared: whatever selects texts by a program.
 ghost use Rattle.std.specs.Prelude.{◌↔◌, ℕ, List, IfOk};
-ghost use Rattle.wax_compare.specs.Comparison.{IsAnswer, IsWanted};
-ghost use Rattle.wax_compare.specs.Limit.{KeepsLimitBy};
+ghost use Rattle.wax_compare.specs.{Comparison.{IsAnswer, IsWanted}, Limit.KeepsLimitBy};
 ghost use Rattle.wax_compare.specs.Selected.{CanSelect, IsSelected};
 ghost use Rattle.wax_compare.specs.declared.wanted.Wanted.TheVariants.{Both, FirstOnly, OneOnly};
 ghost use Rattle.wax_program.specs.Machine.{Accepts};

@@ -4,10 +4,8 @@ ghost use Rattle.std.specs.Prelude.{string_bytes};
 ghost use Rattle.wax_program.specs.Machine.{Accepts};
 ghost use Rattle.wax_compare.specs.Cuts.{AreLetters, AreUnlike};
 ghost use Rattle.wax_compare.specs.Comparison.{IsAnswer, IsShortest, IsWanted};
-ghost use Rattle.wax_compare.specs.Limit.{KeepsLimit, ReachesMore};
-ghost use Rattle.wax_compare.specs.Selected.{CanSelect, IsSelected};
-ghost use Rattle.wax_compare.specs.declared.finding.Followed.TheVariants.{OverLimit};
-ghost use Rattle.wax_compare.specs.inner.Going.{starts};
+ghost use Rattle.wax_compare.specs.{Limit.{KeepsLimit, ReachesMore}, Selected.{CanSelect, IsSelected}};
+ghost use Rattle.wax_compare.specs.{declared.finding.Followed.TheVariants.OverLimit, inner.Going.starts};
 ghost use Rattle.wax_compare.specs.inner.Reaching.{BeginAsPrograms};
 ghost use Rattle.wax_compare.specs.inner.Searching.{AreAutomataOf, IsSameSearch, KeepsBoth, WantedText};
 ghost use Rattle.wax_compare.specs.inner.Searching.{readings};
@@ -209,7 +207,8 @@ fn text_at(
 }
 
 /// Follows the pair with this number by every letter, until the text that ends after one is wanted or
-/// more was reached than the limit allows. Of the usual letters it follows only the first.
+/// more was reached than the limit allows. Of the letters that the pair doesn't distinguish it follows
+/// only the first.
 fn follow(
     first: &CompiledProgram,
     second: &CompiledProgram,
@@ -229,16 +228,16 @@ fn follow(
         → ReachesMore first.now.0 second.now.0 search.old.texts most_states) }
 {
     let pair = pairs.reached[at].pair;
-    let mut has_usual = false;
+    let mut has_alike = false;
     for number in 0..search.letters.len() {
-        let is_usual = search.is_usual(pair, number);
-        if is_usual && has_usual {
+        let is_alike = search.is_undistinguished(pair, number);
+        if is_alike && has_alike {
             continue;
         }
         if is_over(search, pairs, most_states) {
             return Ok(Followed::OverLimit);
         }
-        has_usual = has_usual || is_usual;
+        has_alike = has_alike || is_alike;
         let letter = search.letters[number];
         if visit(first, second, search, pairs, at, number, letter)? {
             return Ok(Followed::Ends(number));

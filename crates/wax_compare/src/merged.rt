@@ -1,8 +1,7 @@
 //! Letters that pass the same tests, of which one is enough.
 ghost use Rattle.std.specs.Prelude.{◌≡◌, ◌↔◌, ◌<◌, ℕ, Contains, IfOk, IsTrue, length, slice_index};
 ghost use Rattle.wax_program.specs.Machine.{PassesTest};
-ghost use Rattle.wax_compare.specs.Cuts.{AreUnlike, HasStandIn, StandsFor};
-ghost use Rattle.wax_compare.specs.inner.Cutting.{AreKept};
+ghost use Rattle.wax_compare.specs.{Cuts.{AreUnlike, HasStandIn, StandsFor}, inner.Cutting.AreKept};
 ghost use Rattle.wax_compare.specs.inner.Merging.{AgreeAt, AgreeBefore, AreKeptLetters, IsDigestBefore};
 ghost use Rattle.wax_compare.specs.inner.Merging.{IsDigestOf, PassesAt, stirred};
 

@@ -1,12 +1,10 @@
 //! Steps of two programs at once.
 ghost use Rattle.std.specs.Prelude.{◌≡◌, ◌≢◌, ◌<◌, ◌↔◌, [], IfOk, IsTrue, length, slice_index};
-ghost use Rattle.wax_compare.specs.Comparison.{AsWanted};
-ghost use Rattle.wax_compare.specs.declared.wanted.Wanted.TheVariants.{Both, OneOnly};
-ghost use Rattle.wax_compare.specs.inner.Going.{IsAllowed, begun_after};
-ghost use Rattle.wax_compare.specs.inner.Automata.{state_places};
+ghost use Rattle.wax_compare.specs.{Comparison.AsWanted, declared.wanted.Wanted.TheVariants.{Both, OneOnly}};
+ghost use Rattle.wax_compare.specs.{inner.Going.{IsAllowed, begun_after}, inner.Automata.state_places};
 ghost use Rattle.wax_compare.specs.inner.Reaching.{GoesFrom};
-ghost use Rattle.wax_compare.specs.inner.Searching.{AreAutomataOf, IsNextOrNone, IsSameSearch, IsUsual};
-ghost use Rattle.wax_compare.specs.inner.Searching.{KeepsBoth, readings};
+ghost use Rattle.wax_compare.specs.inner.Searching.{AreAutomataOf, IsNextOrNone, IsSameSearch};
+ghost use Rattle.wax_compare.specs.inner.Searching.{IsUndistinguished, KeepsBoth, readings};
 
 use crate::automaton::Automaton;
 use crate::pairs::StatePair;
@@ -84,13 +82,13 @@ impl Search {
         is_as_wanted(self.wanted, by_first, by_second)
     }
 
-    /// Returns whether a letter is usual in a pair: it isn't `/`, and neither state marks it. All usual
-    /// letters lead to the same.
-    pub fn is_usual(&self, pair: StatePair, number: usize) -> bool
+    /// Returns whether a pair doesn't distinguish a letter: it isn't `/`, and neither state marks it. All
+    /// such letters lead to the same pair.
+    pub fn is_undistinguished(&self, pair: StatePair, number: usize) -> bool
         requires first { pair.first < length self.now.first.states.items }
         requires second { pair.second < length self.now.second.states.items }
         requires number { number < length self.now.letters.items }
-        ensures { IsTrue result → IsUsual self.now pair number }
+        ensures { IsTrue result → IsUndistinguished self.now pair number }
     {
         self.letters[number] != '/'
             && self.first.is_unmarked(pair.first, number)

@@ -4,8 +4,7 @@ use Rattle.std.proofs.Common.{sym, zero}
 use Rattle.wax_query.specs.Components.{slashes}
 use Rattle.wax_token.proofs.Copies.{Many, many_add}
 use Rattle.wax_components.specs.inner.Shapes.{Shape, empty, ended, joined_shape, shape}
-use Rattle.wax_components.proofs.Basics.{suc_mul}
-use Rattle.wax_components.proofs.Shapes.{shape_append, slashes_append}
+use Rattle.wax_components.proofs.{Basics.suc_mul, Shapes.{shape_append, slashes_append}}
 
 pub again : ℕ → List ℕ → List ℕ
 again zero w = []

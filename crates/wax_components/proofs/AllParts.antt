@@ -1,16 +1,14 @@
 -- Each part of the tokens that can't be made longer is among the components.
-use Rattle.std.proofs.Common.{◌≡◌, ◌⊎◌, ℕ, suc, ◌+◌, ◌<◌, ◌||◌, ◌&&◌, Bool, true, false, not, List, [], ◌∷◌}
-use Rattle.std.proofs.Common.{◌++◌, take, length}
+use Rattle.std.proofs.Common.{◌≡◌, ◌⊎◌, ℕ, suc, ◌+◌, ◌||◌, Bool, true, false, not, List, [], ◌∷◌, ◌++◌, take}
 use Rattle.std.proofs.Common.{refl, sym, ◌∙◌, ap, subst, arith, inl, inr}
 use Rattle.std.proofs.lemmas.Bool.{and_parts, false≢true}
 use Rattle.std.proofs.lemmas.List.Elements.{Contains-append_left, Contains-append_right, Contains-push}
 use Rattle.std.specs.List.{Contains, before_first, list_all, position_or_len}
 use Rattle.wax_token.specs.Kinds.{is_boundary, is_separator, is_tree_wildcard}
-use Rattle.wax_token.specs.Syntax.{Leaf, literal, class, separator, one, zero_or_more, tree, Tree, leaf}
+use Rattle.wax_token.specs.Syntax.{literal, class, separator, one, zero_or_more, tree, Tree, leaf}
 use Rattle.wax_token.specs.Syntax.{alternation, concatenation, repetition}
 use Rattle.wax_components.specs.Parts.{IsComponent, IsLongest, IsRun, IsTreeAlone, begins_with_boundary}
-use Rattle.wax_components.specs.Parts.{begun, components_in}
-use Rattle.wax_components.specs.Parts.{ends_with_boundary}
+use Rattle.wax_components.specs.Parts.{begun, components_in, ends_with_boundary}
 
 no_separator : {A : Type 0} (t : Tree A) → is_tree_wildcard t ≡ true → is_separator t ≡ false
 no_separator (leaf a (literal insensitive s)) e = refl

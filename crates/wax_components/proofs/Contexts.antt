@@ -2,17 +2,14 @@
 use Rattle.std.proofs.Common.{◌++◌, ◌+◌, ◌-◌, ◌<◌, ◌∙◌, ◌∷◌, ◌≡◌, ◌≤◌, Bool, List, Option, ℕ, [], ap, arith}
 use Rattle.std.proofs.Common.{drop, drop-cons, false, get_or, length, refl, subst, suc, sym, true, zero}
 use Rattle.wax_query.specs.Components.{slash, slashes}
-use Rattle.wax_token.specs.Syntax.{Tree}
-use Rattle.wax_token.specs.Words.{trees}
-use Rattle.wax_components.specs.declared.profile.Profile.{Profile}
-use Rattle.wax_components.specs.declared.profiles.Profiles.{Profiles}
+use Rattle.wax_token.specs.{Syntax.Tree, Words.trees}
+use Rattle.wax_components.specs.{declared.profile.Profile.Profile, declared.profiles.Profiles.Profiles}
 use Rattle.wax_components.specs.inner.Profiles.{concatenated, empty_text, only, power_range, single, union}
 use Rattle.wax_components.specs.inner.Saturation.{ProfilesOf, either_profile, in_context, profiles, saturated}
 use Rattle.wax_components.specs.inner.Saturation.{saturated_beside, saturated_repeated}
 use Rattle.wax_components.specs.inner.Shapes.{Shape, empty, ended, joined_shape, shape}
 use Rattle.wax_components.specs.inner.TreeProfiles.{admits, admits_two, each_profile, less_two}
-use Rattle.wax_components.specs.inner.TreeProfiles.{repeated_profile}
-use Rattle.wax_components.specs.inner.TreeProfiles.{some_profile, tree_profile, two_or_more}
+use Rattle.wax_components.specs.inner.TreeProfiles.{repeated_profile, some_profile, tree_profile, two_or_more}
 use Rattle.wax_components.proofs.Saturation.{Close, concatenated_close, only_close, power_range_close}
 use Rattle.wax_components.proofs.Saturation.{saturated_twice, union_close}
 use Rattle.wax_components.proofs.Shapes.{shape_append, slashes_append}

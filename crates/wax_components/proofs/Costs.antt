@@ -2,16 +2,13 @@
 use Rattle.std.proofs.Common.{◌≡◌, ◌*◌, ◌++◌, ◌+◌, ◌==◌, ◌∷◌, ◌≤◌, Bool, List, None, Option, Some, ℕ, [], ap}
 use Rattle.std.proofs.Common.{arith, false, inl, inr, length, refl, suc, true, zero}
 use Rattle.std.proofs.Math.Nat.{mul-le-mul_left, mul-le-mul_right}
-use Rattle.wax_query.specs.Components.{component_total, slash, slashes}
-use Rattle.wax_query.specs.Ranges.{Bounds, AtMost}
+use Rattle.wax_query.specs.{Components.{component_total, slash, slashes}, Ranges.{Bounds, AtMost}}
 use Rattle.wax_token.specs.Cost.{branches_cost, copies_of, cost, costs, holds_tree, leaf_cost}
 use Rattle.wax_token.specs.Meaning.{Copies, LeafMeans, Means, MeansEach, MeansSome, TreeMeans}
 use Rattle.wax_token.specs.Syntax.{Leaf, Tree, Trees, alternation, class, concatenation, leaf, literal, more}
 use Rattle.wax_token.specs.Syntax.{none, one, repetition, separator, tree, zero_or_more}
 use Rattle.wax_components.specs.Depth.{Depth, HasComponents, thinned, thinned_each, thinned_leaf}
-use Rattle.wax_components.proofs.Basics.{bit_at_most, suc_mul}
-use Rattle.wax_components.proofs.DepthLiterals.{itself}
-use Rattle.wax_components.proofs.Shapes.{slashes_append}
+use Rattle.wax_components.proofs.{Basics.{bit_at_most, suc_mul}, DepthLiterals.itself, Shapes.slashes_append}
 use Rattle.wax_components.proofs.Singles.{OneCharacter, letter}
 
 -- ---- some text has few `/`

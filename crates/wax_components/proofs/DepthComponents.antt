@@ -3,16 +3,13 @@ use Rattle.std.proofs.Common.{if◌then◌else◌, ◌+◌, ◌-◌, ◌==◌, �
 use Rattle.std.proofs.Common.{Option, Some, ℕ, [], ap, arith, false, inl, inr, refl, sym, true}
 use Rattle.wax_query.specs.Components.{component_total, first_slash, last_slash, slashes}
 use Rattle.wax_token.specs.Syntax.{Tree}
-use Rattle.wax_components.specs.Depth.{Depth, HasComponents, IsGreatest}
-use Rattle.wax_components.specs.declared.profile.Profile.{Profile}
+use Rattle.wax_components.specs.{Depth.{Depth, HasComponents, IsGreatest}, declared.profile.Profile.Profile}
 use Rattle.wax_components.specs.inner.Intervals.{Interval, hull, or_zero}
 use Rattle.wax_components.specs.inner.Shapes.{Shape, empty, ended, joined_shape, shape}
 use Rattle.wax_components.specs.inner.TreeProfiles.{component_bound, component_count, component_hull}
 use Rattle.wax_components.specs.inner.TreeProfiles.{component_interval, tree_profile}
-use Rattle.wax_components.proofs.Exact.{Exact, Has}
-use Rattle.wax_components.proofs.Hulls.{IsHull, hull_same, hull_union}
-use Rattle.wax_components.proofs.Shapes.{shape_empty, shape_of_some}
-use Rattle.wax_components.proofs.Trees.{exact_tree_profile}
+use Rattle.wax_components.proofs.{Exact.{Exact, Has}, Hulls.{IsHull, hull_same, hull_union}}
+use Rattle.wax_components.proofs.{Shapes.{shape_empty, shape_of_some}, Trees.exact_tree_profile}
 
 first_is : (c : ℕ) (s : List ℕ) (x y : Bool) → shape (c ∷ s) ≡ ended x y
     → first_slash (c ∷ s) ≡ (if x then 1 else 0)

@@ -2,11 +2,9 @@
 use Rattle.std.proofs.Common.{◌≡◌, ◌∷◌, Bool, List, None, Option, Some, ℕ, [], codes, false, refl, subst}
 use Rattle.std.proofs.Common.{true}
 use Rattle.wax_token.specs.Syntax.{Tree, alternation, concatenation, leaf, literal, repetition, separator}
-use Rattle.wax_token.specs.Syntax.{tree, zero_or_more}
-use Rattle.wax_token.specs.Words.{trees}
+use Rattle.wax_token.specs.{Syntax.{tree, zero_or_more}, Words.trees}
 use Rattle.wax_token.specs.declared.token.Evaluation.TheVariants.{Eager}
-use Rattle.wax_components.specs.Depth.{Depth}
-use Rattle.wax_components.specs.inner.Intervals.{or_zero}
+use Rattle.wax_components.specs.{Depth.Depth, inner.Intervals.or_zero}
 use Rattle.wax_components.specs.inner.TreeProfiles.{component_hull, tree_profile}
 use Rattle.wax_components.proofs.DepthComponents.{depth_exact}
 

@@ -6,8 +6,7 @@ use Rattle.wax_token.proofs.Copies.{OneThen}
 use Rattle.wax_components.specs.declared.profile.Profile.{Profile}
 use Rattle.wax_components.specs.inner.Intervals.{Interval, hull, interval_sum}
 use Rattle.wax_components.specs.inner.Profiles.{interval_at, concatenated, concatenated_at, empty_text}
-use Rattle.wax_components.specs.inner.Profiles.{no_text, profile}
-use Rattle.wax_components.specs.inner.Profiles.{union}
+use Rattle.wax_components.specs.inner.Profiles.{no_text, profile, union}
 use Rattle.wax_components.specs.inner.Shapes.{Shape, empty, ended, joined_shape, shape}
 use Rattle.wax_components.proofs.Hulls.{IsHull, Plus, hull_same, hull_sum, hull_union}
 use Rattle.wax_components.proofs.Shapes.{both_empty, joined_from, not_ended, shape_append, slashes_append}

@@ -1,11 +1,9 @@
 -- Of a tree whose cost is small, the numbers are the depth itself.
 use Rattle.std.proofs.Common.{◌∙◌, ◌≡◌, ◌≤◌, None, Option, Some, ℕ, ap, arith, min, refl, subst, sym}
 use Rattle.wax_query.specs.Ranges.{Bounds}
-use Rattle.wax_token.specs.Cost.{cost}
-use Rattle.wax_token.specs.Syntax.{Tree}
+use Rattle.wax_token.specs.{Cost.cost, Syntax.Tree}
 use Rattle.wax_components.specs.Depth.{Depth, SaturatedDepth, saturated_bound, usize_max}
-use Rattle.wax_components.proofs.Costs.{least_bounded}
-use Rattle.wax_components.proofs.Pumping.{greatest_bounded}
+use Rattle.wax_components.proofs.{Costs.least_bounded, Pumping.greatest_bounded}
 
 within_word : (n : ℕ) → n ≤ 1048576 → min n usize_max ≡ n
 within_word n le = omega (arith, le)

@@ -1,12 +1,9 @@
 -- Level after level gives all globs.
 use Rattle.std.proofs.Common.{◌≡◌, ℕ, zero, suc, ◌+◌, ◌<◌, ◌≤◌, List, [], ◌∷◌, ◌++◌, length, refl, sym, ◌∙◌}
-use Rattle.std.proofs.Common.{ap, arith, append-nil}
-use Rattle.std.proofs.lemmas.List.{append_assoc}
-use Rattle.std.proofs.lemmas.Grind.{flat_map-append}
+use Rattle.std.proofs.{Common.{ap, arith, append-nil}, lemmas.List.append_assoc, lemmas.Grind.flat_map-append}
 use Rattle.std.specs.List.{flat_map}
 use Rattle.wax_token.specs.Syntax.{Tree, leaf, alternation, concatenation, repetition, Trees, none, more}
-use Rattle.wax_token.specs.Syntax.{tree_size, trees_size}
-use Rattle.wax_token.specs.Words.{listed}
+use Rattle.wax_token.specs.{Syntax.{tree_size, trees_size}, Words.listed}
 use Rattle.wax_components.specs.Levels.{sub_globs_in, sub_globs, globs_at, globs_to}
 
 -- ---- how much is left

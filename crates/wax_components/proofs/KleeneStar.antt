@@ -1,8 +1,7 @@
 -- Any number of copies: two or fewer have the least numbers, and a copy with a `/` passes every number.
 use Rattle.std.proofs.Common.{◌⊎◌, if◌then◌else◌, ◌*◌, ◌++◌, ◌+◌, ◌||◌, ◌∙◌, ◌∷◌, ◌≡◌, ◌≤◌, Bool, List, None}
 use Rattle.std.proofs.Common.{Some, ℕ, [], ap, append-nil, arith, false, inl, inr, refl, subst, suc, sym}
-use Rattle.std.proofs.Common.{true, zero}
-use Rattle.std.proofs.lemmas.Bool.{or_parts}
+use Rattle.std.proofs.{Common.{true, zero}, lemmas.Bool.or_parts}
 use Rattle.wax_query.specs.Components.{slashes}
 use Rattle.wax_token.proofs.Copies.{AnyNumber, Many, OneThen, many_add}
 use Rattle.wax_components.specs.declared.profile.Profile.{Profile}
@@ -10,8 +9,7 @@ use Rattle.wax_components.specs.inner.Intervals.{Interval, exceeds_zero, unbound
 use Rattle.wax_components.specs.inner.Profiles.{interval_at, concatenated, empty_text, has_slash, kleene_star}
 use Rattle.wax_components.specs.inner.Profiles.{unbounded_profile, union}
 use Rattle.wax_components.specs.inner.Shapes.{Shape, empty, ended, joined_shape, shape}
-use Rattle.wax_components.proofs.Again.{again, again_many, again_slashes}
-use Rattle.wax_components.proofs.Basics.{either}
+use Rattle.wax_components.proofs.{Again.{again, again_many, again_slashes}, Basics.either}
 use Rattle.wax_components.proofs.Exact.{Exact, Has, exact_concatenated, exact_empty_text, exact_union}
 use Rattle.wax_components.proofs.Hulls.{IsHull, hull_same}
 use Rattle.wax_components.proofs.Shapes.{between_ends, shape_append, shape_empty, shape_of_some}

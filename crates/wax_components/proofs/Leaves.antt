@@ -3,13 +3,10 @@ use Rattle.std.proofs.Common.{◌∷◌, ◌≡◌, Bool, [], ap, refl, true}
 use Rattle.wax_query.specs.Components.{slashes}
 use Rattle.wax_token.specs.Meaning.{LeafMeans, SameText}
 use Rattle.wax_token.specs.Syntax.{Leaf, class, literal, one, separator, tree, zero_or_more}
-use Rattle.wax_components.specs.Depth.{thinned_leaf}
-use Rattle.wax_components.specs.inner.Shapes.{ended, shape}
+use Rattle.wax_components.specs.{Depth.thinned_leaf, inner.Shapes.{ended, shape}}
 use Rattle.wax_components.specs.inner.TreeProfiles.{leaf_profile}
-use Rattle.wax_components.proofs.Exact.{Exact}
-use Rattle.wax_components.proofs.DepthLiterals.{itself, same_text}
-use Rattle.wax_components.proofs.Singles.{exact_character, exact_single}
-use Rattle.wax_components.proofs.TreeWildcards.{exact_tree}
+use Rattle.wax_components.proofs.{Exact.Exact, DepthLiterals.{itself, same_text}}
+use Rattle.wax_components.proofs.{Singles.{exact_character, exact_single}, TreeWildcards.exact_tree}
 
 pub exact_leaf : (l : Leaf) (before after : Bool)
     → Exact (leaf_profile l before after) (LeafMeans (thinned_leaf l) before after)

@@ -1,8 +1,7 @@
 -- Copies by halves.
 use Rattle.std.proofs.Common.{◌%◌, ◌+◌, ◌/◌, ◌<◌, ◌≡◌, ◌≤◌, List, ℕ, arith, refl, subst, suc, sym, zero}
 use Rattle.wax_token.proofs.Copies.{Many, OneThen, many_add, many_split}
-use Rattle.wax_components.specs.declared.profile.Profile.{Profile}
-use Rattle.wax_components.specs.inner.Profiles.{doubled, power, power_in}
+use Rattle.wax_components.specs.{declared.profile.Profile.Profile, inner.Profiles.{doubled, power, power_in}}
 use Rattle.wax_components.proofs.Exact.{Exact, exact_concatenated, exact_empty_text, exact_same}
 
 many_same : (P : List ℕ → Type 0) (m n : ℕ) (s : List ℕ) → m ≡ n → Many P m s → Many P n s

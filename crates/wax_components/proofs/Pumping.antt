@@ -2,12 +2,11 @@
 use Rattle.std.proofs.Common.{◌*◌, ◌++◌, ◌+◌, ◌==◌, ◌||◌, ◌∙◌, ◌∷◌, ◌≡◌, ◌≤◌, ◌⊎◌, Bool, List, None, Some, ℕ}
 use Rattle.std.proofs.Common.{[], ap, arith, false, inl, inr, refl, suc, sym, true, zero}
 use Rattle.std.proofs.Math.Nat.{mul-le-mul_left, mul-le-mul_right}
-use Rattle.wax_query.specs.Components.{component_total, last_slash, slashes}
+use Rattle.wax_query.specs.{Components.{component_total, last_slash, slashes}, Ranges.AtMost}
 use Rattle.wax_token.proofs.Copies.{Many, OneThen, same_from, same_to, tail_from, tail_to}
 use Rattle.wax_token.proofs.Moved.{means_moved}
 use Rattle.wax_token.specs.Cost.{branches_cost, copies_of, cost, costs, holds_tree, is_tree, leaf_cost}
 use Rattle.wax_token.specs.Cost.{some_holds_tree}
-use Rattle.wax_query.specs.Ranges.{AtMost}
 use Rattle.wax_token.specs.Meaning.{Copies, LeafMeans, Means, MeansEach, MeansSome, TreeMeans}
 use Rattle.wax_token.specs.Syntax.{Leaf, Tree, Trees, alternation, class, concatenation, leaf, literal, more}
 use Rattle.wax_token.specs.Syntax.{none, one, repetition, separator, tree, zero_or_more}
@@ -16,9 +15,7 @@ use Rattle.wax_components.specs.inner.Shapes.{Shape, ended, joined_shape, shape}
 use Rattle.wax_components.specs.inner.TreeProfiles.{tree_allows}
 use Rattle.wax_components.proofs.Again.{again, again_many, again_shape, again_slashes}
 use Rattle.wax_components.proofs.Basics.{bit_at_most, suc_mul, zero_or_some}
-use Rattle.wax_components.proofs.Costs.{few_components, slashes_length}
-use Rattle.wax_components.proofs.Exact.{Has}
-use Rattle.wax_components.proofs.DepthLiterals.{same_text}
+use Rattle.wax_components.proofs.{Costs.{few_components, slashes_length}, Exact.Has, DepthLiterals.same_text}
 use Rattle.wax_components.proofs.Shapes.{shape_append, shape_of_some, slashes_append, some_shape}
 use Rattle.wax_components.proofs.TreeWildcards.{Anything, long, tree_from, tree_to}
 

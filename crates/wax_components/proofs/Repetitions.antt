@@ -1,8 +1,7 @@
 -- The profiles of repetitions.
 use Rattle.std.proofs.Common.{if◌then◌else◌, ◌++◌, ◌+◌, ◌-◌, ◌∙◌, ◌≡◌, ◌≤◌, ◌⊎◌, Bool, List, None, Option}
 use Rattle.std.proofs.Common.{Some, ℕ, [], ap, arith, false, inl, inr, nat_le, refl, subst, suc, sym, true}
-use Rattle.std.proofs.Common.{zero}
-use Rattle.std.proofs.lemmas.Bool.{and_from}
+use Rattle.std.proofs.{Common.zero, lemmas.Bool.and_from}
 use Rattle.wax_token.proofs.Copies.{Many, ManyWithin, OneThen, Repeats, TwoMore, many_add, many_split}
 use Rattle.wax_token.proofs.Copies.{open_from, open_to, two_more_from, two_more_to}
 use Rattle.wax_query.specs.Ranges.{AtMost}
@@ -14,9 +13,7 @@ use Rattle.wax_components.specs.inner.TreeProfiles.{admits, admits_two, less_two
 use Rattle.wax_components.specs.inner.TreeProfiles.{two_or_more}
 use Rattle.wax_components.proofs.Basics.{both_true, le_from, le_to, not_le_from, not_true}
 use Rattle.wax_components.proofs.Exact.{Exact, exact_concatenated, exact_empty_text, exact_no_text}
-use Rattle.wax_components.proofs.Exact.{exact_same}
-use Rattle.wax_components.proofs.Exact.{exact_union}
-use Rattle.wax_components.proofs.KleeneStar.{OrNone, exact_kleene_star}
+use Rattle.wax_components.proofs.{Exact.{exact_same, exact_union}, KleeneStar.{OrNone, exact_kleene_star}}
 use Rattle.wax_components.proofs.Powers.{exact_power}
 
 module _ {r : Profile} {P : List ℕ → Type 0} (f : Exact r P) where

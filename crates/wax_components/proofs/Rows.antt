@@ -1,14 +1,9 @@
 -- Worked examples: the trees that expressions spell, and what the definitions say of them.
 use Rattle.std.proofs.Common.{◌≡◌, ℕ, false, true, List, [], ◌∷◌, refl, codes}
-use Rattle.wax_token.specs.declared.token.Evaluation.TheVariants.{Eager}
-use Rattle.wax_token.specs.Reads.{Span}
+use Rattle.wax_token.specs.{declared.token.Evaluation.TheVariants.Eager, Reads.Span}
 use Rattle.wax_token.specs.Syntax.{Tree, leaf, alternation, concatenation, literal, separator, zero_or_more}
-use Rattle.wax_token.specs.Syntax.{tree}
-use Rattle.wax_token.specs.Words.{trees}
-use Rattle.wax_components.specs.Capturing.{captures}
-use Rattle.wax_components.specs.Parts.{components}
-use Rattle.wax_components.specs.Views.{SemanticView}
-use Rattle.wax_components.specs.Warnings.{warnings}
+use Rattle.wax_token.specs.{Syntax.tree, Words.trees}
+use Rattle.wax_components.specs.{Capturing.captures, Parts.components, Views.SemanticView, Warnings.warnings}
 use Rattle.wax_components.specs.declared.warnings.Warning.TheVariants.{SemanticLiteral, TerminatingSeparator}
 
 -- a glob or sub-glob of these tokens

@@ -6,10 +6,9 @@ use Rattle.std.proofs.lemmas.List.{append_assoc, take-append-drop, drop_more, dr
 use Rattle.std.proofs.lemmas.List.Elements.{All-append, All-cons, All-nil}
 use Rattle.std.proofs.lemmas.List.Sums.{prefix_len-le-length}
 use Rattle.std.specs.List.{All, before_first, list_all, position_or_len}
-use Rattle.wax_token.specs.Syntax.{Tree}
+use Rattle.wax_token.specs.{Syntax.Tree, Kinds.{is_boundary, is_separator, is_tree_wildcard}}
 use Rattle.wax_components.specs.Parts.{IsComponent, begun, components_in, begins_with_boundary}
 use Rattle.wax_components.specs.Parts.{ends_with_boundary}
-use Rattle.wax_token.specs.Kinds.{is_boundary, is_separator, is_tree_wildcard}
 
 past_one : {X : Type 0} (n : ℕ) (x : X) (xs : List X) → drop (1 + n) (x ∷ xs) ≡ drop n xs
 past_one n x xs = let e : 1 + n ≡ suc n = omega arith in ap (λ k. drop k (x ∷ xs)) e

@@ -3,15 +3,11 @@ use Rattle.std.proofs.Common.{if◌then◌else◌, ◌%◌, ◌-◌, ◌/◌, �
 use Rattle.std.proofs.Common.{Some, ℕ, ap, arith, false, min, nat_le, refl, subst, suc, sym, true, zero}
 use Rattle.wax_components.specs.declared.profile.Profile.{Profile}
 use Rattle.wax_components.specs.inner.Intervals.{Interval, exceeds_zero, hull, interval_sum}
-use Rattle.wax_components.specs.inner.Intervals.{saturated_interval}
-use Rattle.wax_components.specs.inner.Intervals.{unbounded}
+use Rattle.wax_components.specs.inner.Intervals.{saturated_interval, unbounded}
 use Rattle.wax_components.specs.inner.Profiles.{interval_at, concatenated, concatenated_at, doubled}
-use Rattle.wax_components.specs.inner.Profiles.{empty_text, has_slash}
-use Rattle.wax_components.specs.inner.Profiles.{kleene_star, no_text, only, power, power_in, power_range}
-use Rattle.wax_components.specs.inner.Profiles.{profile}
-use Rattle.wax_components.specs.inner.Profiles.{unbounded_profile, union}
-use Rattle.wax_components.specs.inner.Saturation.{saturated, u128_max}
-use Rattle.wax_components.specs.inner.Shapes.{Shape, empty, ended}
+use Rattle.wax_components.specs.inner.Profiles.{empty_text, has_slash, kleene_star, no_text, only, power}
+use Rattle.wax_components.specs.inner.Profiles.{power_in, power_range, profile, unbounded_profile, union}
+use Rattle.wax_components.specs.{inner.Saturation.{saturated, u128_max}, inner.Shapes.{Shape, empty, ended}}
 use Rattle.wax_components.proofs.Intervals.{hull_close, interval_sum_close, saturated_interval_twice}
 
 abbrev made : Interval → Interval → Interval → Interval → Interval → Profile

@@ -2,11 +2,9 @@
 use Rattle.std.proofs.Common.{if◌then◌else◌, ◌&&◌, ◌+◌, ◌==◌, ◌∙◌, ◌∷◌, ◌≡◌, ◌≢◌, Bool, List, Some, ℕ, [], ap}
 use Rattle.std.proofs.Common.{arith, false, refl, subst, sym, true}
 use Rattle.wax_query.specs.Components.{slashes}
-use Rattle.wax_components.specs.inner.Intervals.{kept}
-use Rattle.wax_components.specs.inner.Profiles.{single}
+use Rattle.wax_components.specs.{inner.Intervals.kept, inner.Profiles.single}
 use Rattle.wax_components.specs.inner.Shapes.{Shape, empty, ended, same_bool, same_shape, shape}
-use Rattle.wax_components.proofs.Basics.{both_true, not_slash, not_true}
-use Rattle.wax_components.proofs.Exact.{Exact, Has, by_shape}
+use Rattle.wax_components.proofs.{Basics.{both_true, not_slash, not_true}, Exact.{Exact, Has, by_shape}}
 use Rattle.wax_components.proofs.Hulls.{IsHull}
 
 same_bool_is : (x y : Bool) → same_bool x y ≡ true → x ≡ y

@@ -1,10 +1,8 @@
 -- Texts of literals.
 use Rattle.std.proofs.Common.{◌≡◌, ℕ, Bool, true, false, ◌==◌, List, [], ◌∷◌, refl, sym, ◌∙◌, ap, arith, fold}
-use Rattle.std.proofs.lemmas.Bool.{eqb-true}
-use Rattle.std.proofs.lemmas.Str.{chars-nil}
+use Rattle.std.proofs.{lemmas.Bool.eqb-true, lemmas.Str.chars-nil}
 use Rattle.std.specs.Str.{chars}
-use Rattle.wax_components.specs.Parts.{is_semantic}
-use Rattle.wax_components.specs.inner.Dots.{dot_after, dots_of}
+use Rattle.wax_components.specs.{Parts.is_semantic, inner.Dots.{dot_after, dots_of}}
 
 pub no_text : chars [] ≡ []
 no_text = chars-nil

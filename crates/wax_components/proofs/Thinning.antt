@@ -4,17 +4,14 @@ use Rattle.std.proofs.Common.{if◌then◌else◌, ◌++◌, ◌+◌, ◌==◌, 
 use Rattle.std.proofs.Common.{Option, Some, ℕ, [], ap, append-nil, arith, false, inl, inr, refl, subst, suc}
 use Rattle.std.proofs.Common.{sym, true, zero}
 use Rattle.wax_query.specs.Components.{Bare, component_total, first_slash, last_slash, slash, slashes}
-use Rattle.wax_query.specs.Components.{BeginsWithSlash, EndsWithSlash}
-use Rattle.wax_query.specs.Ranges.{AtMost, Bounds}
-use Rattle.wax_token.specs.Meaning.{Copies, HasNoSlash, LeafMeans, Means, MeansEach, MeansSome}
-use Rattle.wax_token.specs.Meaning.{in_class}
+use Rattle.wax_query.specs.{Components.{BeginsWithSlash, EndsWithSlash}, Ranges.{AtMost, Bounds}}
+use Rattle.wax_token.specs.Meaning.{Copies, HasNoSlash, LeafMeans, Means, MeansEach, MeansSome, in_class}
 use Rattle.wax_token.specs.Syntax.{Leaf, Tree, Trees, alternation, class, concatenation, leaf, literal, more}
 use Rattle.wax_token.specs.Syntax.{none, one, repetition, separator, tree, zero_or_more}
 use Rattle.wax_token.specs.declared.token.Archetype.{Archetype}
 use Rattle.wax_components.specs.Bounds.{BoundsComponents}
 use Rattle.wax_components.specs.Depth.{Depth, HasComponents, IsGreatest, thinned, thinned_each, thinned_leaf}
-use Rattle.wax_components.proofs.Basics.{is_slash, not_slash}
-use Rattle.wax_components.proofs.Shapes.{slashes_append}
+use Rattle.wax_components.proofs.{Basics.{is_slash, not_slash}, Shapes.slashes_append}
 use Rattle.wax_components.proofs.Singles.{OneCharacter, letter}
 
 pub record Thins (s u : List ℕ) : Type 0 where

@@ -3,12 +3,10 @@ use Rattle.std.proofs.Common.{if◌then◌else◌, ◌&&◌, ◌++◌, ◌==◌,
 use Rattle.std.proofs.Common.{arith, false, inl, inr, refl, suc, sym, true, zero}
 use Rattle.wax_query.specs.Components.{slash, slashes, BeginsWithSlash, EndsWithSlash}
 use Rattle.wax_token.specs.Meaning.{TreeMeans}
-use Rattle.wax_components.specs.inner.Intervals.{kept}
-use Rattle.wax_components.specs.inner.Profiles.{profile}
+use Rattle.wax_components.specs.{inner.Intervals.kept, inner.Profiles.profile}
 use Rattle.wax_components.specs.inner.Shapes.{Shape, empty, ended, joined_shape, shape}
 use Rattle.wax_components.specs.inner.TreeProfiles.{every_text, tree_allows}
-use Rattle.wax_components.proofs.Basics.{both_true, is_slash, not_true}
-use Rattle.wax_components.proofs.Exact.{Exact, Has, by_shape}
+use Rattle.wax_components.proofs.{Basics.{both_true, is_slash, not_true}, Exact.{Exact, Has, by_shape}}
 use Rattle.wax_components.proofs.Hulls.{IsHull, hull_same}
 use Rattle.wax_components.proofs.Shapes.{same_first, same_last, shape_append, shape_empty, shape_of_some}
 use Rattle.wax_components.proofs.Shapes.{slashes_append}

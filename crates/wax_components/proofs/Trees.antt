@@ -5,9 +5,7 @@ use Rattle.wax_token.specs.Syntax.{Tree, Trees, alternation, concatenation, leaf
 use Rattle.wax_components.specs.Depth.{thinned, thinned_each}
 use Rattle.wax_components.specs.inner.TreeProfiles.{each_profile, some_profile, tree_profile}
 use Rattle.wax_components.proofs.Exact.{Exact, exact_concatenated, exact_empty_text, exact_no_text}
-use Rattle.wax_components.proofs.Exact.{exact_union}
-use Rattle.wax_components.proofs.Leaves.{exact_leaf}
-use Rattle.wax_components.proofs.Repetitions.{exact_repeated}
+use Rattle.wax_components.proofs.{Exact.exact_union, Leaves.exact_leaf, Repetitions.exact_repeated}
 
 mutual
   pub exact_tree_profile : {A : Type 0} (t : Tree A) (before after : Bool)

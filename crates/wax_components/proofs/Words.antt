@@ -1,8 +1,7 @@
 -- The depth that is read from a profile whose numbers stay at the greatest of 128 bits.
 use Rattle.std.proofs.Common.{if◌then◌else◌, ◌+◌, ◌-◌, ◌∙◌, ◌≡◌, ◌≤◌, Bool, List, None, Option, Some, ℕ, ap}
 use Rattle.std.proofs.Common.{arith, false, inl, inr, min, refl, subst, sym, true}
-use Rattle.wax_query.specs.Components.{component_total, slashes}
-use Rattle.wax_query.specs.Ranges.{AtMost, Bounds}
+use Rattle.wax_query.specs.{Components.{component_total, slashes}, Ranges.{AtMost, Bounds}}
 use Rattle.wax_token.specs.Syntax.{Tree}
 use Rattle.wax_components.specs.Bounds.{AtMostSaturated, BoundsComponents, SaturatedBounds}
 use Rattle.wax_components.specs.Depth.{Depth, SaturatedDepth, saturated_bound, saturated_bounds, usize_max}
@@ -13,15 +12,9 @@ use Rattle.wax_components.specs.inner.Saturation.{saturated_components, saturate
 use Rattle.wax_components.specs.inner.Shapes.{empty, ended}
 use Rattle.wax_components.specs.inner.TreeProfiles.{component_bound, component_count, component_hull}
 use Rattle.wax_components.specs.inner.TreeProfiles.{component_interval, tree_profile}
-use Rattle.wax_components.proofs.Basics.{bit_at_most}
-use Rattle.wax_components.proofs.DepthComponents.{depth_exact}
-use Rattle.wax_components.proofs.Exact.{Exact, Has}
-use Rattle.wax_components.proofs.Hulls.{IsHull}
-use Rattle.wax_components.proofs.Intervals.{hull_close}
-use Rattle.wax_components.proofs.Saturation.{Close, close_at}
-use Rattle.wax_components.proofs.Shapes.{shape_empty}
-use Rattle.wax_components.proofs.Thinning.{depth_bounds}
-use Rattle.wax_components.proofs.Trees.{exact_tree_profile}
+use Rattle.wax_components.proofs.{Basics.bit_at_most, DepthComponents.depth_exact, Exact.{Exact, Has}}
+use Rattle.wax_components.proofs.{Hulls.IsHull, Intervals.hull_close, Saturation.{Close, close_at}}
+use Rattle.wax_components.proofs.{Shapes.shape_empty, Thinning.depth_bounds, Trees.exact_tree_profile}
 
 abbrev cut : Interval → Interval
 cut = saturated_interval usize_max

@@ -1,9 +1,7 @@
 -- What the depth of a tree says of the texts that it means.
 use Rattle.std.specs.Prelude.{◌≤◌, ◌<◌, List, None, Option, Some, ℕ, false, ⊤}
-use Rattle.wax_query.specs.Components.{Bare, component_total}
-use Rattle.wax_query.specs.Ranges.{AtMost, Bounds}
-use Rattle.wax_token.specs.Meaning.{Means}
-use Rattle.wax_token.specs.Syntax.{Tree}
+use Rattle.wax_query.specs.{Components.{Bare, component_total}, Ranges.{AtMost, Bounds}}
+use Rattle.wax_token.specs.{Meaning.Means, Syntax.Tree}
 use Rattle.wax_components.specs.Depth.{usize_max}
 
 -- no text that the tree means has more components than the upper bound, and none that isn't empty and has

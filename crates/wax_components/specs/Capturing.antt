@@ -1,10 +1,7 @@
 -- Which tokens capture.
-use Rattle.std.specs.Prelude.{ℕ, List, filter, map}
-use Rattle.std.specs.List.{enumerate_from}
+use Rattle.std.specs.{Prelude.{ℕ, List, filter, map}, List.enumerate_from}
 use Rattle.wax_query.specs.Spans.{Span}
-use Rattle.wax_token.specs.Kinds.{is_capturing}
-use Rattle.wax_token.specs.Syntax.{Tree}
-use Rattle.wax_token.specs.Words.{annotation_of}
+use Rattle.wax_token.specs.{Kinds.is_capturing, Syntax.Tree, Words.annotation_of}
 use Rattle.wax_components.specs.TopLevel.{tokens_of}
 
 -- the captures of tokens, from an index on: their indices and spans

@@ -1,7 +1,6 @@
 -- The least and the greatest number of components of the texts that a tree means.
 use Rattle.std.specs.Prelude.{◌≡◌, ◌-◌, ◌^◌, ◌≤◌, ◌⊎◌, List, None, Option, Some, ℕ, false, min}
-use Rattle.wax_query.specs.Components.{component_total}
-use Rattle.wax_query.specs.Ranges.{Bounds}
+use Rattle.wax_query.specs.{Components.component_total, Ranges.Bounds}
 use Rattle.wax_token.specs.Meaning.{Means}
 use Rattle.wax_token.specs.Syntax.{Leaf, Tree, Trees, alternation, class, concatenation, leaf, literal, more}
 use Rattle.wax_token.specs.Syntax.{none, one, repetition, separator, tree, zero_or_more}

@@ -1,10 +1,8 @@
 -- The sub-globs of a glob, by level.
-use Rattle.std.specs.Prelude.{ℕ, zero, suc, List, [], ◌∷◌, ◌++◌}
-use Rattle.std.specs.List.{flat_map}
+use Rattle.std.specs.{Prelude.{ℕ, zero, suc, List, [], ◌∷◌, ◌++◌}, List.flat_map}
 use Rattle.wax_token.specs.Syntax.{Tree, leaf, alternation, concatenation, repetition, tree_size}
-use Rattle.wax_components.specs.TopLevel.{tokens_of}
 use Rattle.wax_token.specs.Words.{listed}
-use Rattle.wax_components.specs.Parts.{components, with_text}
+use Rattle.wax_components.specs.{TopLevel.tokens_of, Parts.{components, with_text}}
 
 -- the sub-globs that a top-level token is or holds
 abbrev pub sub_globs_in : {A : Type 0} → Tree A → List (Tree A)

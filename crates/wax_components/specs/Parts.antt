@@ -1,13 +1,10 @@
 -- The components of a glob: what stands between its boundaries, and each `**`.
-use Rattle.std.specs.Prelude.{◌≡◌, ℕ, Bool, true, false, ◌&&◌, ◌==◌, if◌then◌else◌, not, ◌⊎◌}
-use Rattle.std.specs.Prelude.{◌<◌, length, List, [], ◌∷◌, ◌++◌, fold}
-use Rattle.std.specs.List.{Contains, before_first, flat_map, list_all}
+use Rattle.std.specs.Prelude.{◌≡◌, ℕ, Bool, true, false, ◌&&◌, ◌==◌, if◌then◌else◌, not, ◌⊎◌, ◌<◌, length}
+use Rattle.std.specs.{Prelude.{List, [], ◌∷◌, ◌++◌, fold}, List.{Contains, before_first, flat_map, list_all}}
 use Rattle.wax_query.specs.Spans.{Span, span_union}
-use Rattle.wax_token.specs.Syntax.{Tree}
-use Rattle.wax_token.specs.Words.{annotation_of}
-use Rattle.wax_components.specs.TopLevel.{tokens_of}
+use Rattle.wax_token.specs.{Syntax.Tree, Words.annotation_of}
 use Rattle.wax_token.specs.Kinds.{is_separator, is_tree_wildcard, is_boundary, is_literal}
-use Rattle.wax_components.specs.TopLevel.{literal_text}
+use Rattle.wax_components.specs.TopLevel.{tokens_of, literal_text}
 
 -- the component that begins with a token, if one does: a `/` begins none, a `**` is one, and any other
 -- token begins one at an edge, which goes on up to the next boundary

@@ -1,8 +1,7 @@
 -- The top-level tokens of a glob, and what a token is there.
 use Rattle.std.specs.Prelude.{ℕ, List, []}
-use Rattle.wax_token.specs.Syntax.{Leaf, literal, class, separator, one, zero_or_more, tree}
-use Rattle.wax_token.specs.Syntax.{Tree, leaf, alternation, concatenation, repetition}
-use Rattle.wax_token.specs.Words.{listed, members}
+use Rattle.wax_token.specs.Syntax.{Leaf, literal, class, separator, one, zero_or_more, tree, Tree, leaf}
+use Rattle.wax_token.specs.{Syntax.{alternation, concatenation, repetition}, Words.{listed, members}}
 
 -- the tokens of a concatenation, and any other token alone
 abbrev pub tokens_of : {A : Type 0} → Tree A → List (Tree A)

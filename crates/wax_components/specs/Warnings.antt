@@ -1,14 +1,9 @@
 -- The warnings of a glob.
-use Rattle.std.specs.Prelude.{ℕ, ◌-◌, Bool, List, [], ◌∷◌, ◌++◌, length, slice_get}
-use Rattle.std.specs.Prelude.{Option, Some, None, if◌then◌else◌}
-use Rattle.std.specs.List.{flat_map, list_any}
+use Rattle.std.specs.Prelude.{ℕ, ◌-◌, Bool, List, [], ◌∷◌, ◌++◌, length, slice_get, Option, Some, None}
+use Rattle.std.specs.{Prelude.if◌then◌else◌, List.{flat_map, list_any}}
 use Rattle.wax_query.specs.Spans.{Span}
-use Rattle.wax_token.specs.Syntax.{Tree}
-use Rattle.wax_token.specs.Words.{annotation_of}
-use Rattle.wax_components.specs.TopLevel.{tokens_of}
-use Rattle.wax_token.specs.Kinds.{is_separator}
-use Rattle.wax_components.specs.Parts.{joint_span, is_semantic}
-use Rattle.wax_components.specs.Levels.{literals}
+use Rattle.wax_token.specs.{Syntax.Tree, Words.annotation_of, Kinds.is_separator}
+use Rattle.wax_components.specs.{TopLevel.tokens_of, Parts.{joint_span, is_semantic}, Levels.literals}
 use Rattle.wax_components.specs.declared.warnings.Warning.{Warning}
 use Rattle.wax_components.specs.declared.warnings.Warning.TheVariants.{SemanticLiteral, TerminatingSeparator}
 

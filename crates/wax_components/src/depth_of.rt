@@ -1,18 +1,12 @@
 //! The depth of a token: how many components its matches have.
-ghost use Rattle.std.specs.Prelude.{◌≡◌, ◌≤◌, ◌∷◌, []};
-ghost use Rattle.std.specs.Str.{chars};
-ghost use Rattle.wax_query.specs.Components.{slash, slashes};
-ghost use Rattle.wax_query.specs.Ranges.{bounds};
-ghost use Rattle.wax_token.specs.Cost.{cost};
-ghost use Rattle.wax_token.specs.View.{leaf_of};
-ghost use Rattle.wax_token.specs.Words.{trees};
+ghost use Rattle.std.specs.{Prelude.{◌≡◌, ◌≤◌, ◌∷◌, []}, Str.chars};
+ghost use Rattle.wax_query.specs.{Components.{slash, slashes}, Ranges.bounds};
+ghost use Rattle.wax_token.specs.{Cost.cost, View.leaf_of, Words.trees};
 ghost use Rattle.wax_components.specs.Bounds.{BoundsComponents, SaturatedBounds};
-ghost use Rattle.wax_components.specs.Depth.{Depth, SaturatedDepth};
-ghost use Rattle.wax_components.specs.inner.Profiles.{single};
-ghost use Rattle.wax_components.specs.inner.Saturation.{ProfilesOf, saturated};
-ghost use Rattle.wax_components.specs.inner.Shapes.{shape};
-ghost use Rattle.wax_components.specs.inner.TreeProfiles.{each_profile, leaf_profile};
-ghost use Rattle.wax_components.specs.inner.TreeProfiles.{some_profile, tree_profile};
+ghost use Rattle.wax_components.specs.{Depth.{Depth, SaturatedDepth}, inner.Profiles.single};
+ghost use Rattle.wax_components.specs.{inner.Saturation.{ProfilesOf, saturated}, inner.Shapes.shape};
+ghost use Rattle.wax_components.specs.inner.TreeProfiles.{each_profile, leaf_profile, some_profile};
+ghost use Rattle.wax_components.specs.inner.TreeProfiles.{tree_profile};
 
 use crate::profile::Profile;
 use crate::profiles::Profiles;

@@ -1,9 +1,8 @@
 //! Intervals: the least and the greatest number of a set.
 ghost use Rattle.std.specs.Prelude.{◌≡◌, min};
 ghost use Rattle.wax_components.specs.Depth.{saturated_bound, usize_max};
-ghost use Rattle.wax_components.specs.inner.Intervals.{bound_sum, exceeds_zero, greater_bound};
-ghost use Rattle.wax_components.specs.inner.Intervals.{hull, interval_sum};
-ghost use Rattle.wax_components.specs.inner.Intervals.{saturated_interval, unbounded};
+ghost use Rattle.wax_components.specs.inner.Intervals.{bound_sum, exceeds_zero, greater_bound, hull};
+ghost use Rattle.wax_components.specs.inner.Intervals.{interval_sum, saturated_interval, unbounded};
 ghost use Rattle.wax_components.specs.inner.Saturation.{in_words, no_components, saturated_component_bound};
 ghost use Rattle.wax_components.specs.inner.Saturation.{saturated_components, u128_max};
 

@@ -1,6 +1,5 @@
 //! The literals of a glob and all its sub-globs.
-ghost use Rattle.std.specs.Prelude.{◌≡◌, ◌++◌, ◌∷◌, ◌<◌, [], ℕ, IfOk, OnOk};
-ghost use Rattle.std.specs.List.{flat_map};
+ghost use Rattle.std.specs.{Prelude.{◌≡◌, ◌++◌, ◌∷◌, ◌<◌, [], ℕ, IfOk, OnOk}, List.flat_map};
 ghost use Rattle.wax_token.specs.Syntax.{tree_size};
 ghost use Rattle.wax_components.specs.Levels.{globs_at, literals, literals_in, sub_globs, sub_globs_in};
 ghost use Rattle.wax_components.specs.Warnings.{has_semantic_literals};
@@ -19,8 +18,7 @@ struct Glob<'i, 't, A> {
 }
 
 impl<'i, 't, A> Model for Glob<'i, 't, A> {
-    ghost use Rattle.wax_token.specs.Syntax.{Tree};
-    ghost use Rattle.wax_token.specs.TreeCode.{tree_code};
+    ghost use Rattle.wax_token.specs.{Syntax.Tree, TreeCode.tree_code};
 
     ghost Value = { Tree A };
 
@@ -50,6 +48,7 @@ fn push_sub_globs_in<'i, 't, A>(
     }
 }
 
+// Appends a sub-glob.
 fn push_glob<'i, 't, A>(
     level: &mut Level<'i, 't, A>,
     token: &'i Token<'t, A>,
@@ -60,6 +59,7 @@ fn push_glob<'i, 't, A>(
     Ok(())
 }
 
+// Appends each of the tokens as a sub-glob.
 fn push_each<'i, 't, A>(
     level: &mut Level<'i, 't, A>,
     tokens: &'i [Token<'t, A>],

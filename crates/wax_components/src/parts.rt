@@ -1,13 +1,10 @@
 //! The components of a glob.
-ghost use Rattle.std.specs.Prelude.{◌≡◌, All, IfOk, MatchOption, if◌then◌else◌, false, true};
-ghost use Rattle.std.specs.Prelude.{chars, fold, string_bytes};
-ghost use Rattle.std.specs.List.{flat_map, list_all, position_or_len};
+ghost use Rattle.std.specs.Prelude.{◌≡◌, All, IfOk, MatchOption, if◌then◌else◌, false, true, chars, fold};
+ghost use Rattle.std.specs.{Prelude.string_bytes, List.{flat_map, list_all, position_or_len}};
 ghost use Rattle.wax_components.specs.Parts.{HasEach, IsComponent, components, components_in, is_semantic};
-ghost use Rattle.wax_components.specs.Parts.{joint_span, literals_text};
-ghost use Rattle.wax_components.specs.inner.Dots.{dot_after, dots_of};
+ghost use Rattle.wax_components.specs.{Parts.{joint_span, literals_text}, inner.Dots.{dot_after, dots_of}};
 ghost use Rattle.wax_components.specs.TopLevel.{tokens_of};
-ghost use Rattle.wax_token.specs.Kinds.{is_boundary, is_literal};
-ghost use Rattle.wax_token.specs.Words.{trees};
+ghost use Rattle.wax_token.specs.{Kinds.{is_boundary, is_literal}, Words.trees};
 
 use crate::kinds;
 use std::alloc::{AllocError, Global};
@@ -23,10 +20,8 @@ pub struct Component<'i, 't, A> {
 }
 
 impl<'i, 't, A> Model for Component<'i, 't, A> {
-    ghost use Rattle.std.specs.Prelude.{List};
-    ghost use Rattle.std.specs.Coded.{coded_list};
-    ghost use Rattle.wax_token.specs.Syntax.{Tree};
-    ghost use Rattle.wax_token.specs.TreeCode.{tree_code};
+    ghost use Rattle.std.specs.{Prelude.List, Coded.coded_list};
+    ghost use Rattle.wax_token.specs.{Syntax.Tree, TreeCode.tree_code};
 
     ghost Value = { List (Tree A) };
 

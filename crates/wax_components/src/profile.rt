@@ -1,9 +1,9 @@
 //! How many `/` the texts of a set have, by whether they begin and end with one.
 ghost use Rattle.std.specs.Prelude.{◌≡◌};
 ghost use Rattle.wax_components.specs.inner.Intervals.{hull, interval_sum, saturated_interval};
-ghost use Rattle.wax_components.specs.inner.Profiles.{concatenated, empty_text, has_slash};
-ghost use Rattle.wax_components.specs.inner.Profiles.{kleene_star, no_text};
-ghost use Rattle.wax_components.specs.inner.Profiles.{only, power, power_range, unbounded_profile, union};
+ghost use Rattle.wax_components.specs.inner.Profiles.{concatenated, empty_text, has_slash, kleene_star};
+ghost use Rattle.wax_components.specs.inner.Profiles.{no_text, only, power, power_range, unbounded_profile};
+ghost use Rattle.wax_components.specs.inner.Profiles.{union};
 ghost use Rattle.wax_components.specs.inner.Saturation.{in_words, saturated, saturated_depth, u128_max};
 
 use crate::interval::{

@@ -2,9 +2,8 @@
 ghost use Rattle.std.specs.Prelude.{◌≡◌};
 ghost use Rattle.wax_token.specs.Syntax.{tree};
 ghost use Rattle.wax_components.specs.inner.Profiles.{concatenated, empty_text, only, union};
-ghost use Rattle.wax_components.specs.inner.Saturation.{either_profile, profiles};
-ghost use Rattle.wax_components.specs.inner.Saturation.{saturated, saturated_beside};
-ghost use Rattle.wax_components.specs.inner.Saturation.{saturated_repeated};
+ghost use Rattle.wax_components.specs.inner.Saturation.{either_profile, profiles, saturated};
+ghost use Rattle.wax_components.specs.inner.Saturation.{saturated_beside, saturated_repeated};
 ghost use Rattle.wax_components.specs.inner.TreeProfiles.{admits, admits_two, leaf_profile, less_two};
 
 use crate::profile::Profile;
@@ -20,6 +19,7 @@ pub struct Profiles {
     pub middle: Profile,
 }
 
+// Returns whether a repetition with these bounds admits so many copies.
 fn admits(copies: usize, lower: usize, upper: Option<usize>) -> bool
     ensures { result ≡ admits copies lower upper }
 {
@@ -29,6 +29,7 @@ fn admits(copies: usize, lower: usize, upper: Option<usize>) -> bool
     }
 }
 
+// Returns whether a repetition with these bounds admits two copies, or some greater number.
 fn admits_two(lower: usize, upper: Option<usize>) -> bool
     ensures { result ≡ admits_two lower upper }
 {
@@ -38,6 +39,7 @@ fn admits_two(lower: usize, upper: Option<usize>) -> bool
     }
 }
 
+// Returns the greatest number of copies between the first and the last.
 fn less_two(upper: Option<usize>) -> Option<usize>
     ensures { result ≡ less_two upper }
 {

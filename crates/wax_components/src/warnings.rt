@@ -1,9 +1,8 @@
 //! Warnings about globs that build, but may not match what their authors expect.
-ghost use Rattle.std.specs.Prelude.{◌≡◌, ◌++◌, IfOk, OnOk, chars};
-ghost use Rattle.std.specs.List.{flat_map};
+ghost use Rattle.std.specs.{Prelude.{◌≡◌, ◌++◌, IfOk, OnOk, chars}, List.flat_map};
 ghost use Rattle.wax_components.specs.Levels.{literals};
-ghost use Rattle.wax_components.specs.Warnings.{semantic_warnings, terminating_span};
-ghost use Rattle.wax_components.specs.Warnings.{terminating_warnings, warnings};
+ghost use Rattle.wax_components.specs.Warnings.{semantic_warnings, terminating_span, terminating_warnings};
+ghost use Rattle.wax_components.specs.Warnings.{warnings};
 
 use crate::kinds;
 use crate::levels::literals;

@@ -1,16 +1,10 @@
 -- What is copied item by item is a copy.
-use Rattle.std.proofs.Common.{◌≡◌, ℕ, ◌+◌, ◌<◌, ◌≤◌, zero, suc, true, false, cond, List, [], ◌∷◌, ◌++◌}
-use Rattle.std.proofs.Common.{take, get_or, length, Option, Some, string_bytes, slice_get, refl, sym, ◌∙◌}
-use Rattle.std.proofs.Common.{ap, subst, rules}
-use Rattle.std.specs.Option.{option_map}
-use Rattle.std.specs.Str.{bytes_eq}
-use Rattle.std.proofs.lemmas.List.{take_more, take_all}
-use Rattle.wax_directory.specs.declared.tree.Node.{Node}
-use Rattle.wax_directory.specs.declared.tree.TreeItem.{TreeItem}
-use Rattle.wax_directory.specs.declared.tree.TreeItem.TheVariants as T
+use Rattle.std.proofs.Common.{◌≡◌, ℕ, ◌+◌, ◌<◌, ◌≤◌, zero, suc, true, false, cond, List, [], ◌∷◌, ◌++◌, take}
+use Rattle.std.proofs.Common.{get_or, length, Option, Some, string_bytes, slice_get, refl, sym, ◌∙◌, ap}
+use Rattle.std.proofs.{Common.{subst, rules}, lemmas.List.{take_more, take_all}}
+use Rattle.std.specs.{Option.option_map, Str.bytes_eq}
+use Rattle.wax_directory.specs.{declared.tree.Node.Node, declared.tree.TreeItem.TreeItem}
 use Rattle.wax_directory.specs.declared.tree.Node.TheOpen.{TreeItem-F}
-use Rattle.wax_directory.specs.declared.tree.Node.TheOpen as O
-use Rattle.wax_directory.specs.declared.tree.Node.TheViews as V
 use Rattle.wax_directory.specs.declared.tree.Node.TheViews.{out-Node, out-TreeItem, the_lemmas}
 use Rattle.wax_directory.specs.Shown.{Items, Shown, a_folder}
 use Rattle.wax_directory.specs.Nodes.{with_entry, shown_of, items_shown, node_layer, entry_node, held_of}
@@ -19,6 +13,9 @@ use Rattle.wax_directory.specs.Nodes.{named_before, named_in, below_layer, onwar
 use Rattle.wax_directory.specs.inner.Reaching.{layer_shown, shown_layer, item_layer_shown, item_layer}
 use Rattle.wax_directory.specs.Copies.{names_at, IsCopy}
 use Rattle.wax_directory.proofs.Finding.{out_entry, out_folder, folder_held}
+use Rattle.wax_directory.specs.declared.tree.TreeItem.TheVariants as T
+use Rattle.wax_directory.specs.declared.tree.Node.TheOpen as O
+use Rattle.wax_directory.specs.declared.tree.Node.TheViews as V
 
 -- ---- item by item
 

@@ -1,7 +1,6 @@
 -- Sums of what directories count.
 use Rattle.std.proofs.Common.{◌≡◌, sym, add_assoc, zero-add, add-zero, ◌∙◌}
-use Rattle.wax_directory.specs.declared.tally.Tally.{Tally}
-use Rattle.wax_directory.specs.Counting.{plus, no_counts}
+use Rattle.wax_directory.specs.{declared.tally.Tally.Tally, Counting.{plus, no_counts}}
 
 pub plus_assoc : (a b c : Tally) → plus a (plus b c) ≡ plus (plus a b) c
 plus_assoc a b c = λ i. record {

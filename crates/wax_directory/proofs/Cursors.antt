@@ -1,20 +1,18 @@
 -- The items that a cursor has, one by one.
 use Rattle.std.proofs.Common.{◌≡◌, ℕ, ◌+◌, true, false, cond, List, [], ◌∷◌, zero, suc, drop, Option, Some}
 use Rattle.std.proofs.Common.{None, string_bytes, slice_get, refl, sym, ◌∙◌, ap, subst}
-use Rattle.std.specs.Option.{option_map}
-use Rattle.std.proofs.lemmas.List.{drop_more}
-use Rattle.std.proofs.Math.Seq.{drop-nil}
+use Rattle.std.proofs.{lemmas.List.drop_more, Math.Seq.drop-nil}
 use Rattle.std.proofs.lemmas.Option.{slice_get_within, get_or_from_slice_get}
-use Rattle.wax_directory.specs.declared.tree.Node.{Node}
-use Rattle.wax_directory.specs.declared.tree.TreeItem.{TreeItem}
+use Rattle.std.specs.Option.{option_map}
+use Rattle.wax_directory.specs.{declared.tree.Node.Node, declared.tree.TreeItem.TreeItem}
 use Rattle.wax_directory.specs.declared.tree.Node.TheOpen.{Node-F, TreeItem-F}
-use Rattle.wax_directory.specs.declared.tree.Node.TheOpen as O
 use Rattle.wax_directory.specs.declared.tree.Node.TheViews.{out-Node, out-TreeItem}
 use Rattle.wax_directory.specs.Shown.{Items, end, misnamed, Shown, Listed, named, first_item, rest_of}
 use Rattle.wax_directory.specs.Names.{is_plain}
 use Rattle.wax_directory.specs.Nodes.{kind_of, with_plain, with_entry, shown_of, item_shown, items_shown}
 use Rattle.wax_directory.specs.Nodes.{listed_layer, listed_item}
 use Rattle.wax_directory.specs.inner.Reaching.{layer_shown, shown_layer, item_layer_shown, item_layer}
+use Rattle.wax_directory.specs.declared.tree.Node.TheOpen as O
 
 -- the first of some items, and those after it
 abbrev pub Begins : Items → Listed → Items → Type 0

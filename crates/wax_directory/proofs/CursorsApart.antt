@@ -1,16 +1,11 @@
 -- Cursors that are independent of one another.
 use Rattle.std.proofs.Common.{List, [], ◌∷◌, ◌++◌, Option, Result, Ok, Err}
-use Rattle.std.specs.Prelude.{◌↔◌}
-use Rattle.std.specs.List.{AllZip}
+use Rattle.std.specs.{Prelude.◌↔◌, List.AllZip}
 use Rattle.wax_query.specs.declared.diagnostics.NoMemory.{NoMemory}
-use Rattle.wax_directory.specs.declared.directory.ListItem.{ListItem}
-use Rattle.wax_directory.specs.declared.tree.Node.{Node}
-use Rattle.wax_directory.specs.declared.tree.TreeCursor.{TreeCursor}
-use Rattle.wax_directory.specs.Answers.{NextIs}
-use Rattle.wax_directory.specs.Independent.{AreIndependent, Has, NextLeavesOthers}
-use Rattle.wax_directory.specs.Law.{Law, HoldsLast}
-use Rattle.wax_directory.specs.Shown.{Items}
-use Rattle.wax_directory.specs.Trees.{HaveEach, tree_law}
+use Rattle.wax_directory.specs.{declared.directory.ListItem.ListItem, declared.tree.Node.Node}
+use Rattle.wax_directory.specs.{declared.tree.TreeCursor.TreeCursor, Answers.NextIs}
+use Rattle.wax_directory.specs.{Independent.{AreIndependent, Has, NextLeavesOthers}, Law.{Law, HoldsLast}}
+use Rattle.wax_directory.specs.{Shown.Items, Trees.{HaveEach, tree_law}}
 
 module _ (working root : Node) where
   each_apart : (cursors : List TreeCursor) (ls : List Items) → HaveEach working root cursors ls

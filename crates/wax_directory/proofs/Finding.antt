@@ -2,29 +2,25 @@
 use Rattle.std.proofs.Common.{◌≡◌, ℕ, ◌+◌, ◌<◌, Bool, true, false, cond, List, [], ◌∷◌, ◌++◌, map, take, drop}
 use Rattle.std.proofs.Common.{get_or, length, Option, Some, None, Bor, string_bytes, slice_get, ◌||◌}
 use Rattle.std.proofs.Common.{below_more, refl, sym, ◌∙◌, ap, subst, append-nil, rules}
-use Rattle.std.specs.List.{list_any}
-use Rattle.std.specs.Str.{bytes_eq}
 use Rattle.std.proofs.lemmas.Bool.{cond-true, false≢true, or_right, or_left}
 use Rattle.std.proofs.lemmas.List.{drop_more, take_more, take-append-drop}
-use Rattle.std.proofs.lemmas.Option.{slice_get-get_or, slice_get_within}
-use Rattle.std.proofs.lemmas.List.Folds.{list_any-append}
-use Rattle.wax_directory.specs.declared.tree.Node.{Node}
-use Rattle.wax_directory.specs.declared.tree.TreeItem.{TreeItem}
+use Rattle.std.proofs.{lemmas.Option.{slice_get-get_or, slice_get_within}, lemmas.List.Folds.list_any-append}
+use Rattle.std.proofs.lemmas.Slice.Eq.{bytes_eq-Decides}
+use Rattle.std.specs.{List.list_any, Str.bytes_eq}
+use Rattle.wax_directory.specs.{declared.tree.Node.Node, declared.tree.TreeItem.TreeItem}
 use Rattle.wax_directory.specs.declared.tree.TreeItem.TheVariants.{Entry}
 use Rattle.wax_directory.specs.declared.tree.Node.TheOpen.{Node-F, TreeItem-F}
-use Rattle.wax_directory.specs.declared.tree.Node.TheOpen as O
-use Rattle.wax_directory.specs.declared.tree.Node.TheViews as V
 use Rattle.wax_directory.specs.declared.tree.Node.TheViews.{out-Node, out-TreeItem, roll-Node, roll-TreeItem}
 use Rattle.wax_directory.specs.declared.tree.Node.TheViews.{roll-out-Node, roll-out-TreeItem, the_lemmas}
 use Rattle.wax_directory.specs.Names.{are_distinct}
 use Rattle.wax_directory.specs.Nodes.{node_layer, entry_node, held_layer, held, held_of, child_of, child_at}
 use Rattle.wax_directory.specs.Nodes.{and_below, node_at, name_before, names_of, HasDistinctNames}
 use Rattle.wax_directory.specs.Nodes.{HasDuplicateName, Reached, to_node, named_before, named_in, below_layer}
-use Rattle.wax_directory.specs.Nodes.{onward, reached}
-use Rattle.wax_directory.specs.inner.Places.{layer_has_name, has_name, to_reached}
+use Rattle.wax_directory.specs.{Nodes.{onward, reached}, inner.Places.{layer_has_name, has_name, to_reached}}
 use Rattle.wax_directory.specs.inner.Reaching.{node_at-append}
-use Rattle.std.proofs.lemmas.Slice.Eq.{bytes_eq-Decides}
 use Rattle.wax_directory.proofs.PathNames.{bytes_eq-swap, distinct_twice}
+use Rattle.wax_directory.specs.declared.tree.Node.TheOpen as O
+use Rattle.wax_directory.specs.declared.tree.Node.TheViews as V
 
 pub out_entry : (name : _) (n : Node) → out-TreeItem (Entry name n) ≡ O.Entry name n
 out_entry name n = search (rules, the_lemmas)

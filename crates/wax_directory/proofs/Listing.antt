@@ -1,26 +1,21 @@
 -- All items of a folder, taken one by one.
 use Rattle.std.proofs.Common.{◌≡◌, ◌<◌, ◌≤◌, ◌-◌, min, ℕ, List, [], ◌∷◌, ◌++◌, length, map, take, Option}
-use Rattle.std.proofs.Common.{Some, None}
-use Rattle.std.proofs.Common.{Ok, Err, Result, Vec, refl, sym, ◌∙◌, ap, subst, arith, append_assoc}
-use Rattle.std.specs.Option.{option_map}
-use Rattle.std.proofs.lemmas.List.{map-append, append-nil, take_all, length-map}
+use Rattle.std.proofs.Common.{Some, None, Ok, Err, Result, Vec, refl, sym, ◌∙◌, ap, subst, arith}
+use Rattle.std.proofs.{Common.append_assoc, lemmas.List.{map-append, append-nil, take_all, length-map}}
 use Rattle.std.proofs.Math.Seq.{take-append_seam}
-use Rattle.wax_directory.specs.declared.directory.ListItem.{ListItem}
-use Rattle.wax_directory.specs.declared.directory.ListItem.TheVariants as I
-use Rattle.wax_directory.specs.declared.tally.Tally.{Tally}
-use Rattle.wax_directory.specs.Answers.{listed_of, Opens, NextIs, ListIs}
-use Rattle.wax_directory.specs.Calls.{OpenCall, Nexts}
+use Rattle.std.specs.Option.{option_map}
+use Rattle.wax_directory.specs.{declared.directory.ListItem.ListItem, declared.tally.Tally.Tally}
+use Rattle.wax_directory.specs.{Answers.{listed_of, Opens, NextIs, ListIs}, Calls.{OpenCall, Nexts}}
 use Rattle.wax_directory.specs.Counting.{Counts, plus, item_counts, items_counts, next_counts, end_counts}
-use Rattle.wax_directory.specs.Counting.{opening_counts}
-use Rattle.wax_directory.specs.Listing.{listing_counts, CountsListed}
+use Rattle.wax_directory.specs.{Counting.opening_counts, Listing.{listing_counts, CountsListed}}
 use Rattle.wax_directory.specs.declared.directory.DirectoryFault.{DirectoryFault}
 use Rattle.wax_directory.specs.declared.directory.DirectoryFault.TheVariants.{Failed, Memory}
 use Rattle.wax_directory.specs.Law.{Law, ShowsSame, HoldsLast}
-use Rattle.wax_directory.proofs.Counts.{plus_assoc, plus_none}
 use Rattle.wax_directory.specs.Shown.{Items, end, leaf, folder, sealed, misnamed, unread, not_text, Shown}
 use Rattle.wax_directory.specs.Shown.{a_leaf, a_folder, a_sealed, missing, failing, Listed, listing}
-use Rattle.wax_directory.specs.Shown.{first_item}
-use Rattle.wax_directory.specs.Shown.{rest_of}
+use Rattle.wax_directory.specs.Shown.{first_item, rest_of}
+use Rattle.wax_directory.proofs.Counts.{plus_assoc, plus_none}
+use Rattle.wax_directory.specs.declared.directory.ListItem.TheVariants as I
 
 -- ---- counts
 

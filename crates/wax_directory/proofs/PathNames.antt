@@ -1,15 +1,12 @@
 -- The names that are distinct, and those of a path.
 use Rattle.std.proofs.Common.{◌≡◌, ℕ, true, false, not, ◌||◌, ◌==◌, List, [], ◌∷◌, ◌++◌, length, refl, sym}
-use Rattle.std.proofs.Common.{◌∙◌, ap, inl, inr, ◌-◌, arith, zero, suc, nat_eq, Some, slice_get}
-use Rattle.std.specs.List.{list_any}
-use Rattle.std.specs.Str.{bytes_eq}
+use Rattle.std.proofs.Common.{◌∙◌, ap, inl, inr, ◌-◌}
 use Rattle.std.proofs.lemmas.Bool.{and_parts, and_from, and_left, and_right, or_parts, or_from, or_right}
 use Rattle.std.proofs.lemmas.Bool.{or_cases, not-true, false≢true, not_from_true, not_from_false}
-use Rattle.std.proofs.Math.Dec.{eqb-suc-zero}
-use Rattle.std.proofs.lemmas.Slice.Eq.{bytes_eq-Decides}
+use Rattle.std.proofs.{Math.Dec.eqb-suc-zero, lemmas.Slice.Eq.bytes_eq-Decides}
 use Rattle.std.proofs.lemmas.List.Folds.{list_any-append}
+use Rattle.std.specs.{List.list_any, Str.bytes_eq}
 use Rattle.wax_directory.specs.Names.{is_some_name, are_distinct}
-use Rattle.wax_query.specs.Below.{ends_open}
 
 pub some_name : (x : List ℕ) → not (length x == 0) ≡ is_some_name x
 some_name [] = refl

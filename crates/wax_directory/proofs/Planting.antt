@@ -2,43 +2,31 @@
 use Rattle.std.proofs.Common.{◌≡◌, ℕ, ◌+◌, ◌<◌, ◌≤◌, arith, zero, suc, Bool, true, false, cond, ◌||◌, ◌⊎◌}
 use Rattle.std.proofs.Common.{inl, inr, List, [], ◌∷◌, ◌++◌, map, drop, get_or, length, Option, Some, None}
 use Rattle.std.proofs.Common.{MatchBool, string_bytes, slice_get, if◌then◌else◌, refl, sym, ◌∙◌, ap, subst}
-use Rattle.std.proofs.Common.{Bor, rules}
-use Rattle.std.specs.List.{list_any, filter_map, cons_option}
-use Rattle.std.specs.Str.{bytes_eq}
-use Rattle.std.proofs.lemmas.Bool.{or_parts, or_from, or_left, or_right, false≢true}
-use Rattle.std.proofs.lemmas.List.{at_drop_more, at_drop_all}
-use Rattle.std.proofs.lemmas.List.Folds.{list_any-append}
+use Rattle.std.proofs.{Common.{Bor, rules}, lemmas.Bool.{or_parts, or_from, or_left, or_right, false≢true}}
+use Rattle.std.proofs.{lemmas.List.{at_drop_more, at_drop_all}, lemmas.List.Folds.list_any-append}
 use Rattle.std.proofs.lemmas.Slice.Eq.{bytes_eq-Decides}
-use Rattle.wax_directory.specs.declared.tree.Node.{Node}
-use Rattle.wax_directory.specs.declared.tree.Tree.{Tree}
-use Rattle.wax_directory.specs.declared.tree.TreeItem.{TreeItem}
-use Rattle.wax_directory.specs.declared.tree.TreeItem.TheVariants.{Entry}
-use Rattle.wax_directory.specs.declared.tree.Node.TheOpen.{Node-F, TreeItem-F}
-use Rattle.wax_directory.specs.declared.tree.Node.TheOpen as O
-use Rattle.wax_directory.specs.declared.tree.Node.TheVariants as N
-use Rattle.wax_directory.specs.declared.tree.Node.TheViews as V
+use Rattle.std.specs.{List.{list_any, filter_map, cons_option}, Str.bytes_eq}
+use Rattle.wax_directory.specs.{declared.tree.Node.Node, declared.tree.Tree.Tree}
+use Rattle.wax_directory.specs.{declared.tree.TreeItem.TreeItem, declared.tree.TreeItem.TheVariants.Entry}
+use Rattle.wax_directory.specs.declared.tree.Node.TheOpen.{TreeItem-F}
 use Rattle.wax_directory.specs.declared.tree.Node.TheViews.{out-Node, out-TreeItem, the_lemmas}
 use Rattle.wax_directory.specs.declared.directory.FileType.TheVariants.{File, Folder}
 use Rattle.wax_directory.specs.Shown.{Items, Shown, a_leaf, a_folder, missing, misnamed, Listed, named}
-use Rattle.wax_directory.specs.Shown.{listing}
-use Rattle.wax_directory.specs.Names.{is_plain, is_rooted, names_in_path, are_distinct}
+use Rattle.wax_directory.specs.{Shown.listing, Names.{is_plain, is_rooted, names_in_path, are_distinct}}
 use Rattle.wax_directory.specs.Nodes.{kind_of, with_plain, with_entry, shown_of, items_shown, node_layer}
 use Rattle.wax_directory.specs.Nodes.{entry_node, held_layer, name_before, names_of, HasDistinctNames}
-use Rattle.wax_directory.specs.Nodes.{Reached}
-use Rattle.wax_directory.specs.Nodes.{to_node, to_nothing, named_before, named_in, below_layer, onward}
-use Rattle.wax_directory.specs.Nodes.{reached}
-use Rattle.wax_directory.specs.Nodes.{shown_reached}
-use Rattle.wax_directory.specs.Trees.{shown_in, tree_shows}
+use Rattle.wax_directory.specs.Nodes.{Reached, to_node, to_nothing, named_before, named_in, below_layer}
+use Rattle.wax_directory.specs.{Nodes.{onward, reached, shown_reached}, Trees.{shown_in, tree_shows}}
 use Rattle.wax_directory.specs.inner.Reaching.{layer_shown, shown_layer, item_layer_shown, item_layer}
 use Rattle.wax_directory.specs.PathTails.{PathTail, tail, leads_on, first_name, rest_after, below_name, rests}
-use Rattle.wax_directory.specs.PathTails.{holds_name}
-use Rattle.wax_directory.specs.PathTails.{added, with_new, names_by, kind_by, listing_by, HoldsBy, StandsBy}
-use Rattle.wax_directory.specs.PathTails.{tails_from, tails_to}
-use Rattle.wax_directory.specs.inner.Places.{layer_has_name, has_name}
-use Rattle.wax_directory.specs.inner.Growing.{new_name, Grows}
+use Rattle.wax_directory.specs.PathTails.{holds_name, added, with_new, names_by, kind_by, listing_by, HoldsBy}
+use Rattle.wax_directory.specs.PathTails.{StandsBy, tails_from, tails_to}
+use Rattle.wax_directory.specs.{inner.Places.{layer_has_name, has_name}, inner.Growing.{new_name, Grows}}
 use Rattle.wax_directory.proofs.Finding.{out_entry, out_folder, folder_held, folder_distinct, leaf_distinct}
-use Rattle.wax_directory.proofs.Finding.{names_of-append, entry_within}
-use Rattle.wax_directory.proofs.PathNames.{bytes_eq-swap}
+use Rattle.wax_directory.proofs.{Finding.{names_of-append, entry_within}, PathNames.bytes_eq-swap}
+use Rattle.wax_directory.specs.declared.tree.Node.TheOpen as O
+use Rattle.wax_directory.specs.declared.tree.Node.TheVariants as N
+use Rattle.wax_directory.specs.declared.tree.Node.TheViews as V
 
 -- ---- how many names there are in all
 

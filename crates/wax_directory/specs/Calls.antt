@@ -1,15 +1,13 @@
 -- What one call of a directory does.
 use Rattle.std.specs.Prelude.{◌≡◌, ℕ, List, [], ◌∷◌, ◌++◌, ◌⊎◌, Option, Result, Err}
 use Rattle.wax_query.specs.declared.diagnostics.NoMemory.{NoMemory}
-use Rattle.wax_directory.specs.declared.directory.FileType.{FileType}
-use Rattle.wax_directory.specs.declared.directory.ListItem.{ListItem}
+use Rattle.wax_directory.specs.{declared.directory.FileType.FileType, declared.directory.ListItem.ListItem}
 use Rattle.wax_directory.specs.declared.directory.DirectoryFault.{DirectoryFault}
 use Rattle.wax_directory.specs.declared.directory.DirectoryFault.TheVariants.{Memory}
 use Rattle.wax_directory.specs.Answers.{KindIs, Opens, NextIs}
 use Rattle.wax_directory.specs.Counting.{Counts, kind_counts, opening_counts, next_counts}
 use Rattle.wax_directory.specs.History.{kind_answers, opening_answers, next_answers}
-use Rattle.wax_directory.specs.Law.{Law, ShowsSame, HoldsSame, HoldsLast}
-use Rattle.wax_directory.specs.Shown.{Items, Shown}
+use Rattle.wax_directory.specs.{Law.{Law, ShowsSame, HoldsSame, HoldsLast}, Shown.{Items, Shown}}
 
 -- the reported list of opened folders after this result of `open`: the path was appended; if allocation
 -- failed, it was appended or not

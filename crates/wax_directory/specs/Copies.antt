@@ -1,6 +1,5 @@
 -- Copies of nodes.
-use Rattle.std.specs.Prelude.{◌≡◌, ℕ, List, Option}
-use Rattle.std.specs.Option.{option_map}
+use Rattle.std.specs.{Prelude.{◌≡◌, ℕ, List, Option}, Option.option_map}
 use Rattle.wax_directory.specs.declared.tree.Node.{Node}
 use Rattle.wax_directory.specs.Nodes.{reached, shown_reached, held_of, node_at, names_of}
 

@@ -2,14 +2,12 @@
 use Rattle.std.specs.Prelude.{◌≡◌, ℕ, ◌+◌, ◌^◌, ◌-◌, min, max, cond, List, [], ◌∷◌, Option, Some, None}
 use Rattle.std.specs.Prelude.{Result, Ok, Err, string_bytes}
 use Rattle.wax_query.specs.declared.diagnostics.NoMemory.{NoMemory}
-use Rattle.wax_directory.specs.declared.directory.FileType.{FileType}
-use Rattle.wax_directory.specs.declared.directory.FileType.TheVariants as F
-use Rattle.wax_directory.specs.declared.directory.ListItem.{ListItem}
-use Rattle.wax_directory.specs.declared.directory.ListItem.TheVariants as I
+use Rattle.wax_directory.specs.{declared.directory.FileType.FileType, declared.directory.ListItem.ListItem}
 use Rattle.wax_directory.specs.declared.directory.DirectoryFault.{DirectoryFault}
 use Rattle.wax_directory.specs.declared.directory.DirectoryFault.TheVariants.{Failed, Memory}
-use Rattle.wax_directory.specs.declared.tally.Tally.{Tally}
-use Rattle.wax_directory.specs.Names.{is_plain}
+use Rattle.wax_directory.specs.{declared.tally.Tally.Tally, Names.is_plain}
+use Rattle.wax_directory.specs.declared.directory.FileType.TheVariants as F
+use Rattle.wax_directory.specs.declared.directory.ListItem.TheVariants as I
 
 abbrev pub no_counts : Tally
 no_counts = record {

@@ -1,12 +1,10 @@
 -- What a directory answered: the results of its calls, in order, but for those where allocation failed.
 use Rattle.std.specs.Prelude.{ℕ, List, [], ◌∷◌, Option, Some, None, Result, Ok, Err}
 use Rattle.wax_query.specs.declared.diagnostics.NoMemory.{NoMemory}
-use Rattle.wax_directory.specs.declared.directory.FileType.{FileType}
-use Rattle.wax_directory.specs.declared.directory.ListItem.{ListItem}
+use Rattle.wax_directory.specs.{declared.directory.FileType.FileType, declared.directory.ListItem.ListItem}
 use Rattle.wax_directory.specs.declared.directory.DirectoryFault.{DirectoryFault}
 use Rattle.wax_directory.specs.declared.directory.DirectoryFault.TheVariants.{Failed, Memory}
-use Rattle.wax_directory.specs.Answers.{listed_of}
-use Rattle.wax_directory.specs.Shown.{Listed}
+use Rattle.wax_directory.specs.{Answers.listed_of, Shown.Listed}
 
 pub data Answer : Type 0 where
   found : List ℕ → FileType → Answer  -- `kind`: this is at the path

@@ -1,11 +1,7 @@
 -- Directories whose cursors may be used and dropped in any order.
-use Rattle.std.specs.Prelude.{◌↔◌, List, [], ◌∷◌, Option, Result}
-use Rattle.std.specs.List.{AllZip}
+use Rattle.std.specs.{Prelude.{◌↔◌, List, [], ◌∷◌, Option, Result}, List.AllZip}
 use Rattle.wax_query.specs.declared.diagnostics.NoMemory.{NoMemory}
-use Rattle.wax_directory.specs.declared.directory.ListItem.{ListItem}
-use Rattle.wax_directory.specs.Answers.{NextIs}
-use Rattle.wax_directory.specs.Calls.{NextCall}
-use Rattle.wax_directory.specs.Law.{Law}
+use Rattle.wax_directory.specs.{declared.directory.ListItem.ListItem, Answers.NextIs, Calls.NextCall, Law.Law}
 use Rattle.wax_directory.specs.Shown.{Items}
 
 module _ {D C : Type 0} (law : Law D C) where

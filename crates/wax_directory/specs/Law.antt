@@ -1,8 +1,6 @@
 -- The relations in which the contracts of a directory are stated.
 use Rattle.std.specs.Prelude.{ℕ, List, [], ◌∷◌, ◌++◌}
-use Rattle.wax_directory.specs.declared.tally.Tally.{Tally}
-use Rattle.wax_directory.specs.History.{Answer}
-use Rattle.wax_directory.specs.Shown.{Items, Shown}
+use Rattle.wax_directory.specs.{declared.tally.Tally.Tally, History.Answer, Shown.{Items, Shown}}
 
 -- what a directory shows at a path; which items its open cursors have yet to yield, in the order in which
 -- they were opened; which lists of opened folders, in order, it may report; what it counted; and what it

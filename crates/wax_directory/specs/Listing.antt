@@ -3,10 +3,8 @@ use Rattle.std.specs.Prelude.{ℕ, ◌-◌, ◌≤◌, ◌⊎◌, min, List, [],
 use Rattle.wax_directory.specs.declared.directory.ListItem.{ListItem}
 use Rattle.wax_directory.specs.declared.directory.DirectoryFault.{DirectoryFault}
 use Rattle.wax_directory.specs.declared.directory.DirectoryFault.TheVariants.{Failed, Memory}
-use Rattle.wax_directory.specs.declared.tally.Tally.{Tally}
-use Rattle.wax_directory.specs.Counting.{Counts, no_counts, items_counts}
-use Rattle.wax_directory.specs.Law.{Law}
-use Rattle.wax_directory.specs.Shown.{Items, Shown}
+use Rattle.wax_directory.specs.{declared.tally.Tally.Tally, Counting.{Counts, no_counts, items_counts}}
+use Rattle.wax_directory.specs.{Law.Law, Shown.{Items, Shown}}
 
 -- if anything is shown at the path, the open cursors have the items that they had
 module _ {D C : Type 0} (law : Law D C) where

@@ -1,7 +1,6 @@
 -- Names, and the names of a path.
 use Rattle.std.specs.Prelude.{ℕ, Bool, true, false, not, ◌&&◌, ◌==◌, List, [], ◌∷◌, filter}
-use Rattle.std.specs.List.{slice_split, list_any}
-use Rattle.std.specs.Str.{bytes_eq}
+use Rattle.std.specs.{List.{slice_split, list_any}, Str.bytes_eq}
 
 -- neither empty nor `.` nor `..`
 abbrev pub is_entry_name : List ℕ → Bool

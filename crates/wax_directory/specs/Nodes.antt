@@ -1,19 +1,16 @@
 -- What a tree in memory holds, and what it shows.
 use Rattle.std.specs.Prelude.{◌≡◌, ℕ, true, false, cond, List, [], ◌∷◌, map, Option, Some, None, string_bytes}
-use Rattle.std.specs.Prelude.{slice_get}
-use Rattle.std.specs.Str.{bytes_eq}
+use Rattle.std.specs.{Prelude.slice_get, Str.bytes_eq}
 use Rattle.wax_directory.specs.declared.directory.FileType.{FileType}
-use Rattle.wax_directory.specs.declared.directory.FileType.TheVariants.{Folder}
-use Rattle.wax_directory.specs.declared.tree.Node.{Node}
+use Rattle.wax_directory.specs.{declared.directory.FileType.TheVariants.Folder, declared.tree.Node.Node}
 use Rattle.wax_directory.specs.declared.tree.TreeItem.{TreeItem}
 use Rattle.wax_directory.specs.declared.tree.Node.TheOpen.{Node-F, TreeItem-F}
-use Rattle.wax_directory.specs.declared.tree.Node.TheOpen as O
 use Rattle.wax_directory.specs.declared.tree.Node.TheViews.{out-Node, out-TreeItem}
 use Rattle.wax_directory.specs.declared.tree.Node.TheFolds.{fold-Node, fold-TreeItem}
 use Rattle.wax_directory.specs.Shown.{Items, end, leaf, folder, sealed, misnamed, unread, not_text, Shown}
 use Rattle.wax_directory.specs.Shown.{a_leaf, a_folder, a_sealed, missing, failing, Listed, named, no_item}
-use Rattle.wax_directory.specs.Shown.{no_name, leaf_kind}
-use Rattle.wax_directory.specs.Names.{is_plain, are_distinct}
+use Rattle.wax_directory.specs.{Shown.{no_name, leaf_kind}, Names.{is_plain, are_distinct}}
+use Rattle.wax_directory.specs.declared.tree.Node.TheOpen as O
 
 -- the file type of what is shown; what isn't a leaf counts as a folder
 abbrev pub kind_of : Shown → FileType

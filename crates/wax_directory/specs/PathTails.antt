@@ -1,13 +1,11 @@
 -- What is in a tree that is made from a list of paths.
 use Rattle.std.specs.Prelude.{◌≡◌, ℕ, Bool, true, false, not, cond, MatchBool, List, [], ◌∷◌, ◌++◌, map}
-use Rattle.std.specs.Prelude.{filter, Option, Some, None}
-use Rattle.std.specs.List.{list_any, filter_map}
-use Rattle.std.specs.Str.{bytes_eq}
+use Rattle.std.specs.{Prelude.{filter, Option, Some, None}, List.{list_any, filter_map}, Str.bytes_eq}
 use Rattle.wax_directory.specs.declared.directory.FileType.{FileType}
 use Rattle.wax_directory.specs.declared.directory.FileType.TheVariants.{File, Folder}
 use Rattle.wax_directory.specs.Shown.{Items, Shown, a_leaf, a_folder, missing, Listed, named, listing}
-use Rattle.wax_query.specs.Below.{ends_open}
 use Rattle.wax_directory.specs.Names.{is_rooted, names_in_path}
+use Rattle.wax_query.specs.Below.{ends_open}
 
 -- the part of a path below some folder: its names, and whether the path is a folder's
 pub data PathTail : Type 0 where

@@ -1,20 +1,15 @@
 -- The names in a path that is continued by a plain name.
-use Rattle.std.proofs.Common.{◌≡◌, ◌+◌, ℕ, true, false, not, cond, ◌&&◌, ◌==◌}
-use Rattle.std.proofs.Common.{◌⊎◌, List, [], ◌∷◌, ◌++◌, filter}
-use Rattle.std.proofs.Common.{slice_index_or, refl, sym, ◌∙◌, ap, subst, inl, inr}
-use Rattle.std.proofs.Common.{append_assoc, append-nil}
-use Rattle.std.specs.List.{slice_split, onto_first, list_any, Contains, Any}
-use Rattle.std.specs.Str.{bytes_eq, IsUtf8}
+use Rattle.std.proofs.Common.{◌≡◌, ◌+◌, ℕ, true, false, not, cond, ◌&&◌, ◌==◌, ◌⊎◌, List, [], ◌∷◌, ◌++◌}
+use Rattle.std.proofs.Common.{filter, slice_index_or, refl, sym, ◌∙◌, ap, subst, inl, inr, append_assoc}
+use Rattle.std.proofs.Common.{append-nil}
 use Rattle.std.proofs.lemmas.Bool.{and_parts, and_cases, or_parts, not-true, not-false, cond-true, cond-false}
-use Rattle.std.proofs.lemmas.Bool.{false≢true}
-use Rattle.std.proofs.lemmas.Slice.Eq.{bytes_eq-Decides}
-use Rattle.std.proofs.lemmas.Bool.Decides.{Decides-eqb}
-use Rattle.std.proofs.lemmas.List.Folds.{Any-from_list_any, list_any_at}
+use Rattle.std.proofs.{lemmas.Bool.false≢true, lemmas.Slice.Eq.bytes_eq-Decides}
+use Rattle.std.proofs.{lemmas.Bool.Decides.Decides-eqb, lemmas.List.Folds.{Any-from_list_any, list_any_at}}
 use Rattle.std.proofs.lemmas.List.Elements.{filter-append}
-use Rattle.wax_directory.specs.Shown.{end}
-use Rattle.wax_directory.specs.Shown.{IsPlain, join}
-use Rattle.wax_query.specs.Below.{ends_open}
+use Rattle.std.specs.{List.{slice_split, onto_first, list_any, Contains, Any}, Str.{bytes_eq, IsUtf8}}
+use Rattle.wax_directory.specs.Shown.{end, IsPlain, join}
 use Rattle.wax_directory.specs.Names.{is_entry_name, is_plain, is_some_name, names_in_path, is_rooted}
+use Rattle.wax_query.specs.Below.{ends_open}
 
 split_cons : (xs : List ℕ) → (part : List ℕ) × (parts : List (List ℕ)) ×
     (slice_split (λ c. c == 47) xs ≡ part ∷ parts)

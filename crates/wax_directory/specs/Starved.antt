@@ -1,6 +1,5 @@
 -- The law of a directory that runs out of memory once: that of the directory inside.
-use Rattle.wax_directory.specs.declared.starving.Starving.{Starving}
-use Rattle.wax_directory.specs.Law.{Law}
+use Rattle.wax_directory.specs.{declared.starving.Starving.Starving, Law.Law}
 
 abbrev pub starved_law : {D C : Type 0} → Law D C → Law (Starving D) C
 starved_law law = record {

@@ -1,10 +1,8 @@
 -- The open cursors of a tree, when one is opened, and when the last one is advanced or dropped.
 use Rattle.std.proofs.Common.{◌≡◌, List, [], ◌∷◌, ◌++◌, Result, Ok, Err, subst}
 use Rattle.wax_directory.specs.declared.directory.DirectoryFault.{DirectoryFault}
-use Rattle.wax_directory.specs.declared.directory.DirectoryFault.TheVariants.{Failed, Memory}
-use Rattle.wax_directory.specs.Answers.{Opens}
-use Rattle.wax_directory.specs.declared.tree.Node.{Node}
-use Rattle.wax_directory.specs.declared.tree.TreeCursor.{TreeCursor}
+use Rattle.wax_directory.specs.{declared.directory.DirectoryFault.TheVariants.{Failed, Memory}, Answers.Opens}
+use Rattle.wax_directory.specs.{declared.tree.Node.Node, declared.tree.TreeCursor.TreeCursor}
 use Rattle.wax_directory.specs.Shown.{Items, Shown, a_leaf, a_folder, a_sealed, missing, failing}
 use Rattle.wax_directory.specs.Trees.{HasItems, HaveEach}
 

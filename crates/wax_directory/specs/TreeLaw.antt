@@ -1,34 +1,28 @@
 -- A tree shows each entry of a folder at its path, and its names are distinct.
-use Rattle.std.proofs.Common.{◌≡◌, ◌<◌, ◌+◌, arith, ℕ, zero, suc, Bool, true, false, not, cond}
-use Rattle.std.proofs.Common.{List, [], ◌∷◌, ◌++◌, Some, string_bytes, slice_get}
-use Rattle.std.proofs.Common.{if◌then◌else◌, refl, sym, ◌∙◌, ap, subst}
-use Rattle.std.specs.List.{list_any}
-use Rattle.std.specs.Str.{bytes_eq}
+use Rattle.std.proofs.Common.{◌≡◌, ◌<◌, ◌+◌, arith, ℕ, zero, suc, Bool, true, false, not, cond, List, [], ◌∷◌}
+use Rattle.std.proofs.Common.{Some, string_bytes, slice_get, if◌then◌else◌, refl, sym, ◌∙◌, ap, subst}
 use Rattle.std.proofs.lemmas.Str.{IsUtf8-string_bytes}
-use Rattle.std.proofs.lemmas.Bool.{and_parts, or_parts, not-true, cond-true, cond-false}
-use Rattle.std.proofs.lemmas.Bool.{false≢true}
+use Rattle.std.proofs.lemmas.Bool.{and_parts, or_parts, not-true, cond-true, cond-false, false≢true}
 use Rattle.std.proofs.lemmas.Slice.Eq.{bytes_eq-Decides}
-use Rattle.wax_directory.specs.declared.tree.Tree.{Tree}
-use Rattle.wax_directory.specs.declared.tree.Node.{Node}
+use Rattle.std.specs.{List.list_any, Str.bytes_eq}
+use Rattle.wax_directory.specs.{declared.tree.Tree.Tree, declared.tree.Node.Node}
 use Rattle.wax_directory.specs.declared.tree.TreeItem.{TreeItem}
 use Rattle.wax_directory.specs.declared.tree.Node.TheOpen.{Node-F, TreeItem-F}
-use Rattle.wax_directory.specs.declared.tree.Node.TheOpen as O
 use Rattle.wax_directory.specs.declared.tree.Node.TheViews.{out-Node, out-TreeItem}
 use Rattle.wax_directory.specs.Shown.{Items, end, leaf, folder, sealed, misnamed, unread, not_text, Shown}
-use Rattle.wax_directory.specs.Shown.{a_leaf, a_folder, a_sealed, missing, failing, IsPlain, join}
-use Rattle.wax_directory.specs.Shown.{ShowsIn, child_in, child_shown, IsNew, AreDistinct, IsDistinct}
-use Rattle.wax_directory.specs.Names.{is_plain, names_in_path, is_rooted}
-use Rattle.wax_directory.specs.Names.{are_distinct}
-use Rattle.wax_directory.specs.Nodes.{kind_of, with_plain, shown_of}
-use Rattle.wax_directory.specs.Nodes.{items_shown, node_layer, entry_node, held_layer, held}
-use Rattle.wax_directory.specs.Nodes.{child_of, name_before, names_of}
-use Rattle.wax_directory.specs.Nodes.{HasDistinctNames, Reached, to_node, to_nothing, to_sealed, named_before}
-use Rattle.wax_directory.specs.Nodes.{named_in, below_layer, onward, reached, shown_reached}
+use Rattle.wax_directory.specs.Shown.{a_leaf, a_folder, a_sealed, missing, failing, IsPlain, join, ShowsIn}
+use Rattle.wax_directory.specs.Shown.{child_in, child_shown, IsNew, AreDistinct, IsDistinct}
+use Rattle.wax_directory.specs.Names.{is_plain, names_in_path, is_rooted, are_distinct}
+use Rattle.wax_directory.specs.Nodes.{kind_of, with_plain, shown_of, items_shown, node_layer, entry_node}
+use Rattle.wax_directory.specs.Nodes.{held_layer, held, child_of, name_before, names_of, HasDistinctNames}
+use Rattle.wax_directory.specs.Nodes.{Reached, to_node, to_nothing, to_sealed, named_before, named_in}
+use Rattle.wax_directory.specs.Nodes.{below_layer, onward, reached, shown_reached}
 use Rattle.wax_directory.specs.Trees.{tree_shows, reached_in}
 use Rattle.wax_directory.specs.inner.Reaching.{distinct_child, distinct_reached, folder_layer, item_layer}
 use Rattle.wax_directory.specs.inner.Reaching.{item_layer_shown, items_or, layer_shown, reached-append}
 use Rattle.wax_directory.specs.inner.Reaching.{shown_layer}
 use Rattle.wax_directory.specs.PlainNames.{Plainly, names_join, not_plain, plain_of, plainly, rooted_join}
+use Rattle.wax_directory.specs.declared.tree.Node.TheOpen as O
 
 -- ---- each item of a folder whose names are distinct is found
 

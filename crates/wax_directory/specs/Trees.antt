@@ -1,13 +1,9 @@
 -- A tree as a directory.
 use Rattle.std.specs.Prelude.{◌≡◌, ℕ, if◌then◌else◌, List, [], ◌∷◌, map, drop, Option, Some, None}
 use Rattle.std.specs.Prelude.{string_bytes, slice_get, ⊤}
-use Rattle.wax_directory.specs.declared.tree.Node.{Node}
-use Rattle.wax_directory.specs.declared.tree.TreeItem.{TreeItem}
-use Rattle.wax_directory.specs.declared.tree.Tree.{Tree}
-use Rattle.wax_directory.specs.declared.tree.TreeCursor.{TreeCursor}
-use Rattle.wax_directory.specs.Shown.{Items, Shown}
-use Rattle.wax_directory.specs.Law.{Law}
-use Rattle.wax_directory.specs.Names.{is_rooted, names_in_path}
+use Rattle.wax_directory.specs.{declared.tree.Node.Node, declared.tree.TreeItem.TreeItem}
+use Rattle.wax_directory.specs.{declared.tree.Tree.Tree, declared.tree.TreeCursor.TreeCursor}
+use Rattle.wax_directory.specs.{Shown.{Items, Shown}, Law.Law, Names.{is_rooted, names_in_path}}
 use Rattle.wax_directory.specs.Nodes.{Reached, reached, shown_reached, HasDistinctNames, node_at, held_of}
 use Rattle.wax_directory.specs.Nodes.{items_shown}
 

@@ -1,7 +1,6 @@
 -- The call that a directory singles out.
 use Rattle.std.specs.Prelude.{ℕ, suc, Option, Some, None, if◌then◌else◌}
-use Rattle.wax_directory.specs.declared.turn.Turn.{Turn}
-use Rattle.wax_directory.specs.declared.failing.Failing.{Failing}
+use Rattle.wax_directory.specs.{declared.turn.Turn.Turn, declared.failing.Failing.Failing}
 use Rattle.wax_directory.specs.declared.starving.Starving.{Starving}
 
 -- how many calls are forwarded before the singled-out one; `None` after that

@@ -51,8 +51,7 @@ pub enum ListItem {
 /// answers are claimed. A cursor may be a mere handle: what is open is known of all cursors
 /// together.
 pub trait Directory: Drop {
-    ghost use Rattle.wax_directory.specs.Answers.{KindIs, ListIs};
-    ghost use Rattle.wax_directory.specs.Calls.{OpensAt, Nexts, ReportsOpened};
+    ghost use Rattle.wax_directory.specs.{Answers.{KindIs, ListIs}, Calls.{OpensAt, Nexts, ReportsOpened}};
     ghost use Rattle.wax_directory.specs.Counting.{Counts, kind_counts, opening_counts, next_counts};
     ghost use Rattle.wax_directory.specs.History.{kind_answers, opening_answers, next_answers};
     ghost use Rattle.wax_directory.specs.Law.{Law, ShowsSame, HoldsSame, HoldsLast};

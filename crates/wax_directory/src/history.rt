@@ -1,10 +1,8 @@
 //! What a directory answered so far: a list that exists only in proofs.
 
-ghost use Rattle.std.specs.Prelude.{◌≡◌, List, [], ◌++◌};
-ghost use Rattle.std.specs.Borrow.{ftrue};
+ghost use Rattle.std.specs.{Prelude.{◌≡◌, List, [], ◌++◌}, Borrow.ftrue};
 ghost use Rattle.wax_directory.specs.History.{Answer, kind_answers, opening_answers, next_answers};
-ghost use Rattle.wax_directory.specs.inner.Coding.{answers_code};
-ghost use Rattle.wax_directory.specs.inner.Noted.{noted};
+ghost use Rattle.wax_directory.specs.{inner.Coding.answers_code, inner.Noted.noted};
 
 use crate::directory::{DirectoryFault, FileType, ListItem};
 use std::marker::Model;

@@ -1,6 +1,5 @@
 //! The laws of directories whose cursors may be used and dropped in any order.
-ghost use Rattle.wax_directory.specs.Independent.{AreIndependent, NextLeavesOthers};
-ghost use Rattle.wax_directory.specs.Trees.{tree_law};
+ghost use Rattle.wax_directory.specs.{Independent.{AreIndependent, NextLeavesOthers}, Trees.tree_law};
 
 use crate::directory::Directory;
 

@@ -1,10 +1,8 @@
 //! Paths and names as texts.
 
 ghost use Rattle.std.specs.Prelude.{◌≡◌, IfOk, map, string_bytes};
-ghost use Rattle.wax_directory.specs.Names.{names_in_path};
-ghost use Rattle.wax_directory.specs.Names.{is_plain as is_plain_name};
-ghost use Rattle.wax_directory.specs.Names.{is_rooted as is_rooted_path};
-ghost use Rattle.wax_directory.specs.Shown.{join as join_path};
+ghost use Rattle.wax_directory.specs.Names.{names_in_path, is_plain as is_plain_name};
+ghost use Rattle.wax_directory.specs.{Names.is_rooted as is_rooted_path, Shown.join as join_path};
 ghost use Rattle.wax_query.specs.Below.{ends_open};
 
 use std::alloc::{AllocError, Global};

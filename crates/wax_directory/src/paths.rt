@@ -1,13 +1,9 @@
 //! A tree from a list of paths.
 
-ghost use Rattle.std.specs.Prelude.{◌≡◌, ℕ, [], List, map, option_map, IfOk};
-ghost use Rattle.std.specs.List.{list_any};
-ghost use Rattle.wax_directory.specs.Counting.{no_counts};
-ghost use Rattle.wax_directory.specs.Nodes.{names_of, HasDistinctNames};
+ghost use Rattle.std.specs.{Prelude.{◌≡◌, ℕ, [], List, map, option_map, IfOk}, List.list_any};
+ghost use Rattle.wax_directory.specs.{Counting.no_counts, Nodes.{names_of, HasDistinctNames}};
 ghost use Rattle.wax_directory.specs.PathTails.{below_name, first_name, leads_on, rest_after, tails_from};
-ghost use Rattle.wax_directory.specs.PathTails.{tails_to, starts_at, StandsBy};
-ghost use Rattle.wax_directory.specs.Shown.{Shown};
-ghost use Rattle.wax_directory.specs.Trees.{tree_law};
+ghost use Rattle.wax_directory.specs.{PathTails.{tails_to, starts_at, StandsBy}, Shown.Shown, Trees.tree_law};
 ghost use Rattle.wax_directory.specs.inner.Growing.{new_name, Grows};
 
 use crate::path::{is_open, is_rooted, names_in};

@@ -1,20 +1,17 @@
 //! A directory in memory.
 
 ghost use Rattle.std.specs.Prelude.{◌≡◌, ◌⊎◌, ◌<◌, ◌-◌, ◌^◌, [], ℕ, if◌then◌else◌, OnOk, List, Some, map};
-ghost use Rattle.std.specs.List.{list_any};
 ghost use Rattle.std.specs.Prelude.{option_map, string_bytes, IfOk, IfErr, IfSome, MatchBool};
+ghost use Rattle.std.specs.List.{list_any};
 ghost use Rattle.wax_directory.specs.declared.directory.DirectoryFault.TheVariants.{Failed};
 ghost use Rattle.wax_directory.specs.declared.tree.Node.TheViews.{out-Node};
-ghost use Rattle.wax_directory.specs.Answers.{listed_of, KindIs, Opens};
-ghost use Rattle.wax_directory.specs.Calls.{Nexts};
-ghost use Rattle.wax_directory.specs.Names.{are_distinct};
+ghost use Rattle.wax_directory.specs.{Answers.{listed_of, KindIs, Opens}, Calls.Nexts, Names.are_distinct};
 ghost use Rattle.wax_directory.specs.Nodes.{node_at, child_at, held, entry_node, shown_of, listed_item};
 ghost use Rattle.wax_directory.specs.Nodes.{names_of, HasDistinctNames, HasDuplicateName, named_in};
-ghost use Rattle.wax_directory.specs.Nodes.{below_layer, reached};
-ghost use Rattle.wax_query.specs.declared.diagnostics.Refusal.TheVariants.{Refused, Memory};
-ghost use Rattle.wax_directory.specs.Counting.{no_counts};
+ghost use Rattle.wax_directory.specs.{Nodes.{below_layer, reached}, Counting.no_counts};
 ghost use Rattle.wax_directory.specs.Trees.{tree_law, HasItems, tree_start, reached_in, shown_in, item_at};
 ghost use Rattle.wax_directory.specs.inner.Places.{has_name, reached_place, reached_at, Locates};
+ghost use Rattle.wax_query.specs.declared.diagnostics.Refusal.TheVariants.{Refused, Memory};
 
 use crate::directory::{Directory, DirectoryFault, FileType, ListItem};
 use crate::history::History;
@@ -350,8 +347,7 @@ impl Tree {
 impl Directory for Tree {
     type Cursor = TreeCursor;
 
-    ghost use Rattle.wax_directory.specs.Trees.{tree_law};
-    ghost use Rattle.wax_directory.specs.TreeLaw.{tree_inner, tree_child, tree_distinct};
+    ghost use Rattle.wax_directory.specs.{Trees.tree_law, TreeLaw.{tree_inner, tree_child, tree_distinct}};
     ghost use Rattle.wax_directory.specs.TreeCursors.{last_dropped};
     ghost use Rattle.std.proofs.Common.{refl};
 

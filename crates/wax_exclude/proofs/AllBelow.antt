@@ -1,23 +1,20 @@
 -- All items of a walk that are below an entry, by the names of their candidates, come right after it.
-use Rattle.std.proofs.Common.{◌≡◌, ◌<◌, ◌≤◌, ◌⊎◌, ℕ, zero, suc, ◌-◌, ◌&&◌, ◌||◌, Bool, true, false, List}
-use Rattle.std.proofs.Common.{[], ◌∷◌, ◌++◌, length}
-use Rattle.std.proofs.Common.{refl, sym, ap, ◌∙◌, subst, inl, inr, append_assoc, append-nil, arith, get_or}
-use Rattle.std.proofs.Common.{nat_lt, not}
-use Rattle.std.specs.Prelude.{⊤}
-use Rattle.std.specs.List.{list_all}
+use Rattle.std.proofs.Common.{◌≡◌, ◌<◌, ◌≤◌, ◌⊎◌, ℕ, zero, suc, ◌-◌, ◌&&◌, ◌||◌, Bool, true, false, List, []}
+use Rattle.std.proofs.Common.{◌∷◌, ◌++◌, length, refl, sym, ap, ◌∙◌, subst, inl, inr, append_assoc}
+use Rattle.std.proofs.Common.{append-nil, arith, get_or, nat_lt, not}
 use Rattle.std.proofs.lemmas.Bool.{and_from, false_from_ne_true, lt-ltb, ltb-true}
+use Rattle.std.specs.{Prelude.⊤, List.list_all}
 use Rattle.wax_directory.specs.Names.{names_in_path}
 use Rattle.wax_directory.specs.Shown.{Items, end, leaf, folder, sealed, misnamed, unread, not_text, Shown}
-use Rattle.wax_directory.specs.Shown.{IsPlain}
-use Rattle.wax_directory.specs.Shown.{a_leaf, a_folder, a_sealed, missing, failing, join, IsNew}
+use Rattle.wax_directory.specs.Shown.{IsPlain, a_leaf, a_folder, a_sealed, missing, failing, join, IsNew}
 use Rattle.wax_directory.specs.Shown.{AreDistinct, IsDistinct}
 use Rattle.wax_walk.specs.declared.error.FaultKind.TheVariants.{Listing}
 use Rattle.wax_walk.specs.Given.{Facts, Mark, Given, entry, fault, no_memory, cut_by}
 use Rattle.wax_walk.specs.Left.{are_below, is_cancelled, is_deeper}
 use Rattle.wax_exclude.proofs.Belows.{IsAt, below_at, item_names, names_of, only_below}
 use Rattle.wax_exclude.specs.NamesBelow.{CancelsByNames, IsEntryBelow, IsBelowCut}
-use Rattle.wax_tree.specs.Plain.{Location, start_location, item_location, one_deeper}
 use Rattle.wax_exclude.specs.Premises.{ArePlainItems, IsPlainShown, IsWellNamed}
+use Rattle.wax_tree.specs.Plain.{Location, start_location, item_location, one_deeper}
 use Rattle.wax_tree.specs.Whole.{whole, whole_items}
 
 or_left : (a b : Bool) → a ≡ true → (a || b) ≡ true

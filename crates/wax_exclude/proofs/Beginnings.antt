@@ -1,23 +1,16 @@
 -- Which names the paths begin with that a glob means.
 use Rattle.std.proofs.Common.{◌≡◌, ◌≢◌, ◌∙◌, ◌⊎◌, ◌≤◌, ◌==◌, ℕ, Bool, true, false, List, [], ◌∷◌, ◌++◌}
 use Rattle.std.proofs.Common.{if◌then◌else◌, map, length, inl, inr, refl, sym, subst, ap, arith, append_assoc}
-use Rattle.std.proofs.Common.{append-nil, chars}
-use Rattle.std.specs.Prelude.{IfOk, MatchOption, None, Option, Some, Result, Ok, Err}
-use Rattle.std.specs.Str.{IsUtf8}
-use Rattle.std.proofs.lemmas.Bool.{cases_Bool, eqb-true}
-use Rattle.wax_facts.specs.Joined.{IsSeam}
-use Rattle.wax_facts.specs.Prefix.{Prefix}
+use Rattle.std.proofs.{Common.{append-nil, chars}, lemmas.Bool.{cases_Bool, eqb-true}}
+use Rattle.std.specs.{Prelude.{IfOk, MatchOption, None, Option, Some, Result, Ok, Err}, Str.IsUtf8}
+use Rattle.wax_facts.specs.{Joined.IsSeam, Prefix.Prefix}
 use Rattle.wax_facts.proofs.Seams.{Seam, prefix_seam}
 use Rattle.wax_query.specs.Components.{component_total, last_slash, slash, slashes, BeginsWithSlash}
-use Rattle.wax_query.specs.Components.{EndsWithSlash}
-use Rattle.wax_token.specs.Meaning.{HasNoSlash, Means}
-use Rattle.wax_token.specs.Syntax.{Tree}
-use Rattle.wax_query.specs.Below.{AreNames, joined_names, slashed}
-use Rattle.wax_exclude.specs.Candidates.{base, text_at}
-use Rattle.wax_exclude.specs.Premises.{BeginsWith, BoundsNames, IsUnmeant}
+use Rattle.wax_query.specs.{Components.EndsWithSlash, Below.{AreNames, joined_names, slashed}}
+use Rattle.wax_token.specs.{Meaning.{HasNoSlash, Means}, Syntax.Tree}
+use Rattle.wax_exclude.specs.{Candidates.{base, text_at}, Premises.{BeginsWith, BoundsNames, IsUnmeant}}
 use Rattle.wax_exclude.specs.Prefix.{HasEmptyName, PrefixSplitsInto, SplitsInto}
-use Rattle.wax_exclude.proofs.Adjacent.{none_adjacent}
-use Rattle.wax_exclude.proofs.SplitPrefixes.{are_names_in}
+use Rattle.wax_exclude.proofs.{Adjacent.none_adjacent, SplitPrefixes.are_names_in}
 use Rattle.wax_exclude.proofs.Names.{names_of_texts, texts_joined}
 use Rattle.wax_exclude.proofs.Texts.{chars_ended, empty_bytes, empty_chars, split_texts}
 

@@ -3,36 +3,26 @@ use Rattle.std.proofs.Common.{◌≡◌, ◌∙◌, ◌≤◌, ◌<◌, ◌+◌,
 use Rattle.std.proofs.Common.{◌∷◌, length, refl, sym, ap, subst, inl, inr}
 use Rattle.std.proofs.lemmas.Bool.{ltb-false, ltb-true}
 use Rattle.wax_prefilter.specs.Below.{goes_test}
-use Rattle.wax_directory.specs.Law.{Law}
-use Rattle.wax_directory.specs.Shown.{Shown}
+use Rattle.wax_directory.specs.{Law.Law, Shown.Shown}
 use Rattle.wax_tree.specs.Programs.{matches_below, matches_from}
-use Rattle.wax_query.specs.Ranges.{Bounds}
-use Rattle.wax_token.specs.Decided.{means_test}
-use Rattle.wax_token.specs.Reads.{Span}
-use Rattle.wax_token.specs.Syntax.{Tree}
 use Rattle.wax_tree.specs.Begins.{BeginsAt, FailsFrom, FailsNowhere, OnlyLacks}
-use Rattle.wax_tree.specs.declared.steps.DepthRange.{DepthRange}
-use Rattle.wax_tree.specs.Plain.{count_shown}
-use Rattle.wax_tree.specs.Prefix.{ArePlain}
-use Rattle.wax_walk.proofs.Filtered.{forest_swap}
-use Rattle.wax_walk.proofs.Following.{lacks_filtered, take_filtered_by, take_ruled}
+use Rattle.wax_tree.specs.{declared.steps.DepthRange.DepthRange, Plain.count_shown, Prefix.ArePlain}
+use Rattle.wax_query.specs.Ranges.{Bounds}
+use Rattle.wax_token.specs.{Decided.means_test, Reads.Span, Syntax.Tree}
+use Rattle.wax_walk.proofs.{Filtered.forest_swap, Following.{lacks_filtered, take_filtered_by, take_ruled}}
 use Rattle.wax_walk.proofs.Seen.{seen_itself}
-use Rattle.wax_walk.specs.Candidates.{Candidate, of_candidate}
-use Rattle.wax_walk.specs.Course.{Course, IsFiltered}
+use Rattle.wax_walk.specs.{Candidates.{Candidate, of_candidate}, Course.{Course, IsFiltered}}
 use Rattle.wax_walk.specs.Forest.{Forest, filtered, nothing, pending}
 use Rattle.wax_walk.specs.Given.{Facts, Given, Mark, changed_by, cut_by}
 use Rattle.wax_walk.specs.Pruned.{IsPrunedBy, keep_mark, opened_forest, opens_by as opened_by, pruned}
-use Rattle.wax_walk.specs.Pruned.{selected_view}
-use Rattle.wax_walk.specs.Ruled.{IsMarkBy, ruled_view}
+use Rattle.wax_walk.specs.{Pruned.selected_view, Ruled.{IsMarkBy, ruled_view}}
 use Rattle.wax_walk.specs.View.{IsSeenAs, MayTake, WalkView}
-use Rattle.wax_exclude.proofs.StackingRequests.{any_alone}
-use Rattle.wax_exclude.proofs.Telling.{selected_takes}
+use Rattle.wax_exclude.proofs.{StackingRequests.any_alone, Telling.selected_takes}
 use Rattle.wax_exclude.specs.BeginsRequest.{BeginsRequest, origin_from, request_from, walked_by}
 use Rattle.wax_exclude.specs.GlobRequests.{GlobRequest, walk_for}
 use Rattle.wax_exclude.specs.Pruned.{by_matches, least_mark, opens_where}
 use Rattle.wax_exclude.specs.RuledWalks.{ComesRuled, RuledWalk, WalkTakes, exceeds_range}
-use Rattle.wax_exclude.specs.Walked.{origin_walk}
-use Rattle.wax_exclude.specs.Wanted.{stacked}
+use Rattle.wax_exclude.specs.{Walked.origin_walk, Wanted.stacked}
 
 -- ---- what is shown comes, or nothing if there are too many names
 

@@ -1,25 +1,20 @@
 -- The items of a walk, by the names of their candidates.
 use Rattle.std.proofs.Common.{◌≡◌, ◌<◌, ◌≤◌, ℕ, zero, suc, ◌&&◌, Bool, true, List, [], ◌∷◌, ◌++◌, length}
-use Rattle.std.proofs.Common.{take, drop}
-use Rattle.std.proofs.Common.{refl, sym, ap, ◌∙◌, subst, inl, inr, append_assoc, append-nil, arith}
-use Rattle.std.specs.Prelude.{⊤}
-use Rattle.std.specs.List.{list_all}
-use Rattle.std.proofs.lemmas.Bool.{and_parts, or_cases, false≢true, ltb-true}
+use Rattle.std.proofs.Common.{take, drop, refl, sym, ap, ◌∙◌, subst, inl, inr, append_assoc, append-nil}
+use Rattle.std.proofs.{Common.arith, lemmas.Bool.{and_parts, or_cases, false≢true, ltb-true}}
 use Rattle.std.proofs.lemmas.List.{length-append, take-append-le, take-append-drop}
 use Rattle.std.proofs.lemmas.List.Elements.{Contains-append_right}
-use Rattle.wax_directory.specs.Names.{names_in_path}
-use Rattle.wax_directory.specs.PlainNames.{names_join, plainly}
+use Rattle.std.specs.{Prelude.⊤, List.list_all}
+use Rattle.wax_directory.specs.{Names.names_in_path, PlainNames.{names_join, plainly}}
 use Rattle.wax_directory.specs.declared.directory.FileType.{FileType}
 use Rattle.wax_directory.specs.declared.directory.FileType.TheVariants.{Folder}
 use Rattle.wax_directory.specs.Shown.{Items, end, leaf, folder, sealed, misnamed, unread, not_text, Shown}
-use Rattle.wax_directory.specs.Shown.{IsPlain}
-use Rattle.wax_directory.specs.Shown.{a_leaf, a_folder, a_sealed, missing, failing, join, leaf_kind}
+use Rattle.wax_directory.specs.Shown.{IsPlain, a_leaf, a_folder, a_sealed, missing, failing, join, leaf_kind}
 use Rattle.wax_walk.specs.Given.{Facts, Mark, Given, entry, fault, no_memory, cut_by}
 use Rattle.wax_walk.specs.declared.error.FaultKind.TheVariants.{Listing}
 use Rattle.wax_walk.specs.Left.{are_below, is_cancelled, is_deeper}
-use Rattle.wax_exclude.specs.NamesBelow.{IsBelowCut}
+use Rattle.wax_exclude.specs.{NamesBelow.IsBelowCut, Premises.{ArePlainItems, IsPlainShown}}
 use Rattle.wax_tree.specs.Plain.{Location, start_location, item_location, one_deeper, plain_entry}
-use Rattle.wax_exclude.specs.Premises.{ArePlainItems, IsPlainShown}
 use Rattle.wax_tree.specs.Whole.{whole, whole_items}
 
 abbrev pub names_of : Facts → List (List ℕ)

@@ -1,40 +1,26 @@
 -- What a least walk doesn't list: only what lies below folders below which nothing is meant, or that a filter
 -- excludes with everything below.
 use Rattle.std.proofs.Common.{◌≡◌, ℕ, Bool, true, false, ◌&&◌, not, ◌⊎◌, List, [], ◌∷◌, ◌++◌, map, refl, sym}
-use Rattle.std.proofs.Common.{Option, ap}
-use Rattle.std.proofs.Common.{subst, ◌∙◌, inl, inr, append_assoc, append-nil, chars}
-use Rattle.std.specs.List.{Contains}
-use Rattle.std.specs.Prelude.{All, nat_lt}
-use Rattle.std.proofs.lemmas.List.{map-append}
-use Rattle.std.proofs.lemmas.List.Elements.{All-contains, All-weaker}
+use Rattle.std.proofs.Common.{Option, ap, subst, ◌∙◌, inl, inr, append_assoc, append-nil, chars}
+use Rattle.std.proofs.{lemmas.List.map-append, lemmas.List.Elements.{All-contains, All-weaker}}
+use Rattle.std.specs.{List.Contains, Prelude.{All, nat_lt}}
 use Rattle.wax_facts.specs.Alternatives.{alternatives}
 use Rattle.wax_directory.specs.Shown.{Shown, a_leaf, a_folder, a_sealed, missing, failing, child_in}
 use Rattle.wax_token.specs.Decided.{means_test}
-use Rattle.wax_tree.specs.Begins.{Origin, origin_location, scope_in}
-use Rattle.wax_tree.specs.Walking.{entry_location}
-use Rattle.wax_tree.specs.declared.steps.DepthRange.{DepthRange}
-use Rattle.wax_tree.specs.Plain.{WalkScope, Location, plain_at}
+use Rattle.wax_tree.specs.{Begins.{Origin, origin_location, scope_in}, Walking.entry_location}
+use Rattle.wax_tree.specs.{declared.steps.DepthRange.DepthRange, Plain.{WalkScope, Location, plain_at}}
 use Rattle.wax_tree.specs.Prefix.{ArePlain, path_from, walk_from}
-use Rattle.wax_walk.specs.Candidates.{Candidate, of_candidate}
-use Rattle.wax_walk.specs.Forest.{Forest, nothing, listings}
-use Rattle.wax_walk.specs.Given.{Facts, Mark, with_tree, Given, entry}
-use Rattle.wax_walk.specs.Pruned.{is_closed, pruned}
-use Rattle.wax_exclude.proofs.Closing.{never_whole, none_meant}
-use Rattle.wax_exclude.proofs.Descending.{covered}
-use Rattle.wax_exclude.proofs.Headline.{at_start}
-use Rattle.wax_exclude.proofs.Ignored.{below_tested}
-use Rattle.wax_exclude.proofs.Names.{at_join, at_sees}
-use Rattle.wax_exclude.proofs.Reaching.{plain_child}
+use Rattle.wax_walk.specs.{Candidates.{Candidate, of_candidate}, Forest.{Forest, nothing, listings}}
+use Rattle.wax_walk.specs.{Given.{Facts, Mark, with_tree, Given, entry}, Pruned.{is_closed, pruned}}
+use Rattle.wax_exclude.proofs.{Closing.{never_whole, none_meant}, Descending.covered, Headline.at_start}
+use Rattle.wax_exclude.proofs.{Ignored.below_tested, Names.{at_join, at_sees}, Reaching.plain_child}
 use Rattle.wax_exclude.proofs.Staying.{OfNames, AllLose, Lie, lie_at, lie_filtered, stay, stay_stacked}
 use Rattle.wax_exclude.proofs.Tests.{covers_tested}
-use Rattle.wax_exclude.specs.Candidates.{base, candidate_at}
-use Rattle.wax_exclude.specs.Covers.{covers_test}
-use Rattle.wax_exclude.specs.Ignored.{is_ignored, below_test}
-use Rattle.wax_exclude.specs.inner.Descents.{At, child_location}
+use Rattle.wax_exclude.specs.{Candidates.{base, candidate_at}, Covers.covers_test}
+use Rattle.wax_exclude.specs.{Ignored.{is_ignored, below_test}, inner.Descents.{At, child_location}}
 use Rattle.wax_exclude.specs.Premises.{IsPlainShown}
 use Rattle.wax_exclude.specs.Pruned.{TestsBelow, opens_where, least_rules, IsUnmeantBelow, IsCovered}
-use Rattle.wax_exclude.specs.Pruned.{SomeCovers, IsCoveredBelow}
-use Rattle.wax_exclude.specs.Walked.{ExcludesBelow, origin_walk}
+use Rattle.wax_exclude.specs.{Pruned.{SomeCovers, IsCoveredBelow}, Walked.{ExcludesBelow, origin_walk}}
 use Rattle.wax_exclude.specs.Wanted.{Filter, not_meant, not_ignored, Wanted, stacked, filter_mark}
 use Rattle.wax_exclude.specs.Wanted.{filter_rules}
 

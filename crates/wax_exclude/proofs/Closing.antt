@@ -1,39 +1,29 @@
 -- What the least walk of a glob keeps: below a folder that isn't opened nothing is wanted.
 use Rattle.std.proofs.Common.{◌≡◌, ℕ, ◌+◌, ◌<◌, ◌≤◌, Bool, true, false, ◌&&◌, not, cond, if◌then◌else◌}
 use Rattle.std.proofs.Common.{Option, List, [], ◌∷◌, ◌++◌, length, map, refl, sym, ap, subst, ◌∙◌, arith}
-use Rattle.std.proofs.Common.{append_assoc, length-append, chars}
-use Rattle.std.specs.Prelude.{filter, nat_lt}
-use Rattle.std.specs.Str.{all_scalars}
-use Rattle.std.proofs.lemmas.Bool.{ltb-true}
+use Rattle.std.proofs.{Common.{append_assoc, length-append, chars}, lemmas.Bool.ltb-true}
 use Rattle.std.proofs.lemmas.List.{map-append}
+use Rattle.std.specs.{Prelude.{filter, nat_lt}, Str.all_scalars}
 use Rattle.wax_directory.specs.declared.directory.FileType.{FileType}
 use Rattle.wax_directory.specs.declared.directory.FileType.TheVariants.{Folder}
 use Rattle.wax_directory.specs.Shown.{Items, end, leaf, folder, sealed, misnamed, unread, not_text, Shown}
 use Rattle.wax_directory.specs.Shown.{a_leaf, a_folder, a_sealed, missing, failing, leaf_kind}
-use Rattle.wax_token.specs.Decided.{means_test, means_tested}
-use Rattle.wax_token.specs.Meaning.{Means}
-use Rattle.wax_token.specs.Syntax.{Tree}
-use Rattle.wax_tree.specs.Plain.{WalkScope, Location, one_deeper, plain_entry, items_forest}
-use Rattle.wax_tree.specs.Plain.{plain_at}
+use Rattle.wax_token.specs.{Decided.{means_test, means_tested}, Meaning.Means, Syntax.Tree}
+use Rattle.wax_tree.specs.Plain.{WalkScope, Location, one_deeper, plain_entry, items_forest, plain_at}
 use Rattle.wax_tree.specs.Programs.{limit_below}
-use Rattle.wax_walk.specs.Candidates.{of_candidate}
-use Rattle.wax_walk.specs.declared.error.FaultKind.{FaultKind}
+use Rattle.wax_walk.specs.{Candidates.of_candidate, declared.error.FaultKind.FaultKind}
 use Rattle.wax_walk.specs.declared.error.FaultKind.TheVariants.{Listing}
 use Rattle.wax_walk.specs.Forest.{Forest, nothing, item, lists, preorder, followed_by}
 use Rattle.wax_walk.specs.Given.{Facts, Mark, kept, alone, with_tree, Given, entry, fault, no_memory}
-use Rattle.wax_walk.specs.View.{is_folder_kind}
-use Rattle.wax_walk.specs.Pruned.{is_closed, pruned}
+use Rattle.wax_walk.specs.{View.is_folder_kind, Pruned.{is_closed, pruned}}
 use Rattle.wax_exclude.proofs.Filters.{filters_keep}
 use Rattle.wax_exclude.proofs.Names.{at_join, chars_joined, length_names, names_chars, names_scalars}
 use Rattle.wax_exclude.proofs.LimitsBelow.{allows_more}
 use Rattle.wax_exclude.proofs.Pruning.{NoneCut, all_pass_left, none_if, none_unless, same_left}
-use Rattle.wax_exclude.proofs.Reaching.{never, none_of}
-use Rattle.wax_exclude.proofs.Stacking.{stacked_entries}
+use Rattle.wax_exclude.proofs.{Reaching.{never, none_of}, Stacking.stacked_entries}
 use Rattle.wax_exclude.proofs.Walked.{agree_inside, pass_filters, same_filter}
-use Rattle.wax_query.specs.Below.{AreNames}
-use Rattle.wax_query.specs.Ranges.{AtMost}
-use Rattle.wax_exclude.specs.Candidates.{text_at}
-use Rattle.wax_exclude.specs.inner.Descents.{At, child_location}
+use Rattle.wax_query.specs.{Below.AreNames, Ranges.AtMost}
+use Rattle.wax_exclude.specs.{Candidates.text_at, inner.Descents.{At, child_location}}
 use Rattle.wax_exclude.specs.inner.Stacks.{keeps, all_keep, is_left, IsEntryLeftOut, LeavesOutAll, PassesDown}
 use Rattle.wax_exclude.specs.Premises.{ArePlainItems, IsPlainShown}
 use Rattle.wax_exclude.specs.Pruned.{MeansLonger, TestsBelow, opens_where, least_mark, least_rules}

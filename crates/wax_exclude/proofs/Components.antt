@@ -1,12 +1,10 @@
 -- The components of tokens once more, put together from the right.
 use Rattle.std.proofs.Common.{◌≡◌, ℕ, suc, ◌+◌, Bool, true, false, ◌||◌, not, cond, List, [], ◌∷◌, ◌++◌, take}
 use Rattle.std.proofs.Common.{map, refl, sym, ap, subst, ◌∙◌, arith}
-use Rattle.std.specs.Prelude.{⊤}
-use Rattle.std.specs.List.{before_first, list_any, position_or_len}
+use Rattle.std.specs.{Prelude.⊤, List.{before_first, list_any, position_or_len}}
 use Rattle.wax_components.specs.Parts.{components_in}
 use Rattle.wax_token.specs.Kinds.{is_separator, is_tree_wildcard, is_boundary, has_boundary}
-use Rattle.wax_token.specs.Kinds.{some_has_boundary}
-use Rattle.wax_token.specs.Meaning.{MeansEach}
+use Rattle.wax_token.specs.{Kinds.some_has_boundary, Meaning.MeansEach}
 use Rattle.wax_token.specs.Syntax.{literal, class, separator, one, zero_or_more, tree, Tree, leaf}
 use Rattle.wax_token.specs.Syntax.{alternation, concatenation, repetition, Trees, none, more}
 use Rattle.wax_token.specs.Words.{trees, listed}

@@ -1,33 +1,23 @@
 -- Folders below which everything is excluded.
 use Rattle.std.proofs.Common.{◌≡◌, ◌↔◌, ◌==◌, ◌||◌, ◌&&◌, ℕ, Bool, IsTrue, true, false, not, cond, List, []}
-use Rattle.std.proofs.Common.{◌∷◌, ◌++◌, length}
-use Rattle.std.proofs.Common.{refl, sym, ap, subst, ◌∙◌, inl, inr, arith, append_assoc, nat_lt}
-use Rattle.std.specs.Prelude.{filter}
+use Rattle.std.proofs.Common.{◌∷◌, ◌++◌, length, refl, sym, ap, subst, ◌∙◌, inl, inr, arith, append_assoc}
+use Rattle.std.proofs.{Common.nat_lt, lemmas.Bool.lt-ltb}
+use Rattle.std.specs.{Prelude.filter, List.{list_any, onto_first, slice_split}}
 use mir.Val.{bool_byte}
-use Rattle.std.specs.List.{list_any, onto_first, slice_split}
-use Rattle.std.proofs.lemmas.Bool.{lt-ltb}
 use Rattle.wax_facts.proofs.Means.{as_members, means_one_of, of_members}
 use Rattle.wax_facts.specs.Alternatives.{alternatives}
 use Rattle.wax_directory.specs.Names.{is_some_name, names_in_path}
 use Rattle.wax_query.specs.Below.{IsBelow, ends_open}
-use Rattle.wax_token.specs.Decided.{means_test, means_tested}
-use Rattle.wax_token.specs.Meaning.{Means, MeansSome}
-use Rattle.wax_token.specs.Reads.{Span}
-use Rattle.wax_token.specs.Syntax.{Tree}
-use Rattle.wax_token.specs.Words.{members, trees}
-use Rattle.wax_walk.specs.Candidates.{Candidate}
-use Rattle.wax_walk.specs.Given.{Mark, with_tree}
+use Rattle.wax_token.specs.{Decided.{means_test, means_tested}, Meaning.{Means, MeansSome}, Reads.Span}
+use Rattle.wax_token.specs.{Syntax.Tree, Words.{members, trees}}
+use Rattle.wax_walk.specs.{Candidates.Candidate, Given.{Mark, with_tree}}
 use Rattle.wax_exclude.proofs.Descending.{covered, everything_meant, wild_goes_on}
-use Rattle.wax_exclude.proofs.Ignored.{below_ignored, below_tested}
-use Rattle.wax_exclude.proofs.Tests.{covers_tested}
+use Rattle.wax_exclude.proofs.{Ignored.{below_ignored, below_tested}, Tests.covers_tested}
 use Rattle.wax_exclude.specs.Candidates.{NoSlashAfterNames, folder_at}
 use Rattle.wax_exclude.specs.Covers.{Covers, CoversSome, covers_test, is_everything, some_everything}
-use Rattle.wax_exclude.specs.Covers.{wild_test}
-use Rattle.wax_exclude.specs.Excluded.{excluded_mark, some_test}
-use Rattle.wax_exclude.specs.GlobRequests.{IsRuleOf}
+use Rattle.wax_exclude.specs.{Covers.wild_test, Excluded.{excluded_mark, some_test}, GlobRequests.IsRuleOf}
 use Rattle.wax_exclude.specs.Ignored.{IgnoresBelow, Line, all_ignore, below_test, ignore_mark, is_ignored}
-use Rattle.wax_exclude.specs.Marks.{covered_mark}
-use Rattle.wax_exclude.specs.Walked.{ExcludesBelow}
+use Rattle.wax_exclude.specs.{Marks.covered_mark, Walked.ExcludesBelow}
 use Rattle.wax_exclude.specs.Wanted.{Filter, excludes, filter_mark, not_ignored, not_meant}
 
 -- ---- folders as rules see them
@@ -89,12 +79,16 @@ answers_same answer mark other e asks = ((λ t. sym e ∙ asks.0 t), (λ t. asks
 
 module _ (answer : Bool) (mark : Mark) (asks : Asks answer mark) (c d : Candidate) (text : c.text ≡ d.text)
     (depth : nat_lt 0 c.depth ≡ nat_lt 0 d.depth) where
-  pub answers_covers : (ts : List (Tree Span)) → mark ≡ excluded_mark ts c → IsTrue answer ↔ CoversSome ts d
-  answers_covers ts e =
-      let says = answers_same answer mark (excluded_mark ts d) (e ∙ excluded_alike c d text depth ts) asks in
-      let so = covered_so (covers_test ts d) (some_test ts d.text) in
-      let tested = covers_tested ts d in
-      ((λ t. tested.0 (so.0 (says.0 t))), (λ h. says.1 (so.1 (tested.1 h))))
+  module _ (ts : List (Tree Span)) (e : mark ≡ excluded_mark ts c) where
+    pub answers_excluded : Asks answer (excluded_mark ts d)
+    answers_excluded =
+        answers_same answer mark (excluded_mark ts d) (e ∙ excluded_alike c d text depth ts) asks
+
+    pub answers_covers : IsTrue answer ↔ CoversSome ts d
+    answers_covers =
+        let so = covered_so (covers_test ts d) (some_test ts d.text) in
+        let tested = covers_tested ts d in
+        ((λ t. tested.0 (so.0 (answers_excluded.0 t))), (λ h. answers_excluded.1 (so.1 (tested.1 h))))
 
   module _ (lines : List (Line Span)) (e : mark ≡ ignore_mark lines c) where
     pub answers_mark : Asks answer (ignore_mark lines d)

@@ -1,10 +1,8 @@
 -- The line that decides, by its index.
-use Rattle.std.proofs.Common.{◌∙◌, ◌↔◌, ℕ, false, List, Option, Some, None, ap, arith, refl}
-use Rattle.std.proofs.Common.{sym}
+use Rattle.std.proofs.Common.{◌∙◌, ◌↔◌, ℕ, false, List, Option, Some, None, ap, arith, refl, sym}
 use Rattle.wax_exclude.proofs.IdleLaw.{all_stay, last_decides, none, unmatched}
 use Rattle.wax_exclude.specs.Deciding.{DecidingLineDecides, IsDecidingLine, SaysLines, ignores_if}
-use Rattle.wax_exclude.specs.Idle.{LineMeans}
-use Rattle.wax_exclude.specs.Ignored.{Line}
+use Rattle.wax_exclude.specs.{Idle.LineMeans, Ignored.Line}
 use Rattle.wax_lazy.specs.Numbers.{IsLastNumber, IsLastWhere}
 use Rattle.wax_program.specs.declared.instruction.Instruction.{Instruction}
 use Rattle.wax_token.specs.Reads.{Span}

@@ -5,25 +5,21 @@ use Rattle.wax_facts.proofs.Means.{as_members, means_one_of, of_members}
 use Rattle.wax_facts.specs.Alternatives.{alternatives}
 use Rattle.wax_components.specs.TopLevel.{tokens_of}
 use Rattle.wax_token.specs.Decided.{means_test, means_tested}
-use Rattle.wax_query.specs.Components.{BeginsWithSlash}
 use Rattle.wax_token.specs.Meaning.{TreeMeans, Means, MeansSome, MeansEach}
 use Rattle.wax_token.specs.Spelled.{LiteralsHaveNoSlash, AllHaveNoSlash}
 use Rattle.wax_token.specs.Syntax.{literal, class, separator, one, zero_or_more, tree, Tree, leaf}
 use Rattle.wax_token.specs.Syntax.{alternation, concatenation, repetition, Trees, none, more}
 use Rattle.wax_token.specs.Words.{members, trees, listed}
-use Rattle.wax_walk.specs.Candidates.{Candidate}
-use Rattle.wax_walk.specs.Given.{with_tree}
+use Rattle.wax_query.specs.{Components.BeginsWithSlash, Below.{slashed, joined_names, AreNames}}
+use Rattle.wax_walk.specs.{Candidates.Candidate, Given.with_tree}
 use Rattle.wax_exclude.proofs.LeadingComponents.{lead, sep_leads}
 use Rattle.wax_exclude.proofs.Components.{RowsLead, leading_rows, rows_lead}
 use Rattle.wax_exclude.proofs.Tests.{lead_tested, covers_tested}
-use Rattle.wax_query.specs.Below.{slashed, joined_names, AreNames}
-use Rattle.wax_exclude.specs.Candidates.{base, text_at}
-use Rattle.wax_exclude.specs.Candidates.{candidate_at}
+use Rattle.wax_exclude.specs.Candidates.{base, text_at, candidate_at}
 use Rattle.wax_exclude.specs.Covers.{is_everything, ends_wild, Covers, CoversSome, covers_test}
 use Rattle.wax_exclude.specs.Leading.{leading, leading_of, begins_with_separator, Lead, lead_test}
 use Rattle.wax_exclude.specs.Marks.{led_mark, covered_mark, glob_mark, not_mark}
-use Rattle.wax_exclude.specs.inner.Descents.{said_of, Descends}
-use Rattle.wax_exclude.specs.inner.Stacks.{keeps}
+use Rattle.wax_exclude.specs.{inner.Descents.{said_of, Descends}, inner.Stacks.keeps}
 
 -- ---- a glob's walk
 

@@ -2,19 +2,15 @@
 use Rattle.std.proofs.Common.{◌≡◌, ◌↔◌, ◌∙◌, ◌<◌, ◌≤◌, ◌+◌, ◌++◌, ◌∷◌, [], ℕ, zero, suc, Bool, true, false}
 use Rattle.std.proofs.Common.{cond, Contains, List, Option, Some, None, ap, append-nil, append_assoc, arith}
 use Rattle.std.proofs.Common.{filter, filter_map, get_or, inl, inr, length, map-id, refl, slice_get, subst}
-use Rattle.std.proofs.Common.{sym, take}
-use Rattle.std.proofs.lemmas.Bool.{cases_eq, cases_lt}
+use Rattle.std.proofs.{Common.{sym, take}, lemmas.Bool.{cases_eq, cases_lt}}
 use Rattle.std.proofs.lemmas.List.{length_push, take_more}
 use Rattle.std.proofs.lemmas.List.Elements.{Contains-append_right, filter_map-append}
 use Rattle.std.proofs.lemmas.List.FromFn.{get_or-range_with_len, length-range_with_len}
-use Rattle.std.proofs.lemmas.List.FromFn.{map-range_with_len_more}
-use Rattle.std.proofs.lemmas.List.Kept.{AllPairs-from_increasing}
+use Rattle.std.proofs.{lemmas.List.FromFn.map-range_with_len_more, lemmas.List.Kept.AllPairs-from_increasing}
 use Rattle.std.proofs.lemmas.Option.{get_or_from_slice_get, none-some, same_Some, slice_get-get_or}
 use Rattle.std.proofs.lemmas.Option.{slice_get_within}
-use Rattle.std.specs.List.{AllZip, cons_option, range_with_len}
-use Rattle.std.specs.List.Sorted.{IsStrictlyIncreasing}
-use Rattle.wax_exclude.specs.Idle.{drop_where}
-use Rattle.wax_exclude.specs.Tidy.{AreAt}
+use Rattle.std.specs.{List.{AllZip, cons_option, range_with_len}, List.Sorted.IsStrictlyIncreasing}
+use Rattle.wax_exclude.specs.{Idle.drop_where, Tidy.AreAt}
 
 -- ---- elements and their indexes
 pub found_at : {X : Type 0} (xs : List X) (x : X) → Contains xs x → (k : ℕ) × (slice_get xs k ≡ Some x)

@@ -1,30 +1,23 @@
 -- Walks of which nothing is wanted.
 use Rattle.std.proofs.Common.{◌≡◌, ℕ, ◌<◌, ◌≤◌, Bool, true, false, ◌⊎◌, cond, List, [], ◌∷◌, ◌++◌, map}
-use Rattle.std.proofs.Common.{length}
-use Rattle.std.proofs.Common.{refl, sym, ap, ◌∙◌, arith, append-nil, chars, length-append, inl, inr}
-use Rattle.std.specs.Prelude.{filter, nat_lt}
+use Rattle.std.proofs.Common.{length, refl, sym, ap, ◌∙◌, arith, append-nil, chars, length-append, inl, inr}
 use Rattle.std.proofs.lemmas.Bool.{ltb-true}
+use Rattle.std.specs.Prelude.{filter, nat_lt}
 use Rattle.wax_directory.specs.declared.directory.FileType.{FileType}
 use Rattle.wax_directory.specs.declared.directory.FileType.TheVariants.{Folder}
 use Rattle.wax_directory.specs.Shown.{Items, end, leaf, folder, sealed, misnamed, unread, not_text, Shown}
 use Rattle.wax_directory.specs.Shown.{a_leaf, a_folder, a_sealed, missing, failing, leaf_kind}
-use Rattle.wax_tree.specs.Begins.{Origin, origin_location, scope_in}
-use Rattle.wax_tree.specs.declared.steps.DepthRange.{DepthRange}
+use Rattle.wax_tree.specs.{Begins.{Origin, origin_location, scope_in}, declared.steps.DepthRange.DepthRange}
 use Rattle.wax_tree.specs.Plain.{WalkScope, Location, one_deeper, plain_entry, items_forest, below_forest}
-use Rattle.wax_tree.specs.Plain.{plain_at}
-use Rattle.wax_tree.specs.Prefix.{ArePlain}
+use Rattle.wax_tree.specs.{Plain.plain_at, Prefix.ArePlain}
 use Rattle.wax_walk.specs.declared.error.FaultKind.{FaultKind}
 use Rattle.wax_walk.specs.declared.error.FaultKind.TheVariants.{Listing, NotFound}
-use Rattle.wax_walk.specs.Forest.{Forest, nothing, item, lists, preorder}
-use Rattle.wax_walk.specs.Given.{Given, fault}
+use Rattle.wax_walk.specs.{Forest.{Forest, nothing, item, lists, preorder}, Given.{Given, fault}}
 use Rattle.wax_exclude.proofs.Headline.{bytes_begin, unmeant, at_start, plain_wanted}
-use Rattle.wax_exclude.proofs.Names.{at_join, names_chars, length_names}
-use Rattle.wax_exclude.proofs.Reaching.{of_unless, of_fault}
-use Rattle.wax_exclude.specs.Candidates.{base}
-use Rattle.wax_exclude.specs.inner.Descents.{At, child_location}
+use Rattle.wax_exclude.proofs.{Names.{at_join, names_chars, length_names}, Reaching.{of_unless, of_fault}}
+use Rattle.wax_exclude.specs.{Candidates.base, inner.Descents.{At, child_location}}
 use Rattle.wax_exclude.specs.Premises.{BeginsWith, BoundsNames, IsUnmeant, ArePlainItems, IsPlainShown}
-use Rattle.wax_exclude.specs.Walked.{wanted_entries}
-use Rattle.wax_exclude.specs.Wanted.{Wanted, is_wanted}
+use Rattle.wax_exclude.specs.{Walked.wanted_entries, Wanted.{Wanted, is_wanted}}
 
 module _ (p : Given → Bool)
     (no_faults : (kind : FaultKind) (path : List ℕ) (depth : ℕ) → p (fault kind path depth) ≡ false)

@@ -1,35 +1,25 @@
 -- A least walk lists exactly the folders of the plain walk that it may.
 use Rattle.std.proofs.Common.{◌≡◌, ◌↔◌, ℕ, Bool, true, false, ◌⊎◌, cond, List, [], ◌∷◌, ◌++◌, map, refl, sym}
-use Rattle.std.proofs.Common.{◌+◌, ◌≤◌, Option, ap, length, length-append}
-use Rattle.std.proofs.Common.{subst, ◌∙◌, inl, inr, arith, append_assoc, append-nil, chars}
-use Rattle.std.specs.List.{Contains}
-use Rattle.std.specs.Str.{all_scalars}
-use Rattle.std.proofs.lemmas.List.{append_cancel_left, map-append}
+use Rattle.std.proofs.Common.{◌+◌, ◌≤◌, Option, ap, length, length-append, subst, ◌∙◌, inl, inr, arith}
+use Rattle.std.proofs.{Common.{append_assoc, append-nil, chars}, lemmas.List.{append_cancel_left, map-append}}
 use Rattle.std.proofs.lemmas.List.Elements.{All-contains, Contains-append_left, Contains-append_right}
-use Rattle.wax_directory.specs.Names.{names_in_path}
-use Rattle.wax_directory.specs.Shown.{Shown, join}
+use Rattle.std.specs.{List.Contains, Str.all_scalars}
+use Rattle.wax_directory.specs.{Names.names_in_path, Shown.{Shown, join}}
 use Rattle.wax_token.specs.Meaning.{HasNoSlash, Means}
-use Rattle.wax_tree.specs.Begins.{Origin}
-use Rattle.wax_tree.specs.declared.steps.DepthRange.{DepthRange}
-use Rattle.wax_tree.specs.Prefix.{ArePlain, path_from}
+use Rattle.wax_tree.specs.{Begins.Origin, declared.steps.DepthRange.DepthRange, Prefix.{ArePlain, path_from}}
 use Rattle.wax_tree.specs.Programs.{limit_below}
 use Rattle.wax_walk.specs.Forest.{Forest, nothing, item, lists, listings, filtered}
-use Rattle.wax_walk.specs.Given.{Facts, Mark, Given, changed_by, cut_by}
-use Rattle.wax_walk.specs.Pruned.{is_closed, pruned}
+use Rattle.wax_walk.specs.{Given.{Facts, Mark, Given, changed_by, cut_by}, Pruned.{is_closed, pruned}}
 use Rattle.wax_exclude.proofs.Closed.{plain_later, loses_shut}
 use Rattle.wax_exclude.proofs.Names.{length_names, names_bytes, names_chars, names_in_joined}
-use Rattle.wax_exclude.proofs.LimitsBelow.{allows_both}
-use Rattle.wax_query.proofs.Ends.{closed_name, open_append}
-use Rattle.wax_exclude.proofs.Opened.{opens_few}
+use Rattle.wax_exclude.proofs.{LimitsBelow.allows_both, Opened.opens_few}
 use Rattle.wax_exclude.proofs.Staying.{Each, each_more, each_filtered, all_listed}
-use Rattle.wax_query.specs.Ranges.{AtMost}
-use Rattle.wax_query.specs.Below.{AreNames, joined_names, slashed, ends_open}
-use Rattle.wax_exclude.specs.Candidates.{text_at}
-use Rattle.wax_exclude.specs.Premises.{IsPlainShown}
+use Rattle.wax_query.proofs.Ends.{closed_name, open_append}
+use Rattle.wax_query.specs.{Ranges.AtMost, Below.{AreNames, joined_names, slashed, ends_open}}
+use Rattle.wax_exclude.specs.{Candidates.text_at, Premises.IsPlainShown}
 use Rattle.wax_exclude.specs.Pruned.{MeansLonger, TestsBelow, opens_where, least_rules, least_walk}
 use Rattle.wax_exclude.specs.Pruned.{CanWalkLeast, MayOpen, IsUnmeantBelow, SomeCovers, IsCoveredBelow}
-use Rattle.wax_exclude.specs.Walked.{AreUncovered, origin_walk}
-use Rattle.wax_exclude.specs.Wanted.{Filter, Wanted, stacked}
+use Rattle.wax_exclude.specs.{Walked.{AreUncovered, origin_walk}, Wanted.{Filter, Wanted, stacked}}
 
 -- ---- paths tell their names
 

@@ -1,27 +1,19 @@
 -- The feed of a walk with filters is what they leave of the list.
 use Rattle.std.proofs.Common.{◌≡◌, ◌∙◌, ℕ, ◌+◌, ◌<◌, ◌≤◌, Bool, true, false, List, [], refl, ap, subst, arith}
-use Rattle.std.specs.Prelude.{if◌then◌else◌}
 use Rattle.std.proofs.lemmas.Bool.{ltb-false}
+use Rattle.std.specs.Prelude.{if◌then◌else◌}
 use Rattle.wax_directory.specs.Shown.{Shown}
-use Rattle.wax_tree.specs.Programs.{any_mark}
-use Rattle.wax_tree.proofs.InRange.{along_yielded}
-use Rattle.wax_tree.proofs.Levelled.{levelled_along}
-use Rattle.wax_tree.specs.Begins.{origin_location, scope_in}
-use Rattle.wax_tree.specs.Plain.{count_shown}
+use Rattle.wax_tree.specs.{Programs.any_mark, Begins.{origin_location, scope_in}, Plain.count_shown}
+use Rattle.wax_tree.proofs.{InRange.along_yielded, Levelled.levelled_along}
 use Rattle.wax_walk.proofs.Leaving.{leaves_list, levelled_opened, opens_list}
-use Rattle.wax_walk.specs.Collected.{Yielded, IsCutShort}
-use Rattle.wax_walk.specs.Collected as given
-use Rattle.wax_walk.specs.declared.error.FaultKind.TheVariants.{Budget}
-use Rattle.wax_walk.specs.Forest.{nothing, preorder}
-use Rattle.wax_walk.specs.Given.{Given, fault, no_memory, changed_by, cut_by}
-use Rattle.wax_walk.specs.Left.{left_of, opened_items}
-use Rattle.wax_walk.specs.Pruned.{opened_forest}
+use Rattle.wax_walk.specs.{Collected.{Yielded, IsCutShort}, declared.error.FaultKind.TheVariants.Budget}
+use Rattle.wax_walk.specs.{Forest.{nothing, preorder}, Given.{Given, fault, no_memory, changed_by, cut_by}}
+use Rattle.wax_walk.specs.{Left.{left_of, opened_items}, Pruned.opened_forest}
 use Rattle.wax_exclude.proofs.StackingRequests.{stacked_any}
-use Rattle.wax_exclude.specs.Feeds.{FeedsByRules, FeedsByWalk, FeedsRuled, feed_of}
-use Rattle.wax_exclude.specs.Feeds.{gives, lacks_memory, over_budget}
-use Rattle.wax_exclude.specs.RuledWalks.{RuledWalk, exceeds_range, ruled_pending}
-use Rattle.wax_exclude.specs.Walked.{origin_walk}
-use Rattle.wax_exclude.specs.Wanted.{stacked}
+use Rattle.wax_exclude.specs.Feeds.{FeedsByRules, FeedsByWalk, FeedsRuled, feed_of, gives, lacks_memory}
+use Rattle.wax_exclude.specs.{Feeds.over_budget, RuledWalks.{RuledWalk, exceeds_range, ruled_pending}}
+use Rattle.wax_exclude.specs.{Walked.origin_walk, Wanted.stacked}
+use Rattle.wax_walk.specs.Collected as given
 
 pub feeds_by_rules : FeedsByRules
 feeds_by_rules rules opening range origin s fits =

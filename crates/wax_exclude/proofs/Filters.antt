@@ -2,16 +2,11 @@
 use Rattle.std.proofs.Common.{◌≡◌, Bool, false, ◌&&◌, not, List, [], ◌∷◌, refl, ap, ◌∙◌, chars}
 use Rattle.wax_facts.specs.Alternatives.{alternatives}
 use Rattle.wax_token.specs.Decided.{means_test}
-use Rattle.wax_walk.specs.Candidates.{Candidate, candidate_of}
-use Rattle.wax_walk.specs.Given.{Facts, with_tree}
+use Rattle.wax_walk.specs.{Candidates.{Candidate, candidate_of}, Given.{Facts, with_tree}}
 use Rattle.wax_exclude.proofs.Descending.{not_descends, not_keeps}
-use Rattle.wax_exclude.proofs.Ignored.{below_tested, ignore_descends, ignore_keeps}
-use Rattle.wax_exclude.proofs.Tests.{covers_tested}
-use Rattle.wax_exclude.specs.Ignored.{is_ignored}
-use Rattle.wax_exclude.specs.inner.Descents.{Descends}
-use Rattle.wax_exclude.specs.inner.Stacks.{keeps, all_keep}
-use Rattle.wax_exclude.specs.Marks.{covered_mark}
-use Rattle.wax_exclude.specs.Walked.{ExcludesBelow}
+use Rattle.wax_exclude.proofs.{Ignored.{below_tested, ignore_descends, ignore_keeps}, Tests.covers_tested}
+use Rattle.wax_exclude.specs.{Ignored.is_ignored, inner.Descents.Descends, inner.Stacks.{keeps, all_keep}}
+use Rattle.wax_exclude.specs.{Marks.covered_mark, Walked.ExcludesBelow}
 use Rattle.wax_exclude.specs.Wanted.{Filter, not_meant, not_ignored, excludes, none_excludes, filter_mark}
 use Rattle.wax_exclude.specs.Wanted.{filter_rules}
 

@@ -1,15 +1,12 @@
 -- Whether something below a folder is meant, by its text and by its names.
 use Rattle.std.proofs.Common.{◌≡◌, ◌↔◌, ℕ, Bool, true, false, if◌then◌else◌, List, [], ◌∷◌, ◌++◌, refl, sym}
-use Rattle.std.proofs.Common.{Option, ap}
-use Rattle.std.proofs.Common.{subst, ◌∙◌, append_assoc}
+use Rattle.std.proofs.Common.{Option, ap, subst, ◌∙◌, append_assoc}
 use Rattle.std.specs.Str.{all_scalars}
 use Rattle.wax_prefilter.specs.Below.{MeansWithin, goes_test, goes_tested}
 use Rattle.wax_query.specs.Below.{AreNames, folder_text, joined_names, slashed}
-use Rattle.wax_token.specs.Meaning.{Means}
-use Rattle.wax_token.specs.Syntax.{Tree}
+use Rattle.wax_token.specs.{Meaning.Means, Syntax.Tree}
 use Rattle.wax_exclude.proofs.Names.{closed_after}
-use Rattle.wax_exclude.specs.Candidates.{base, text_at}
-use Rattle.wax_exclude.specs.Pruned.{MeansLonger, TestsBelow}
+use Rattle.wax_exclude.specs.{Candidates.{base, text_at}, Pruned.{MeansLonger, TestsBelow}}
 
 slashed_append : (names more : List (List ℕ)) → slashed (names ++ more) ≡ slashed names ++ slashed more
 slashed_append [] more = refl

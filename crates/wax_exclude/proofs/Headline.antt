@@ -1,21 +1,13 @@
 -- A glob's walk yields what is wanted of the whole walk, and lists only folders that it may list.
 use Rattle.std.proofs.Common.{◌≡◌, ℕ, ◌≤◌, Bool, false, ◌&&◌, ◌⊎◌, List, [], ◌∷◌, ◌++◌, map, length, refl}
-use Rattle.std.proofs.Common.{sym}
-use Rattle.std.proofs.Common.{ap, subst, ◌∙◌, inl, inr, arith, append_assoc, append-nil, chars}
-use Rattle.std.proofs.Common.{encode_utf8_all}
-use Rattle.std.specs.Prelude.{filter, All, true}
-use Rattle.std.specs.Str.{IsUtf8}
-use Rattle.std.proofs.lemmas.List.Elements.{All-nil}
-use Rattle.std.proofs.lemmas.Str.{encodes-chars}
+use Rattle.std.proofs.Common.{sym, ap, subst, ◌∙◌, inl, inr, arith, append_assoc, append-nil, chars}
+use Rattle.std.proofs.{Common.encode_utf8_all, lemmas.List.Elements.All-nil, lemmas.Str.encodes-chars}
+use Rattle.std.specs.{Prelude.{filter, All, true}, Str.IsUtf8}
 use Rattle.wax_directory.specs.declared.directory.FileType.{FileType}
 use Rattle.wax_directory.specs.Shown.{Shown, a_leaf, a_folder, a_sealed, missing, failing, child_in}
-use Rattle.wax_token.specs.Decided.{means_test, means_tested}
-use Rattle.wax_token.specs.Meaning.{Means}
-use Rattle.wax_token.specs.Spelled.{LiteralsHaveNoSlash}
-use Rattle.wax_tree.specs.Begins.{Origin, origin_location, scope_in}
-use Rattle.wax_tree.specs.declared.steps.DepthRange.{DepthRange}
-use Rattle.wax_tree.specs.Follows.{AreDistinctAlong}
-use Rattle.wax_tree.specs.Plain.{WalkScope, Location, plain_entry}
+use Rattle.wax_token.specs.{Decided.{means_test, means_tested}, Meaning.Means, Spelled.LiteralsHaveNoSlash}
+use Rattle.wax_tree.specs.{Begins.{Origin, origin_location, scope_in}, declared.steps.DepthRange.DepthRange}
+use Rattle.wax_tree.specs.{Follows.AreDistinctAlong, Plain.{WalkScope, Location, plain_entry}}
 use Rattle.wax_tree.specs.Prefix.{ArePlain, path_from, walk_from}
 use Rattle.wax_walk.specs.declared.error.FaultKind.{FaultKind}
 use Rattle.wax_walk.specs.declared.error.FaultKind.TheVariants.{NotFound, NotAFolder, Listing}
@@ -23,11 +15,8 @@ use Rattle.wax_walk.specs.Forest.{Forest, nothing, item, preorder, listings}
 use Rattle.wax_walk.specs.Given.{Facts, Mark, Given, fault}
 use Rattle.wax_exclude.proofs.Listing.{walk_lists, origin_end}
 use Rattle.wax_exclude.proofs.Names.{at_join, chars_joined, names_chars, length_names}
-use Rattle.wax_exclude.proofs.Reaching.{same_walk, reached, plain_child}
-use Rattle.wax_exclude.proofs.Walked.{walk_wanted}
-use Rattle.wax_exclude.proofs.Whole.{at_whole}
-use Rattle.wax_exclude.specs.Candidates.{base, text_at}
-use Rattle.wax_exclude.specs.inner.Descents.{At, child_location}
+use Rattle.wax_exclude.proofs.{Reaching.{same_walk, reached, plain_child}, Walked.walk_wanted, Whole.at_whole}
+use Rattle.wax_exclude.specs.{Candidates.{base, text_at}, inner.Descents.{At, child_location}}
 use Rattle.wax_exclude.specs.Premises.{BoundsNames, CanWalk, IsPlainShown}
 use Rattle.wax_exclude.specs.Walked.{MayList, plain_walk, glob_walk, wanted_entries}
 use Rattle.wax_exclude.specs.Wanted.{Wanted, none_excludes, is_wanted, is_kept_entry, stacked, rules_of}

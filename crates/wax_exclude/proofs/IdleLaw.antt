@@ -3,21 +3,16 @@ use Rattle.std.proofs.Common.{◌≡◌, ◌≢◌, ◌∙◌, ◌⊎◌, ◌<�
 use Rattle.std.proofs.Common.{cond, Contains, List, Some, ap, arith, eq-eqb, inl, inr, length, map, refl}
 use Rattle.std.proofs.Common.{slice_get, sym, subst}
 use Rattle.std.proofs.lemmas.Bool.{cases_Bool, cases_eq, cases_lt, eqb-true, false_from_ne_true, false≢true}
-use Rattle.std.proofs.lemmas.List.Elements.{Contains-append_right}
-use Rattle.std.proofs.lemmas.Option.{none-some, same_Some}
-use Rattle.std.specs.List.{list_any}
-use Rattle.std.specs.Prelude.{filter}
+use Rattle.std.proofs.{lemmas.List.Elements.Contains-append_right, lemmas.Option.{none-some, same_Some}}
+use Rattle.std.specs.{List.list_any, Prelude.filter}
 use Rattle.wax_exclude.proofs.Tests.{or_true}
-use Rattle.wax_exclude.specs.Idle.{AllIdleLinesCanGo, DecidesNothing, IdleLinesCanGo}
-use Rattle.wax_exclude.specs.Idle.{IdleLinesCanGoTogether, IsPath, IsReason, LineIgnores, LineMeans}
-use Rattle.wax_exclude.specs.Idle.{TakesNothing, drop_where, is_known, known_indexes}
-use Rattle.wax_exclude.specs.declared.idle.IdleLine.{IdleLine}
+use Rattle.wax_exclude.specs.Idle.{AllIdleLinesCanGo, DecidesNothing, IdleLinesCanGo, IdleLinesCanGoTogether}
+use Rattle.wax_exclude.specs.Idle.{IsPath, IsReason, LineIgnores, LineMeans, TakesNothing, drop_where}
+use Rattle.wax_exclude.specs.{Idle.{is_known, known_indexes}, declared.idle.IdleLine.IdleLine}
 use Rattle.wax_exclude.specs.declared.idle.IdleReason.{IdleReason}
 use Rattle.wax_exclude.specs.declared.idle.IdleReason.TheVariants.{Covered, TakesNothingBack, Unknown}
 use Rattle.wax_exclude.specs.Ignored.{Line, ignored_after, is_ignored}
-use Rattle.wax_token.specs.Decided.{means_test, means_tested}
-use Rattle.wax_token.specs.Meaning.{Means}
-use Rattle.wax_token.specs.Reads.{Span}
+use Rattle.wax_token.specs.{Decided.{means_test, means_tested}, Meaning.Means, Reads.Span}
 
 -- where no line goes, all stay
 none_goes : (lines : List (Line Span)) (goes : ℕ → Bool) → ((k : ℕ) → goes k ≡ false)

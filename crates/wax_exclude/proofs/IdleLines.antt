@@ -1,35 +1,25 @@
 -- Lines that decide nothing, and how they are found.
-use Rattle.std.proofs.Common.{◌≡◌, ◌↔◌, ◌⊎◌, ◌∙◌, ◌<◌, ◌≤◌, ◌+◌, ◌++◌, ◌∷◌, [], ℕ, zero, suc, true}
-use Rattle.std.proofs.Common.{false, List, Option, Some, None, Contains, IsPermutation, ap, arith, inl}
-use Rattle.std.proofs.Common.{inr, length, length-append, refl, slice_get, subst, sym}
+use Rattle.std.proofs.Common.{◌≡◌, ◌↔◌, ◌⊎◌, ◌∙◌, ◌<◌, ◌≤◌, ◌+◌, ◌++◌, ◌∷◌, [], ℕ, zero, suc, true, false}
+use Rattle.std.proofs.Common.{List, Option, Some, None, Contains, IsPermutation, ap, arith, inl, inr, length}
+use Rattle.std.proofs.Common.{length-append, refl, slice_get, subst, sym}
 use Rattle.std.proofs.lemmas.Bool.{cases_eq, cases_lt, false≢true}
 use Rattle.std.proofs.lemmas.List.Elements.{Contains-append_left, Contains-append_right, Contains-push}
-use Rattle.std.proofs.lemmas.List.Elements.{Contains-push_cases}
-use Rattle.std.proofs.lemmas.List.Sorted.{Contains-permutation}
-use Rattle.std.proofs.lemmas.Map.Made.{Contains-tail}
-use Rattle.std.proofs.lemmas.Option.{none-some, same_Some, slice_get_within}
+use Rattle.std.proofs.{lemmas.List.Elements.Contains-push_cases, lemmas.List.Sorted.Contains-permutation}
+use Rattle.std.proofs.{lemmas.Map.Made.Contains-tail, lemmas.Option.{none-some, same_Some, slice_get_within}}
 use Rattle.std.specs.Prelude.{IfOk, Result, Ok, Err}
-use Rattle.wax_compare.specs.Comparison.{IsWanted}
-use Rattle.wax_compare.specs.declared.wanted.Texts.TheVariants.{Paths}
+use Rattle.wax_compare.specs.{Comparison.IsWanted, declared.wanted.Texts.TheVariants.Paths}
 use Rattle.wax_compare.specs.declared.wanted.Wanted.TheVariants.{Both, FirstOnly}
-use Rattle.wax_exclude.specs.Idle.{AreIdleAmong, DecidesSome, HasEffect, IsCoveredBy, IsLastOfSome}
-use Rattle.wax_exclude.specs.Idle.{IsPath, IsReason, LineIgnores, LineMeans, TakesNothing}
-use Rattle.wax_exclude.specs.Undecided.{AreGlobsAt, IsGlobAt, SomeLineMeans}
-use Rattle.wax_exclude.specs.inner.Idle.{AreMatchedBy}
-use Rattle.wax_exclude.specs.Ignored.{Line}
-use Rattle.wax_exclude.specs.declared.idle.IdleLine.{IdleLine}
+use Rattle.wax_exclude.specs.Idle.{AreIdleAmong, DecidesSome, HasEffect, IsCoveredBy, IsLastOfSome, IsPath}
+use Rattle.wax_exclude.specs.Idle.{IsReason, LineIgnores, LineMeans, TakesNothing}
+use Rattle.wax_exclude.specs.{Undecided.{AreGlobsAt, IsGlobAt, SomeLineMeans}, inner.Idle.AreMatchedBy}
+use Rattle.wax_exclude.specs.{Ignored.Line, declared.idle.IdleLine.IdleLine}
 use Rattle.wax_lazy.specs.Numbers.{IsLastNumber}
 use Rattle.wax_match.proofs.Numbered.{numbered_push}
-use Rattle.wax_match.specs.Numbered.{MeansNumbered}
-use Rattle.wax_match.specs.declared.encode.ends.Numbered.{Numbered}
-use Rattle.wax_program.specs.Closed.{IsClosed}
-use Rattle.wax_program.specs.Machine.{Accepts, mark}
+use Rattle.wax_match.specs.{Numbered.MeansNumbered, declared.encode.ends.Numbered.Numbered}
+use Rattle.wax_program.specs.{Closed.IsClosed, Machine.{Accepts, mark}}
 use Rattle.wax_program.specs.declared.instruction.Instruction.{Instruction}
-use Rattle.wax_token.specs.Decided.{Decided, means_decided}
-use Rattle.wax_token.specs.Meaning.{Means, MeansSome}
-use Rattle.wax_token.specs.Reads.{Span}
-use Rattle.wax_token.specs.Syntax.{Tree}
-use Rattle.wax_token.specs.Words.{trees}
+use Rattle.wax_token.specs.{Decided.{Decided, means_decided}, Meaning.{Means, MeansSome}, Reads.Span}
+use Rattle.wax_token.specs.{Syntax.Tree, Words.trees}
 
 -- ---- what some lines mean
 module _ (lines : List (Line Span)) where

@@ -1,23 +1,16 @@
 -- What a list of lines ignores, and what lies below that.
 use Rattle.std.proofs.Common.{◌≡◌, ℕ, Bool, true, false, ◌&&◌, not, cond, List, [], ◌∷◌, ◌++◌, refl, ap, ◌∙◌}
-use Rattle.std.proofs.Common.{inl, inr}
+use Rattle.std.proofs.{Common.{inl, inr}, lemmas.Bool.and_from}
 use Rattle.std.specs.Prelude.{IsTrue, ◌↔◌}
-use Rattle.std.proofs.lemmas.Bool.{and_from}
 use Rattle.wax_facts.proofs.Means.{means_one_of}
 use Rattle.wax_facts.specs.Alternatives.{alternatives}
-use Rattle.wax_token.specs.Decided.{means_test, means_tested}
-use Rattle.wax_token.specs.Meaning.{MeansSome}
-use Rattle.wax_token.specs.Syntax.{Tree}
-use Rattle.wax_token.specs.Words.{trees}
+use Rattle.wax_token.specs.{Decided.{means_test, means_tested}, Meaning.MeansSome, Syntax.Tree, Words.trees}
 use Rattle.wax_walk.specs.Candidates.{Candidate}
 use Rattle.wax_exclude.proofs.Descending.{covers_some_below, covered, covers_some_meant, keeps_uncovered}
 use Rattle.wax_exclude.proofs.Tests.{and_true, or_true, or_left, or_right, covers_tested}
-use Rattle.wax_exclude.specs.Candidates.{candidate_at}
-use Rattle.wax_exclude.specs.Covers.{CoversSome, covers_test}
+use Rattle.wax_exclude.specs.{Candidates.candidate_at, Covers.{CoversSome, covers_test}}
 use Rattle.wax_exclude.specs.Ignored.{Line, ignored_after, is_ignored, all_ignore, IgnoresBelow, below_test}
-use Rattle.wax_exclude.specs.Ignored.{ignore_mark}
-use Rattle.wax_exclude.specs.inner.Descents.{Descends}
-use Rattle.wax_exclude.specs.inner.Stacks.{keeps}
+use Rattle.wax_exclude.specs.{Ignored.ignore_mark, inner.Descents.Descends, inner.Stacks.keeps}
 use Rattle.wax_exclude.specs.Marks.{covered_mark}
 
 chosen_true : (b : Bool) → cond b true true ≡ true

@@ -1,71 +1,74 @@
--- What is kept of a plain walk without what lines ignore.
-use Rattle.std.proofs.Common.{◌≡◌, ◌∙◌, ◌+◌, ◌≤◌, ℕ, false, List, filter, refl, ap, arith, subst}
-use Rattle.wax_directory.specs.Law.{Law}
+-- What is kept of a plain walk without what lines ignore, as the walk of `**`.
+use Rattle.std.proofs.Common.{◌≡◌, ◌∙◌, ◌++◌, ◌&&◌, ◌∷◌, [], ℕ, Bool, true, false, List, ap, arith, filter}
+use Rattle.std.proofs.Common.{refl, subst, sym}
+use Rattle.std.specs.Prelude.{if◌then◌else◌}
 use Rattle.wax_directory.specs.Shown.{Shown}
-use Rattle.wax_token.specs.Reads.{Span}
-use Rattle.wax_tree.specs.Begins.{Begins}
-use Rattle.wax_tree.specs.Plain.{count_shown}
-use Rattle.wax_walk.specs.Collected.{Yielded, whole, lacks_memory, over_budget}
-use Rattle.wax_walk.specs.declared.error.FaultKind.TheVariants.{Budget}
-use Rattle.wax_walk.specs.Forest.{Pending, nothing, pending}
-use Rattle.wax_walk.specs.Given.{Given, fault, no_memory, is_kept}
-use Rattle.wax_walk.specs.Ruled.{ruled_view}
-use Rattle.wax_walk.specs.View.{WalkView, IsSeenAs}
-use Rattle.wax_exclude.proofs.Allowing.{lists_allowed}
-use Rattle.wax_exclude.proofs.KeptItems.{cut_kept, kept_entries}
-use Rattle.wax_exclude.specs.Ignored.{Line, ignore_mark}
-use Rattle.wax_exclude.specs.Unignored.{GivesUnignored, LosesIgnored}
-use Rattle.wax_exclude.specs.Premises.{IsPlainShown}
-use Rattle.wax_exclude.specs.Wanted.{is_kept_entry}
+use Rattle.wax_tree.specs.{Begins.scope_in, Plain.plain, Whole.{is_in, whole}}
+use Rattle.wax_walk.specs.{Collected.IsCutShort, declared.error.FaultKind.TheVariants.Budget}
+use Rattle.wax_walk.specs.Forest.{listings, nothing, preorder}
+use Rattle.wax_walk.specs.Given.{Given, kept, alone, with_tree, entry, fault, no_memory, is_kept}
+use Rattle.wax_exclude.proofs.Headline.{gives_wanted}
+use Rattle.wax_exclude.proofs.TreeRequests.{can_walk, not_beyond, unchanged, wants_unfiltered}
+use Rattle.wax_exclude.specs.GlobRequests.{AreOpened, KeepsWanted, request_walk}
+use Rattle.wax_exclude.specs.Kept.{KeepsUnignored, PlainRequest, unignored_entries, unignored_request}
+use Rattle.wax_exclude.specs.{Kept.unignored_walk, Premises.IsPlainShown}
+use Rattle.wax_exclude.specs.TreeRequests.{WantsUnfiltered, is_unfiltered}
+use Rattle.wax_exclude.specs.Unignored.{GivesUnignored, LosesIgnored, ignore_rules, is_unignored}
+use Rattle.wax_exclude.specs.Walked.{glob_walk, wanted_entries}
+use Rattle.wax_exclude.specs.Wanted.{is_kept_entry, not_ignored, stacked}
 use Rattle.wax_exclude.specs.Due as due
-use Rattle.wax_exclude.specs.Kept.{KeepsUnignored, PlainRequest, requested_plain, unignored_walk}
 
--- ---- what comes
+and_yes : (b : Bool) → (b && true) ≡ b
+and_yes true = refl
+and_yes false = refl
 
-abbrev unignored_pending : PlainRequest → Shown → List (List ℕ) → Pending Given
-unignored_pending request s listed = pending nothing (unignored_walk request s) listed (count_shown s)
+module _ (request : PlainRequest) (s : Shown) where
+  unfiltered_walk : glob_walk (unignored_request request).wanted request.range
+      (unignored_request request).origin s ≡ unignored_walk request s
+  unfiltered_walk =
+      ap (stacked (ignore_rules request.lines)) (unchanged (plain (scope_in request.range) request.start s))
 
-module _ {D C : Type 0} (law : Law D C) (d : D) (request : PlainRequest)
-    (rule : List (Line Span)) (v u : WalkView D)
-    (held : rule ≡ request.lines) (begins : Begins law d request.start request.range v)
-    (seen : IsSeenAs (ruled_view v (λ c. ignore_mark rule c) false) u) where
-  comes : (s : Shown) (listed : List (List ℕ)) → law.shows d request.start s → law.tells d listed
-      → u.to_come (unignored_pending request s listed)
-  comes s listed shows told =
-      let ignoring : IsSeenAs (ruled_view v (ignore_mark request.lines) false) u =
-      subst (λ ls. IsSeenAs (ruled_view v (ignore_mark ls) false) u) held seen in
-      ignoring.to_come (unignored_pending request s listed) (
-        refl,
-        (
-          pending nothing (requested_plain request s) listed (count_shown s),
-          begins.shown s listed shows told,
-          refl,
-        ),
+  -- what the walk of `**` yields
+  same_walk : request_walk (unignored_request request) s ≡ unignored_walk request s
+  same_walk =
+      ap (λ b. if b then nothing else glob_walk (unignored_request request).wanted request.range
+      (unignored_request request).origin s) (not_beyond request.range request.start) ∙ unfiltered_walk
+
+  unfiltered : (x : Given) → is_unfiltered (not_ignored request.lines ∷ []) x ≡ is_unignored request.lines x
+  unfiltered (entry kept f) = and_yes (is_unignored request.lines (entry kept f))
+  unfiltered (entry alone f) = refl
+  unfiltered (entry with_tree f) = refl
+  unfiltered (fault kind path depth) = refl
+  unfiltered no_memory = refl
+
+  -- which entries of it are wanted
+  same_entries : WantsUnfiltered → wanted_entries (unignored_request request).wanted request.range
+      (unignored_request request).origin s ≡ unignored_entries request s
+  same_entries wants = wants (not_ignored request.lines ∷ []) request.range request.start s
+      ∙ (λ i. filter (λ x. is_in request.range x && unfiltered x i) (whole request.start s))
+
+  -- so what it keeps is what is kept of a plain walk without what the lines ignore
+  pub keeps_unignored : WantsUnfiltered → LosesIgnored → IsPlainShown s → (tells : List (List ℕ) → Type 0)
+      (listed : List (List ℕ)) (ys : List Given)
+      → KeepsWanted tells (unignored_request request) s listed ys → KeepsUnignored tells request s listed ys
+  keeps_unignored wants loses plain tells listed ys (due.gives gave entries told lists) =
+      due.gives (gave ∙ ap (λ f. filter is_kept (preorder f)) same_walk) (entries ∙ same_entries wants)
+      (subst (λ f. tells (listed ++ listings f)) same_walk told) (
+        loses request.lines request.range request.start s plain,
+        subst (λ f. AreOpened (unignored_request request) s (listings f)) same_walk lists,
       )
+  keeps_unignored wants loses plain tells listed ys (due.lacks_memory cut) =
+      due.lacks_memory
+      (subst (λ f. IsCutShort (filter is_kept (preorder f)) no_memory ys) same_walk cut)
+  keeps_unignored wants loses plain tells listed ys (due.over_budget path depth few cut) =
+      due.over_budget path depth few
+      (subst (λ f. IsCutShort (filter is_kept (preorder f)) (fault Budget path depth) ys) same_walk cut)
 
-  pub unignored_gave : (tells : List (List ℕ) → Type 0) (s : Shown) (listed : List (List ℕ)) (xs : List Given)
-      → law.shows d request.start s → law.tells d listed
-      → ((p : Pending Given) → u.to_come p → Yielded tells u.listings_left p xs)
-      → Yielded tells (request.range.budget + 1) (unignored_pending request s listed) xs
-  unignored_gave tells s listed xs shows told all =
-      subst (λ n. Yielded tells n (unignored_pending request s listed) xs)
-      (seen.listings_left ∙ begins.listings)
-      (all (unignored_pending request s listed) (comes s listed shows told))
-
--- ---- what is kept
-
-module _ (gives_unignored : GivesUnignored) (loses_ignored : LosesIgnored) where
-  pub keeps_unignored : (tells : List (List ℕ) → Type 0) (request : PlainRequest) (s : Shown)
-      (listed : List (List ℕ)) (xs : List Given) → IsPlainShown s
-      → Yielded tells (request.range.budget + 1) (unignored_pending request s listed) xs
-      → KeepsUnignored tells request s listed (filter is_kept xs)
-  keeps_unignored tells request s listed xs plain (whole e t) =
-      due.gives (ap (filter is_kept) e)
-      (kept_entries xs ∙ (ap (filter is_kept_entry) e
-      ∙ gives_unignored request.lines request.range request.start s plain)) t
-      (loses_ignored request.lines request.range request.start s plain, lists_allowed request s plain)
-  keeps_unignored tells request s listed xs plain (lacks_memory c) =
-      due.lacks_memory (cut_kept _ no_memory xs refl c)
-  keeps_unignored tells request s listed xs plain (over_budget path depth few contains c) =
-      let l : request.range.budget + 1 ≤ count_shown s = few in
-      due.over_budget path depth (omega (arith, l)) (cut_kept _ (fault Budget path depth) xs refl c)
+pub gives_unignored : GivesUnignored
+gives_unignored lines range start s plain =
+    let request : PlainRequest = record { lines = lines; range = range; start = start } in
+    let walk = unignored_request request in
+    ap (λ f. filter is_kept_entry (preorder f)) (sym (unfiltered_walk request s))
+    ∙ (gives_wanted walk.wanted range range walk.origin
+    (can_walk range start (not_ignored lines ∷ [])) s plain tt (omega arith)
+    ∙ same_entries request s wants_unfiltered)

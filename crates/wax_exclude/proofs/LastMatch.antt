@@ -1,13 +1,10 @@
 -- The last line that matches a text decides.
-use Rattle.std.proofs.Common.{◌≡◌, ℕ, Bool, true, false, cond, List, [], ◌∷◌, ◌++◌, ◌⊎◌}
-use Rattle.std.proofs.Common.{refl, ap, sym, ◌∙◌, inl, inr, subst}
-use Rattle.std.specs.Prelude.{IsTrue, ◌↔◌, All}
-use Rattle.std.proofs.lemmas.Bool.{cases_Bool, false≢true, false_from_ne_true}
+use Rattle.std.proofs.Common.{◌≡◌, ℕ, Bool, true, false, cond, List, [], ◌∷◌, ◌++◌, ◌⊎◌, refl, ap, sym, ◌∙◌}
+use Rattle.std.proofs.{Common.{inl, inr, subst}, lemmas.Bool.{cases_Bool, false≢true, false_from_ne_true}}
 use Rattle.std.proofs.lemmas.List.Elements.{All-cons, All-head, All-nil, All-tail}
-use Rattle.wax_token.specs.Decided.{means_test, means_tested}
-use Rattle.wax_token.specs.Meaning.{Means}
-use Rattle.wax_exclude.specs.Ignored.{Line, ignored_after, is_ignored}
-use Rattle.wax_exclude.specs.Deciding.{IsLastMatch}
+use Rattle.std.specs.Prelude.{IsTrue, ◌↔◌, All}
+use Rattle.wax_token.specs.{Decided.{means_test, means_tested}, Meaning.Means}
+use Rattle.wax_exclude.specs.{Ignored.{Line, ignored_after, is_ignored}, Deciding.IsLastMatch}
 
 module _ {A : Type 0} (s : List ℕ) where
   -- the line doesn't match the text

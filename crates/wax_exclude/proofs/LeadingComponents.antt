@@ -6,9 +6,8 @@ use Rattle.wax_token.specs.Meaning.{HasNoSlash, Means, MeansEach}
 use Rattle.wax_token.specs.Spelled.{LiteralsHaveNoSlash, AllHaveNoSlash}
 use Rattle.wax_token.specs.Syntax.{separator, tree, Tree, leaf, Trees, none, more}
 use Rattle.wax_exclude.proofs.Components.{Sort, separates, wild, plain, sort, onto, rows, until_boundary}
-use Rattle.wax_exclude.proofs.Components.{leading_rows}
-use Rattle.wax_exclude.proofs.Components.{RowsLead, none_either, either_right, rows_onto, rows_alone}
-use Rattle.wax_exclude.proofs.Unslashed.{freed, freed_each, unslashed, no_slash_back}
+use Rattle.wax_exclude.proofs.Components.{leading_rows, RowsLead, none_either, either_right, rows_onto}
+use Rattle.wax_exclude.proofs.{Components.rows_alone, Unslashed.{freed, freed_each, unslashed, no_slash_back}}
 use Rattle.wax_query.specs.Below.{slashed, AreNames}
 
 -- ---- where a text is cut

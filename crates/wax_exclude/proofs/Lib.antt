@@ -1,5 +1,4 @@
 pub mod Adjacent
-pub mod Allowing
 pub mod AllBelow
 pub mod Beginnings
 pub mod BeginsLeast
@@ -22,7 +21,6 @@ pub mod Headline
 pub mod IdleLaw
 pub mod IdleLines
 pub mod Ignored
-pub mod Ignores
 pub mod Keeping
 pub mod KeptItems
 pub mod LastMatch

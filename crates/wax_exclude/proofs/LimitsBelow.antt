@@ -1,6 +1,5 @@
 -- How many names are left to a greatest depth.
-use Rattle.std.proofs.Common.{ℕ, ◌+◌, ◌-◌, ◌≤◌, nat_lt, true, false, if◌then◌else◌, Some, None}
-use Rattle.std.proofs.Common.{arith}
+use Rattle.std.proofs.Common.{ℕ, ◌+◌, ◌-◌, ◌≤◌, nat_lt, true, false, if◌then◌else◌, Some, None, arith}
 use Rattle.wax_query.specs.Ranges.{AtMost}
 use Rattle.wax_tree.specs.Programs.{limit_below}
 

@@ -1,23 +1,18 @@
 -- The program of a list is no longer than those of its globs together, whether they are split or not.
 use Rattle.std.proofs.Common.{◌≡◌, ◌≤◌, ◌<◌, ◌+◌, ◌∙◌, ℕ, Bool, true, false, if◌then◌else◌, List, [], ◌∷◌}
 use Rattle.std.proofs.Common.{◌++◌, ap, arith, get_or, length, map, refl, subst, sym, take}
-use Rattle.std.proofs.lemmas.List.{take_more}
-use Rattle.std.proofs.lemmas.List.Sums.{sum_by-append}
+use Rattle.std.proofs.{lemmas.List.take_more, lemmas.List.Sums.sum_by-append}
 use Rattle.wax_exclude.proofs.Costs.{one_copy}
-use Rattle.wax_exclude.specs.Ignored.{Line}
-use Rattle.wax_exclude.specs.Length.{list_length}
-use Rattle.wax_exclude.specs.declared.split.SplitLine.{SplitLine}
+use Rattle.wax_exclude.specs.{Ignored.Line, Length.list_length, declared.split.SplitLine.SplitLine}
 use Rattle.wax_exclude.specs.declared.numbers.NumberedLines.{NumberedLines}
 use Rattle.wax_exclude.specs.inner.Numbers.{KnowsLines, alternatives_cost, split_length}
 use Rattle.wax_exclude.specs.inner.Split.{split_of}
 use Rattle.wax_facts.specs.Alternatives.{beside, is_exactly_one, joined, levels, levels_each}
 use Rattle.wax_lazy.proofs.Costs.{path_within}
 use Rattle.wax_lazy.specs.Cost.{list_visits, match_visits, path_visits}
-use Rattle.wax_match.specs.Numbered.{numbered_length}
-use Rattle.wax_match.specs.declared.encode.ends.Numbered.{Numbered}
+use Rattle.wax_match.specs.{Numbered.numbered_length, declared.encode.ends.Numbered.Numbered}
 use Rattle.wax_program.specs.declared.instruction.Instruction.{Instruction}
-use Rattle.wax_token.specs.Cost.{branches_cost, cost, holds_tree, program_length}
-use Rattle.wax_token.specs.Reads.{Span}
+use Rattle.wax_token.specs.{Cost.{branches_cost, cost, holds_tree, program_length}, Reads.Span}
 use Rattle.wax_token.specs.Syntax.{Tree, leaf, alternation, concatenation, repetition, Trees, none, more}
 
 -- ---- alternatives

@@ -1,33 +1,26 @@
 -- Which folders are listed after all filters.
-use Rattle.std.proofs.Common.{◌≡◌, ℕ, ◌<◌, Bool, true, false, ◌⊎◌, cond, List, [], ◌∷◌, ◌++◌, map}
-use Rattle.std.proofs.Common.{refl, sym, ap, subst, ◌∙◌, inl, inr, arith, append_assoc, append-nil, chars}
+use Rattle.std.proofs.Common.{◌≡◌, ℕ, ◌<◌, Bool, true, false, ◌⊎◌, cond, List, [], ◌∷◌, ◌++◌, map, refl, sym}
+use Rattle.std.proofs.Common.{ap, subst, ◌∙◌, inl, inr, arith, append_assoc, append-nil, chars}
+use Rattle.std.proofs.{lemmas.Bool.ltb-true, lemmas.List.Elements.{All-append, All-cons, All-nil, All-weaker}}
 use Rattle.std.specs.Prelude.{nat_lt, ⊤, All}
-use Rattle.std.proofs.lemmas.Bool.{ltb-true}
-use Rattle.std.proofs.lemmas.List.Elements.{All-append, All-cons, All-nil, All-weaker}
 use Rattle.wax_directory.specs.declared.directory.FileType.{FileType}
 use Rattle.wax_directory.specs.declared.directory.FileType.TheVariants.{Folder}
 use Rattle.wax_directory.specs.Shown.{Items, end, leaf, folder, sealed, misnamed, unread, not_text, Shown}
 use Rattle.wax_directory.specs.Shown.{a_leaf, a_folder, a_sealed, missing, failing, leaf_kind, join, IsPlain}
 use Rattle.wax_token.specs.Decided.{means_test}
-use Rattle.wax_tree.specs.Begins.{Origin, scope_in}
-use Rattle.wax_tree.specs.declared.steps.DepthRange.{DepthRange}
+use Rattle.wax_tree.specs.{Begins.{Origin, scope_in}, declared.steps.DepthRange.DepthRange}
 use Rattle.wax_tree.specs.Plain.{WalkScope, Location, one_deeper, plain_entry, items_forest, plain_at}
-use Rattle.wax_tree.specs.Walking.{entry_location}
+use Rattle.wax_tree.specs.{Walking.entry_location, Prefix.path_from}
 use Rattle.wax_walk.specs.declared.error.FaultKind.TheVariants.{Listing}
 use Rattle.wax_walk.specs.Forest.{Forest, nothing, item, lists, listings, followed_by, filtered}
 use Rattle.wax_walk.specs.Given.{Facts, Mark, kept, alone, with_tree, Given, entry, fault, combined_mark}
-use Rattle.wax_walk.specs.Given.{is_cut}
-use Rattle.wax_walk.specs.Given.{changed_by, cut_by}
-use Rattle.wax_tree.specs.Prefix.{path_from}
-use Rattle.wax_exclude.proofs.Filters.{filter_descends, below_said}
-use Rattle.wax_exclude.proofs.Names.{at_join, at_sees, names_chars}
+use Rattle.wax_walk.specs.Given.{is_cut, changed_by, cut_by}
+use Rattle.wax_exclude.proofs.{Filters.{filter_descends, below_said}, Names.{at_join, at_sees, names_chars}}
 use Rattle.wax_exclude.proofs.Tests.{lead_tested}
 use Rattle.wax_query.specs.Below.{AreNames}
 use Rattle.wax_exclude.specs.Candidates.{candidate_at, text_at}
-use Rattle.wax_exclude.specs.inner.Descents.{said_of, At, child_location}
-use Rattle.wax_exclude.specs.Leading.{leading_of, lead_test}
-use Rattle.wax_exclude.specs.Marks.{led_mark, glob_mark}
-use Rattle.wax_exclude.specs.Premises.{ArePlainItems, IsPlainShown}
+use Rattle.wax_exclude.specs.{inner.Descents.{said_of, At, child_location}, Leading.{leading_of, lead_test}}
+use Rattle.wax_exclude.specs.{Marks.{led_mark, glob_mark}, Premises.{ArePlainItems, IsPlainShown}}
 use Rattle.wax_exclude.specs.Walked.{AreUncovered, MayList}
 use Rattle.wax_exclude.specs.Wanted.{Filter, Wanted, stacked, filter_mark, filter_rules, rules_of}
 

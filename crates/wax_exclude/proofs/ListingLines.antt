@@ -3,15 +3,13 @@ use Rattle.std.proofs.Common.{◌≡◌, ℕ, Bool, false, ◌&&◌, ◌||◌, c
 use Rattle.wax_facts.proofs.Means.{means_one_of}
 use Rattle.wax_facts.specs.Alternatives.{alternatives}
 use Rattle.wax_exclude.proofs.Excluding.{some_is_pattern}
-use Rattle.wax_exclude.specs.Excluded.{some_test}
-use Rattle.wax_token.specs.Decided.{means_test}
-use Rattle.wax_token.specs.Reads.{Span}
-use Rattle.wax_walk.specs.Candidates.{Candidate}
-use Rattle.wax_exclude.specs.Covers.{covers_test}
+use Rattle.wax_exclude.specs.{Excluded.some_test, Covers.covers_test}
 use Rattle.wax_exclude.specs.Ignored.{Line, all_ignore, below_test, ignored_after, ignore_mark}
 use Rattle.wax_exclude.specs.Marks.{covered_mark}
 use Rattle.wax_exclude.specs.inner.Listed.{below_by, ignored_by, listed_mark, none_reincludes}
 use Rattle.wax_exclude.specs.inner.Split.{split_of}
+use Rattle.wax_token.specs.{Decided.means_test, Reads.Span}
+use Rattle.wax_walk.specs.Candidates.{Candidate}
 
 all_split : (lines : List (Line Span)) → none_reincludes (map split_of lines) ≡ all_ignore lines
 all_split [] = refl

@@ -1,25 +1,14 @@
 -- Which folders a list of lines leaves unlisted.
-use Rattle.std.proofs.Common.{◌≡◌, ℕ, false, ◌⊎◌, List, [], refl}
-use Rattle.std.proofs.Common.{subst}
-use Rattle.std.specs.List.{Contains}
-use Rattle.std.specs.Prelude.{All}
+use Rattle.std.proofs.Common.{◌≡◌, ℕ, false, ◌⊎◌, List, [], refl, subst}
+use Rattle.std.specs.{List.Contains, Prelude.All}
 use Rattle.wax_directory.specs.Shown.{Shown}
-use Rattle.wax_tree.specs.Begins.{scope_in}
-use Rattle.wax_tree.specs.Walking.{entry_location}
-use Rattle.wax_tree.specs.declared.steps.DepthRange.{DepthRange}
-use Rattle.wax_tree.specs.Plain.{WalkScope, start_location}
-use Rattle.wax_tree.specs.Plain.{plain}
-use Rattle.wax_walk.specs.Candidates.{of_candidate}
-use Rattle.wax_walk.specs.Forest.{listings}
-use Rattle.wax_walk.specs.Given.{Facts, Mark, with_tree}
-use Rattle.wax_exclude.proofs.Descending.{covered}
-use Rattle.wax_exclude.proofs.Ignored.{below_tested}
-use Rattle.wax_exclude.proofs.Names.{at_sees, seen_at}
+use Rattle.wax_tree.specs.{Begins.scope_in, Walking.entry_location, declared.steps.DepthRange.DepthRange}
+use Rattle.wax_tree.specs.Plain.{WalkScope, start_location, plain}
+use Rattle.wax_walk.specs.{Candidates.of_candidate, Forest.listings, Given.{Facts, Mark, with_tree}}
+use Rattle.wax_exclude.proofs.{Descending.covered, Ignored.below_tested, Names.{at_sees, seen_at}}
 use Rattle.wax_exclude.proofs.Staying.{OfNames, lie_at, stay_stacked}
 use Rattle.wax_exclude.specs.Ignored.{Line, is_ignored, IgnoresBelow, below_test, ignore_mark}
-use Rattle.wax_exclude.specs.Premises.{IsPlainShown}
-use Rattle.wax_exclude.specs.Unignored.{ignore_rules, IsIgnoredBelow}
-use Rattle.wax_exclude.specs.Wanted.{stacked}
+use Rattle.wax_exclude.specs.{Premises.IsPlainShown, Unignored.{ignore_rules, IsIgnoredBelow}, Wanted.stacked}
 
 module _ {A : Type 0} (lines : List (Line A)) (scope : WalkScope) (start : List ℕ) where
   abbrev rule : Facts → Mark

@@ -1,27 +1,19 @@
 -- Candidates as bytes and as characters.
-use Rattle.std.proofs.Common.{◌≡◌, ℕ, zero, suc, Bool, true, false, cond, List, [], ◌∷◌, ◌++◌, map}
-use Rattle.std.proofs.Common.{length}
-use Rattle.std.proofs.Common.{refl, sym, ap, subst, ◌∙◌, arith, append_assoc, append-nil}
-use Rattle.std.proofs.Common.{length-append}
-use Rattle.std.proofs.Common.{chars, encode_utf8_all}
-use Rattle.std.specs.List.{Contains, slice_split, onto_first}
-use Rattle.std.specs.Prelude.{filter, ◌==◌}
-use Rattle.std.specs.Str.{IsUtf8, all_scalars}
-use Rattle.std.proofs.lemmas.List.Elements.{Contains-append_right}
+use Rattle.std.proofs.Common.{◌≡◌, ℕ, zero, suc, Bool, true, false, cond, List, [], ◌∷◌, ◌++◌, map, length}
+use Rattle.std.proofs.Common.{refl, sym, ap, subst, ◌∙◌, arith, append_assoc, append-nil, length-append}
+use Rattle.std.proofs.{Common.{chars, encode_utf8_all}, lemmas.List.Elements.Contains-append_right}
 use Rattle.std.proofs.lemmas.Str.{chars-append, encodes-chars, encodes-append, chars-nil, chars-encodes}
 use Rattle.std.proofs.lemmas.Str.{scalars-chars}
-use Rattle.wax_directory.specs.Names.{is_some_name, names_in_path}
-use Rattle.wax_directory.specs.Shown.{join, IsPlain}
+use Rattle.std.specs.{List.{Contains, slice_split, onto_first}, Prelude.{filter, ◌==◌}}
+use Rattle.std.specs.Str.{IsUtf8, all_scalars}
+use Rattle.wax_directory.specs.{Names.{is_some_name, names_in_path}, Shown.{join, IsPlain}}
 use Rattle.wax_token.specs.Meaning.{HasNoSlash}
-use Rattle.wax_tree.specs.Plain.{Location}
-use Rattle.wax_tree.specs.Prefix.{ArePlain}
+use Rattle.wax_tree.specs.{Plain.Location, Prefix.ArePlain}
 use Rattle.wax_walk.specs.Candidates.{Candidate}
 use Rattle.wax_program.proofs.Scalars.{scalars_append}
 use Rattle.wax_query.proofs.Ends.{closed_name, not_same, open_append}
 use Rattle.wax_query.specs.Below.{slashed, joined_names, AreNames, ends_open}
-use Rattle.wax_exclude.specs.Candidates.{base, text_at}
-use Rattle.wax_exclude.specs.Candidates.{candidate_at}
-use Rattle.wax_exclude.specs.inner.Descents.{At, child_location}
+use Rattle.wax_exclude.specs.{Candidates.{base, text_at, candidate_at}, inner.Descents.{At, child_location}}
 
 abbrev candidate_from : List (List ℕ) → List ℕ → ℕ → Candidate
 candidate_from names text depth = record { names = names; text = text; depth = depth }

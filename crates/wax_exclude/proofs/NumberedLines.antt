@@ -1,20 +1,13 @@
 -- The numbers that the alternatives of lines get.
 use Rattle.std.proofs.Common.{◌≡◌, ◌↔◌, ℕ, zero, suc, ◌≤◌, ◌<◌, ◌+◌, Bool, true, false, ◌&&◌, ◌||◌, cond, ◌⊎◌}
 use Rattle.std.proofs.Common.{List, [], ◌∷◌, ◌++◌, drop, length, get_or, refl, sym, ◌∙◌, ap, subst, inl, inr}
-use Rattle.std.proofs.Common.{arith, nat_le}
+use Rattle.std.proofs.{Common.{arith, nat_le}, lemmas.Bool.{cases_lt, le-leb, lt-leb}, lemmas.List.drop_more}
 use Rattle.std.specs.List.{list_any}
-use Rattle.std.proofs.lemmas.Bool.{cases_lt, le-leb, lt-leb}
-use Rattle.std.proofs.lemmas.List.{drop_more}
 use Rattle.wax_match.proofs.Numbered.{numbered_push}
-use Rattle.wax_match.specs.Numbered.{MeansNumbered}
-use Rattle.wax_match.specs.declared.encode.ends.Numbered.{Numbered}
-use Rattle.wax_token.specs.Meaning.{Means}
-use Rattle.wax_token.specs.Reads.{Span}
-use Rattle.wax_token.specs.Syntax.{Tree}
-use Rattle.wax_token.specs.Words.{members}
+use Rattle.wax_match.specs.{Numbered.MeansNumbered, declared.encode.ends.Numbered.Numbered}
+use Rattle.wax_token.specs.{Meaning.Means, Reads.Span, Syntax.Tree, Words.members}
 use Rattle.wax_exclude.proofs.Tests.{and_true}
-use Rattle.wax_exclude.specs.Covers.{ends_wild, some_everything}
-use Rattle.wax_exclude.specs.declared.split.SplitLine.{SplitLine}
+use Rattle.wax_exclude.specs.{Covers.{ends_wild, some_everything}, declared.split.SplitLine.SplitLine}
 use Rattle.wax_exclude.specs.inner.Listed.{none_reincludes}
 use Rattle.wax_exclude.specs.inner.Numbers.{HasMatch, IsSettledFrom, MatchesBy, covers_everything}
 use Rattle.wax_exclude.specs.inner.Numbers.{number_after}

@@ -2,23 +2,17 @@
 use Rattle.std.proofs.Common.{◌==◌, ◌≡◌, ◌↔◌, ℕ, suc, ◌≤◌, ◌<◌, ◌+◌, ◌%◌, Bool, true, false, not, ◌&&◌, ◌||◌}
 use Rattle.std.proofs.Common.{cond, ◌⊎◌, List, [], ◌∷◌, ◌++◌, Option, Some, None, length, refl, sym, ◌∙◌, ap}
 use Rattle.std.proofs.Common.{subst, inl, inr, arith, eq-eqb, ne_eqb}
-use Rattle.std.specs.Prelude.{IsTrue, nat_lt}
 use Rattle.std.proofs.lemmas.Bool.{and_from, cases_lt, false≢true}
+use Rattle.std.specs.Prelude.{IsTrue, nat_lt}
 use Rattle.wax_compare.specs.Selected.{HasOddLast}
 use Rattle.wax_lazy.specs.Numbers.{IsLastNumber}
 use Rattle.wax_program.specs.Machine.{Accepts, mark}
-use Rattle.wax_token.specs.Decided.{holds_truly, some_decided}
-use Rattle.wax_token.specs.Meaning.{Means, MeansSome}
-use Rattle.wax_token.specs.Reads.{Span}
-use Rattle.wax_token.specs.Syntax.{Tree}
-use Rattle.wax_token.specs.Words.{members, trees}
-use Rattle.wax_walk.specs.Candidates.{Candidate}
-use Rattle.wax_walk.specs.Given.{kept, alone, with_tree}
+use Rattle.wax_token.specs.{Decided.{holds_truly, some_decided}, Meaning.{Means, MeansSome}, Reads.Span}
+use Rattle.wax_token.specs.{Syntax.Tree, Words.{members, trees}}
+use Rattle.wax_walk.specs.{Candidates.Candidate, Given.{kept, alone, with_tree}}
 use Rattle.wax_exclude.proofs.Tests.{and_true, or_true, or_left, or_right, wild_tested}
-use Rattle.wax_exclude.specs.Covers.{WildMeans, ends_wild, some_everything, wild_test}
-use Rattle.wax_exclude.specs.Excluded.{some_test}
-use Rattle.wax_exclude.specs.Marks.{covered_mark}
-use Rattle.wax_exclude.specs.declared.numbers.NumberedLines.{NumberedLines}
+use Rattle.wax_exclude.specs.{Covers.{WildMeans, ends_wild, some_everything, wild_test}, Excluded.some_test}
+use Rattle.wax_exclude.specs.{Marks.covered_mark, declared.numbers.NumberedLines.NumberedLines}
 use Rattle.wax_exclude.specs.declared.split.SplitLine.{SplitLine}
 use Rattle.wax_exclude.specs.inner.Listed.{below_by, ignored_by, listed_mark, none_reincludes}
 use Rattle.wax_exclude.specs.inner.Numbers.{HasMatch, KnowsLines, MatchesBy, covering_number}

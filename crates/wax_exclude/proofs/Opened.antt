@@ -1,32 +1,23 @@
 -- Which folders a least walk lists.
 use Rattle.std.proofs.Common.{◌≡◌, ℕ, ◌<◌, Bool, true, false, ◌&&◌, not, cond, List, [], ◌∷◌, ◌++◌, map, refl}
 use Rattle.std.proofs.Common.{length, sym, ap, subst, ◌∙◌, inl, inr, arith, append_assoc, append-nil, chars}
-use Rattle.std.specs.Prelude.{All, Option}
 use Rattle.std.proofs.lemmas.List.Elements.{All-nil, All-weaker}
+use Rattle.std.specs.Prelude.{All, Option}
 use Rattle.wax_directory.specs.Shown.{Shown, a_leaf, a_folder, a_sealed, missing, failing, child_in}
-use Rattle.wax_tree.specs.Begins.{Origin, origin_location, scope_in}
-use Rattle.wax_tree.specs.declared.steps.DepthRange.{DepthRange}
-use Rattle.wax_tree.specs.Plain.{WalkScope, Location, plain_at}
-use Rattle.wax_tree.specs.Prefix.{ArePlain, path_from, walk_from}
+use Rattle.wax_tree.specs.{Begins.{Origin, origin_location, scope_in}, declared.steps.DepthRange.DepthRange}
+use Rattle.wax_tree.specs.{Plain.{WalkScope, Location, plain_at}, Prefix.{ArePlain, path_from, walk_from}}
 use Rattle.wax_tree.specs.Programs.{limit_below}
 use Rattle.wax_walk.specs.declared.error.FaultKind.{FaultKind}
 use Rattle.wax_walk.specs.declared.error.FaultKind.TheVariants.{NotFound, NotAFolder, Listing}
-use Rattle.wax_walk.specs.Forest.{Forest, nothing, item, lists, listings}
-use Rattle.wax_walk.specs.Given.{Facts, Mark, Given, fault}
-use Rattle.wax_walk.specs.View.{is_folder_kind}
-use Rattle.wax_walk.specs.Pruned.{is_closed, pruned}
+use Rattle.wax_walk.specs.{Forest.{Forest, nothing, item, lists, listings}, Given.{Facts, Mark, Given, fault}}
+use Rattle.wax_walk.specs.{View.is_folder_kind, Pruned.{is_closed, pruned}}
 use Rattle.wax_exclude.proofs.Headline.{at_start, stacked_fault}
 use Rattle.wax_exclude.proofs.Listing.{Guarded, Well, WellBelow, done_with, well_stacked, none_done, Chosen}
-use Rattle.wax_exclude.proofs.Listing.{each_listed}
-use Rattle.wax_exclude.proofs.Listing.{IsBelow, OfFolder, AboveLeast, location_at, well_at, none_covers}
-use Rattle.wax_exclude.proofs.Listing.{origin_end}
-use Rattle.wax_exclude.proofs.Names.{at_join, chars_joined, names_chars}
+use Rattle.wax_exclude.proofs.Listing.{each_listed, IsBelow, OfFolder, AboveLeast, location_at, well_at}
+use Rattle.wax_exclude.proofs.{Listing.{none_covers, origin_end}, Names.{at_join, chars_joined, names_chars}}
 use Rattle.wax_exclude.proofs.Reaching.{plain_child}
-use Rattle.wax_exclude.specs.Candidates.{text_at}
-use Rattle.wax_exclude.specs.inner.Descents.{At, child_location}
-use Rattle.wax_exclude.specs.Premises.{IsPlainShown}
-use Rattle.wax_exclude.specs.Pruned.{TestsBelow, opens_where, least_rules, least_walk, CanWalkLeast}
-use Rattle.wax_exclude.specs.Pruned.{MayOpen}
+use Rattle.wax_exclude.specs.{Candidates.text_at, inner.Descents.{At, child_location}, Premises.IsPlainShown}
+use Rattle.wax_exclude.specs.Pruned.{TestsBelow, opens_where, least_rules, least_walk, CanWalkLeast, MayOpen}
 use Rattle.wax_exclude.specs.Wanted.{Wanted, stacked}
 
 opened : (o k : Bool) → k ≡ true → not o && k ≡ false → o ≡ true

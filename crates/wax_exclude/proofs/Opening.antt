@@ -1,33 +1,23 @@
 -- A least walk keeps what is wanted of the whole walk.
 use Rattle.std.proofs.Common.{◌≡◌, ℕ, ◌<◌, ◌≤◌, Bool, true, false, ◌&&◌, not, ◌⊎◌, List, [], ◌∷◌, ◌++◌, map}
-use Rattle.std.proofs.Common.{Option, length}
-use Rattle.std.proofs.Common.{refl, ap, ◌∙◌, inl, inr, arith, chars}
+use Rattle.std.proofs.{Common.{Option, length, refl, ap, ◌∙◌, inl, inr, arith, chars}, lemmas.Bool.ltb-true}
 use Rattle.std.specs.Prelude.{filter, nat_lt}
-use Rattle.std.proofs.lemmas.Bool.{ltb-true}
 use Rattle.wax_directory.specs.declared.directory.FileType.{FileType}
 use Rattle.wax_directory.specs.Shown.{Shown, a_leaf, a_folder, a_sealed, missing, failing, child_in}
-use Rattle.wax_tree.specs.Begins.{Origin, origin_location, scope_in}
-use Rattle.wax_tree.specs.declared.steps.DepthRange.{DepthRange}
-use Rattle.wax_tree.specs.Follows.{AreDistinctAlong}
-use Rattle.wax_tree.specs.Plain.{WalkScope, Location, plain_entry, plain_at}
-use Rattle.wax_tree.specs.Prefix.{ArePlain, walk_from}
-use Rattle.wax_tree.specs.Whole.{is_in, whole_at}
+use Rattle.wax_tree.specs.{Begins.{Origin, origin_location, scope_in}, declared.steps.DepthRange.DepthRange}
+use Rattle.wax_tree.specs.{Follows.AreDistinctAlong, Plain.{WalkScope, Location, plain_entry, plain_at}}
+use Rattle.wax_tree.specs.{Prefix.{ArePlain, walk_from}, Whole.{is_in, whole_at}}
 use Rattle.wax_walk.specs.declared.error.FaultKind.{FaultKind}
 use Rattle.wax_walk.specs.declared.error.FaultKind.TheVariants.{NotFound, NotAFolder, Listing}
-use Rattle.wax_walk.specs.Forest.{Forest, nothing, item, preorder}
-use Rattle.wax_walk.specs.Given.{Given, entry, fault, no_memory}
+use Rattle.wax_walk.specs.{Forest.{Forest, nothing, item, preorder}, Given.{Given, entry, fault, no_memory}}
 use Rattle.wax_walk.specs.Pruned.{pruned}
-use Rattle.wax_exclude.proofs.Closing.{least_wanted, unwanted_from}
-use Rattle.wax_exclude.proofs.Empty.{none_in_range}
+use Rattle.wax_exclude.proofs.{Closing.{least_wanted, unwanted_from}, Empty.none_in_range}
 use Rattle.wax_exclude.proofs.Headline.{at_start, bytes_begin, stacked_fault}
 use Rattle.wax_exclude.proofs.Names.{at_join, names_chars, length_names}
-use Rattle.wax_exclude.proofs.Reaching.{same_walk, reached, plain_child}
-use Rattle.wax_exclude.proofs.Whole.{at_whole}
-use Rattle.wax_exclude.specs.inner.Descents.{At, child_location}
-use Rattle.wax_exclude.specs.Premises.{BoundsNames, IsPlainShown}
+use Rattle.wax_exclude.proofs.{Reaching.{same_walk, reached, plain_child}, Whole.at_whole}
+use Rattle.wax_exclude.specs.{inner.Descents.{At, child_location}, Premises.{BoundsNames, IsPlainShown}}
 use Rattle.wax_exclude.specs.Pruned.{TestsBelow, opens_where, least_rules, is_wanted_from, least_walk}
-use Rattle.wax_exclude.specs.Pruned.{CanWalkLeast}
-use Rattle.wax_exclude.specs.Walked.{wanted_entries}
+use Rattle.wax_exclude.specs.{Pruned.CanWalkLeast, Walked.wanted_entries}
 use Rattle.wax_exclude.specs.Wanted.{Wanted, is_wanted, is_kept_entry, stacked}
 
 -- ---- ranges

@@ -1,19 +1,12 @@
 -- Where walks of globs and sets may begin, and how far they may go.
 use Rattle.std.proofs.Common.{◌≡◌, ◌≤◌, ◌⊎◌, ℕ, Bool, true, false, List, Option, Some, None, map, min, inl}
-use Rattle.std.proofs.Common.{inr, refl, subst, arith, chars}
-use Rattle.std.proofs.lemmas.Bool.{cases_lt}
-use Rattle.wax_query.specs.Components.{component_total}
-use Rattle.wax_query.specs.Ranges.{AtMost, Bounds}
-use Rattle.wax_token.specs.Meaning.{Means}
-use Rattle.wax_token.specs.Reads.{Span}
-use Rattle.wax_token.specs.Syntax.{Tree}
-use Rattle.wax_tree.specs.Prefix.{ArePlain}
-use Rattle.wax_tree.specs.declared.steps.DepthRange.{DepthRange}
+use Rattle.std.proofs.{Common.{inr, refl, subst, arith, chars}, lemmas.Bool.cases_lt}
+use Rattle.wax_query.specs.{Components.component_total, Ranges.{AtMost, Bounds}}
+use Rattle.wax_token.specs.{Meaning.Means, Reads.Span, Syntax.Tree}
+use Rattle.wax_tree.specs.{Prefix.ArePlain, declared.steps.DepthRange.DepthRange}
 use Rattle.wax_exclude.proofs.Beginnings.{bounds_names}
-use Rattle.wax_exclude.specs.BeginsRequest.{origin_from, up_to, walked_by}
-use Rattle.wax_exclude.specs.Candidates.{base}
-use Rattle.wax_exclude.specs.Premises.{BeginsWith, BoundsNames}
-use Rattle.wax_exclude.specs.Pruned.{CanWalkLeast, by_matches}
+use Rattle.wax_exclude.specs.{BeginsRequest.{origin_from, up_to, walked_by}, Candidates.base}
+use Rattle.wax_exclude.specs.{Premises.{BeginsWith, BoundsNames}, Pruned.{CanWalkLeast, by_matches}}
 use Rattle.wax_exclude.specs.Wanted.{Wanted}
 
 pub candidate_is : (start : List ℕ) (rooted : Bool) (names : List (List ℕ))

@@ -2,9 +2,7 @@
 use Rattle.std.proofs.Common.{◌≡◌, ℕ, ◌<◌, ◌+◌, false, List, [], ◌∷◌, inl, inr, get_or, length, subst, take}
 use Rattle.std.proofs.lemmas.List.Elements.{All-head, All-more, All-tail, All-weaker}
 use Rattle.wax_prefilter.specs.Literals.{LiteralsView, MayPass}
-use Rattle.wax_token.specs.Meaning.{Means}
-use Rattle.wax_token.specs.Reads.{Span}
-use Rattle.wax_token.specs.Syntax.{Tree}
+use Rattle.wax_token.specs.{Meaning.Means, Reads.Span, Syntax.Tree}
 use Rattle.wax_exclude.specs.declared.split.SplitLine.{SplitLine}
 use Rattle.wax_exclude.specs.inner.Numbers.{AlternativesPass, HasMatch, LinesPass, MatchesBy, covering_number}
 use Rattle.wax_exclude.specs.inner.Numbers.{number_after}

@@ -1,7 +1,7 @@
 -- What is left of a walk without what is below some of its items.
 use Rattle.std.proofs.Common.{◌≡◌, Bool, true, false, ◌||◌, cond, List, [], ◌∷◌, ◌++◌, refl, sym, ap, ◌∙◌}
-use Rattle.std.specs.Prelude.{filter, ⊤}
 use Rattle.std.proofs.lemmas.List.Elements.{filter-append}
+use Rattle.std.specs.Prelude.{filter, ⊤}
 use Rattle.wax_walk.specs.Forest.{Forest, nothing, item, lists, preorder, followed_by, filtered}
 use Rattle.wax_walk.specs.Given.{Facts, Mark, Given}
 use Rattle.wax_exclude.specs.inner.Stacks.{LeavesOutAll, PassesDown, AllPassDown}

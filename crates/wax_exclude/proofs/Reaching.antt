@@ -1,12 +1,9 @@
 -- Only what is at or below the last name of the origin, and not past the greatest depth, is wanted.
 use Rattle.std.proofs.Common.{◌≡◌, ℕ, ◌<◌, ◌≤◌, Bool, true, false, cond, List, [], ◌∷◌, ◌++◌, length, refl}
 use Rattle.std.proofs.Common.{sym, ap, subst, ◌∙◌, inl, inr, arith, append_assoc, append-nil, length-append}
-use Rattle.std.specs.Prelude.{filter, nat_lt}
-use Rattle.std.specs.Str.{bytes_eq}
-use Rattle.std.proofs.lemmas.Bool.{ltb-true, lt-ltb, cases_lt}
-use Rattle.std.proofs.lemmas.List.{append_cancel_left}
-use Rattle.std.proofs.lemmas.List.Elements.{filter-append}
-use Rattle.std.proofs.lemmas.Slice.Eq.{bytes_eq-Decides}
+use Rattle.std.proofs.{lemmas.Bool.{ltb-true, lt-ltb, cases_lt}, lemmas.List.append_cancel_left}
+use Rattle.std.proofs.{lemmas.List.Elements.filter-append, lemmas.Slice.Eq.bytes_eq-Decides}
+use Rattle.std.specs.{Prelude.{filter, nat_lt}, Str.bytes_eq}
 use Rattle.wax_directory.specs.declared.directory.FileType.{FileType}
 use Rattle.wax_directory.specs.declared.directory.FileType.TheVariants.{Folder}
 use Rattle.wax_directory.specs.Shown.{Items, end, leaf, folder, sealed, misnamed, unread, not_text, Shown}
@@ -14,17 +11,13 @@ use Rattle.wax_directory.specs.Shown.{a_leaf, a_folder, a_sealed, missing, faili
 use Rattle.wax_directory.specs.Shown.{child_in, IsNew, AreDistinct, IsDistinct}
 use Rattle.wax_tree.specs.Follows.{AreDistinctAlong, AreDistinctHere}
 use Rattle.wax_tree.specs.Plain.{WalkScope, Location, one_deeper, plain_entry, items_forest, below_forest}
-use Rattle.wax_tree.specs.Plain.{plain_at}
-use Rattle.wax_tree.specs.Prefix.{ArePlain, walk_from}
+use Rattle.wax_tree.specs.{Plain.plain_at, Prefix.{ArePlain, walk_from}}
 use Rattle.wax_walk.proofs.Collecting.{preorder_append}
 use Rattle.wax_walk.specs.declared.error.FaultKind.{FaultKind}
 use Rattle.wax_walk.specs.declared.error.FaultKind.TheVariants.{NotFound, NotAFolder, Listing}
-use Rattle.wax_walk.specs.Forest.{Forest, nothing, item, lists, preorder, followed_by}
-use Rattle.wax_walk.specs.Given.{Given, fault}
-use Rattle.wax_exclude.proofs.Names.{at_join}
-use Rattle.wax_exclude.proofs.Walked.{same_filter, agree_inside}
-use Rattle.wax_exclude.specs.inner.Descents.{At, child_location}
-use Rattle.wax_exclude.specs.Premises.{ArePlainItems, IsPlainShown}
+use Rattle.wax_walk.specs.{Forest.{Forest, nothing, item, lists, preorder, followed_by}, Given.{Given, fault}}
+use Rattle.wax_exclude.proofs.{Names.at_join, Walked.{same_filter, agree_inside}}
+use Rattle.wax_exclude.specs.{inner.Descents.{At, child_location}, Premises.{ArePlainItems, IsPlainShown}}
 
 same_name : (y x : List ℕ) → bytes_eq y x ≡ true → y ≡ x
 same_name y x e = (bytes_eq-Decides y x).0 e

@@ -2,12 +2,9 @@
 use Rattle.std.proofs.Common.{◌≡◌, Bool, true, false, not, is_some, Some, None, Option, List, refl, ap, ◌∙◌}
 use Rattle.std.proofs.lemmas.Bool.{false≢true, true≢false}
 use Rattle.wax_exclude.proofs.Ignored.{ignore_keeps}
-use Rattle.wax_exclude.specs.Ignored.{Line, ignore_mark, is_ignored}
-use Rattle.wax_exclude.specs.inner.Stacks.{keeps}
+use Rattle.wax_exclude.specs.{Ignored.{Line, ignore_mark, is_ignored}, inner.Stacks.keeps}
 use Rattle.wax_token.specs.Reads.{Span}
-use Rattle.wax_walk.specs.Candidates.{Candidate}
-use Rattle.wax_walk.specs.Said.{mark_of}
-use Rattle.wax_walk.specs.declared.iterator.EntryResidue.{EntryResidue}
+use Rattle.wax_walk.specs.{Candidates.Candidate, Said.mark_of, declared.iterator.EntryResidue.EntryResidue}
 use Rattle.wax_walk.specs.declared.iterator.EntryResidue.TheVariants.{File, Tree}
 
 some_excluded : (r : Option EntryResidue) (ignored : Bool) → keeps (mark_of r) ≡ not ignored

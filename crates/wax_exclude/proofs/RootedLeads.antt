@@ -1,19 +1,16 @@
 -- Globs whose matches all begin with `/` have a boundary at once.
-use Rattle.std.proofs.Common.{◌≡◌, ℕ, zero, suc, ◌||◌, Bool, true, false, not, List, [], ◌∷◌}
-use Rattle.std.proofs.Common.{if◌then◌else◌, refl, sym, ap}
+use Rattle.std.proofs.Common.{◌≡◌, ℕ, zero, suc, ◌||◌, Bool, true, false, not, List, [], ◌∷◌, if◌then◌else◌}
+use Rattle.std.proofs.Common.{refl, sym, ap}
 use Rattle.std.specs.List.{before_first, list_any}
 use Rattle.wax_exclude.specs.Leading.{leading, leading_of}
-use Rattle.wax_facts.specs.Optional.{optional}
+use Rattle.wax_facts.specs.{Optional.optional, Root.{root, root_first, root_some}}
 use Rattle.wax_components.specs.Parts.{components_in}
-use Rattle.wax_facts.specs.Root.{root, root_first, root_some}
-use Rattle.wax_query.specs.Whens.{certainty}
-use Rattle.wax_query.specs.declared.query.when.When.{When}
+use Rattle.wax_query.specs.{Whens.certainty, declared.query.when.When.When}
 use Rattle.wax_query.specs.declared.query.when.When.TheVariants.{Always, Never, Sometimes}
 use Rattle.wax_token.specs.Kinds.{has_boundary, is_boundary, is_separator, is_tree_wildcard}
 use Rattle.wax_token.specs.Kinds.{some_has_boundary}
 use Rattle.wax_token.specs.Syntax.{literal, class, separator, one, zero_or_more, tree, Tree, leaf}
-use Rattle.wax_token.specs.Syntax.{alternation, concatenation, repetition, Trees, none, more}
-use Rattle.wax_token.specs.Words.{listed}
+use Rattle.wax_token.specs.{Syntax.{alternation, concatenation, repetition, Trees, none, more}, Words.listed}
 
 both_always : (a b : When) → certainty a b ≡ Always → a ≡ Always
 both_always Never Never e = cc

@@ -3,11 +3,8 @@ use Rattle.std.proofs.Common.{◌≡◌, ℕ, false, true, List, [], ◌∷◌, 
 use Rattle.wax_facts.specs.Alternatives.{alternatives}
 use Rattle.wax_token.specs.declared.token.Evaluation.TheVariants.{Eager}
 use Rattle.wax_token.specs.Syntax.{Tree, leaf, alternation, concatenation, repetition, literal, separator}
-use Rattle.wax_token.specs.Syntax.{zero_or_more, tree}
-use Rattle.wax_token.specs.Words.{trees}
-use Rattle.wax_exclude.specs.Candidates.{candidate_at, text_at}
-use Rattle.wax_exclude.specs.Covers.{covers_test}
-use Rattle.wax_exclude.specs.Leading.{leading_of}
+use Rattle.wax_token.specs.{Syntax.{zero_or_more, tree}, Words.trees}
+use Rattle.wax_exclude.specs.{Candidates.{candidate_at, text_at}, Covers.covers_test, Leading.leading_of}
 
 -- tokens, without what the parser knows of them
 abbrev text : List ℕ → Tree ℕ

@@ -1,17 +1,13 @@
 -- The wanted entries are those that the glob matches and no filter excludes.
-use Rattle.std.proofs.Common.{◌≡◌, ◌∙◌, ◌≤◌, ◌&&◌, ◌↔◌, ℕ, Bool, true, false, not, List, [], ◌∷◌}
-use Rattle.std.proofs.Common.{inl, inr, refl, sym}
-use Rattle.std.specs.Prelude.{All, chars, cond, filter, nat_lt}
-use Rattle.std.proofs.lemmas.Bool.{and_parts, false≢true, le-ltb, ltb-false, not-true}
+use Rattle.std.proofs.Common.{◌≡◌, ◌∙◌, ◌≤◌, ◌&&◌, ◌↔◌, ℕ, Bool, true, false, not, List, [], ◌∷◌, inl, inr}
+use Rattle.std.proofs.{Common.{refl, sym}, lemmas.Bool.{and_parts, false≢true, le-ltb, ltb-false, not-true}}
 use Rattle.std.proofs.lemmas.List.Elements.{All-cons, All-head, All-nil, All-tail}
-use Rattle.wax_token.specs.Decided.{means_test, means_tested}
-use Rattle.wax_token.specs.Reads.{Span}
-use Rattle.wax_tree.specs.declared.steps.DepthRange.{DepthRange}
-use Rattle.wax_tree.specs.Whole.{is_in}
+use Rattle.std.specs.Prelude.{All, chars, cond, filter, nat_lt}
+use Rattle.wax_token.specs.{Decided.{means_test, means_tested}, Reads.Span}
+use Rattle.wax_tree.specs.{declared.steps.DepthRange.DepthRange, Whole.is_in}
 use Rattle.wax_walk.specs.Given.{Facts, Given, alone, entry, fault, kept, no_memory, with_tree}
 use Rattle.wax_exclude.specs.Wanted.{Filter, Wanted, excludes, is_wanted, none_excludes, not_ignored}
-use Rattle.wax_exclude.specs.Wanted.{not_meant}
-use Rattle.wax_exclude.specs.WantedEntries.{IsExcludedBy, IsWantedEntry, Selects}
+use Rattle.wax_exclude.specs.{Wanted.not_meant, WantedEntries.{IsExcludedBy, IsWantedEntry, Selects}}
 use Rattle.wax_exclude.proofs.LastMatch.{last_match_decides}
 
 -- ---- tests

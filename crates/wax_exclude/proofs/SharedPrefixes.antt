@@ -1,25 +1,17 @@
 -- What the prefixes of several globs share.
 use Rattle.std.proofs.Common.{◌≡◌, ◌∙◌, ◌<◌, ◌≤◌, ◌+◌, ℕ, zero, suc, Bool, false, List, [], ◌∷◌, ◌++◌, Option}
 use Rattle.std.proofs.Common.{Some, None, map, length, take, take_all, get_or, inl, inr, refl, sym, subst, ap}
-use Rattle.std.proofs.Common.{arith, append_assoc, append-nil, chars, String}
-use Rattle.std.specs.Prelude.{MatchOption, unwrap_or}
-use Rattle.std.proofs.Math.Seq.{take-suc}
-use Rattle.std.specs.List.{Contains}
-use Rattle.std.specs.declared.alloc.Global.{Global}
+use Rattle.std.proofs.{Common.{arith, append_assoc, append-nil, chars, String}, Math.Seq.take-suc}
 use Rattle.std.proofs.lemmas.List.{map-append}
 use Rattle.std.proofs.lemmas.List.Elements.{Contains-append_cases, Contains-append_left}
 use Rattle.std.proofs.lemmas.List.Elements.{Contains-append_right}
+use Rattle.std.specs.{Prelude.{MatchOption, unwrap_or}, List.Contains, declared.alloc.Global.Global}
 use Rattle.wax_facts.specs.Prefix.{Prefix}
-use Rattle.wax_token.specs.Meaning.{Means, MeansSome}
-use Rattle.wax_token.specs.Reads.{Span}
-use Rattle.wax_token.specs.Syntax.{Tree, alternation}
-use Rattle.wax_token.specs.Words.{trees}
+use Rattle.wax_token.specs.{Meaning.{Means, MeansSome}, Reads.Span, Syntax.{Tree, alternation}, Words.trees}
 use Rattle.wax_tree.specs.Prefix.{from_last}
-use Rattle.wax_exclude.specs.Candidates.{text_at}
-use Rattle.wax_exclude.specs.Premises.{BeginsWith, IsUnmeant}
+use Rattle.wax_exclude.specs.{Candidates.text_at, Premises.{BeginsWith, IsUnmeant}}
 use Rattle.wax_exclude.specs.Prefix.{AreShared, HasEmptyName, HasPrefixNames, IsCommonPrefix, longest, mixed}
-use Rattle.wax_exclude.specs.Prefix.{no_names, PrefixSplitsInto}
-use Rattle.wax_exclude.specs.declared.prefixes.PrefixNames.{PrefixNames}
+use Rattle.wax_exclude.specs.{Prefix.{no_names, PrefixSplitsInto}, declared.prefixes.PrefixNames.PrefixNames}
 use Rattle.wax_exclude.specs.inner.Shared.{IsBeginning, IsCommonBeginning, NarrowsTo, ShareNothing}
 use Rattle.wax_exclude.proofs.SplitPrefixes.{same_split}
 

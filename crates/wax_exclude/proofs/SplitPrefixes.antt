@@ -2,22 +2,17 @@
 use Rattle.std.proofs.Common.{◌≡◌, ◌≢◌, ◌==◌, ◌∙◌, ℕ, Bool, true, false, cond, List, [], ◌∷◌, ◌++◌, ◌⊎◌, map}
 use Rattle.std.proofs.Common.{reverse, inl, inr, refl, sym, subst, ap, append_assoc, append-nil, chars}
 use Rattle.std.proofs.Common.{encode_utf8_all, string_bytes, String}
-use Rattle.std.specs.Prelude.{filter}
-use Rattle.std.specs.Str.{IsUtf8}
-use Rattle.std.specs.List.{All, onto_first, slice_split}
-use Rattle.std.specs.declared.alloc.Global.{Global}
-use Rattle.std.proofs.lemmas.Bool.{cases_eq, cases_Bool, eqb-true, false≢true}
-use Rattle.std.proofs.lemmas.Str.{encodes-chars}
-use Rattle.std.proofs.lemmas.List.{reverse-append}
-use Rattle.std.proofs.lemmas.List.Elements.{All-cons, All-nil}
+use Rattle.std.proofs.{lemmas.Bool.{cases_eq, cases_Bool, eqb-true, false≢true}, lemmas.Str.encodes-chars}
+use Rattle.std.proofs.{lemmas.List.reverse-append, lemmas.List.Elements.{All-cons, All-nil}}
 use Rattle.std.proofs.lemmas.List.Splits.{slice_split_at, slice_split_none}
+use Rattle.std.specs.{Prelude.filter, Str.IsUtf8, List.{All, onto_first, slice_split}}
+use Rattle.std.specs.declared.alloc.Global.{Global}
 use Rattle.wax_directory.specs.Names.{is_rooted, is_some_name, names_in_path}
 use Rattle.wax_token.specs.Meaning.{HasNoSlash}
 use Rattle.wax_tree.specs.Prefix.{from_last}
 use Rattle.wax_tree.proofs.Showing.{from_last_end}
 use Rattle.wax_query.specs.Below.{AreNames, joined_names}
-use Rattle.wax_exclude.specs.Candidates.{text_at}
-use Rattle.wax_exclude.specs.Prefix.{HasEmptyName, PrefixSplitsInto, SplitsInto}
+use Rattle.wax_exclude.specs.{Candidates.text_at, Prefix.{HasEmptyName, PrefixSplitsInto, SplitsInto}}
 
 -- ---- names of a text
 

@@ -1,14 +1,13 @@
 -- What all filters leave are the entries that each of them keeps.
 use Rattle.std.proofs.Common.{◌≡◌, Bool, true, false, ◌&&◌, cond, List, [], ◌∷◌, ◌++◌, refl, sym, ap, ◌∙◌}
-use Rattle.std.specs.Prelude.{filter}
 use Rattle.std.proofs.lemmas.List.Elements.{filter-append}
+use Rattle.std.specs.Prelude.{filter}
 use Rattle.wax_walk.specs.Forest.{Forest, nothing, item, lists, preorder, filtered}
 use Rattle.wax_walk.specs.Given.{Facts, Mark, kept, alone, with_tree, Given, entry, fault, no_memory}
 use Rattle.wax_walk.specs.Given.{combined_mark, is_cut, changed_by, cut_by}
 use Rattle.wax_exclude.specs.Wanted.{stacked, is_kept_entry}
 use Rattle.wax_exclude.specs.inner.Stacks.{keeps, all_keep, is_left, LeavesOutWhole, LeavesOutAll}
-use Rattle.wax_exclude.specs.inner.Stacks.{IsEntryLeftOut}
-use Rattle.wax_exclude.specs.inner.Stacks.{PassesDown, AllPassDown}
+use Rattle.wax_exclude.specs.inner.Stacks.{IsEntryLeftOut, PassesDown, AllPassDown}
 
 module _ (rule : Facts → Mark) (rules : List (Facts → Mark)) where
   unwanted : (x : Given) → LeavesOutWhole rule x → is_left (rule ∷ rules) x ≡ false

@@ -1,16 +1,13 @@
 -- Rules one after another.
 use Rattle.std.proofs.Common.{◌≡◌, cond, List, [], ◌∷◌, ◌++◌, map, refl, sym, ap, ◌∙◌}
-use Rattle.wax_walk.specs.Candidates.{Candidate, of_candidate}
-use Rattle.wax_walk.specs.Forest.{Forest, nothing, item, lists}
+use Rattle.wax_walk.specs.{Candidates.{Candidate, of_candidate}, Forest.{Forest, nothing, item, lists}}
 use Rattle.wax_walk.specs.Given.{Facts, Mark, kept, alone, with_tree, combined_mark, Given, entry, fault}
-use Rattle.wax_walk.specs.Given.{no_memory}
-use Rattle.wax_walk.specs.Given.{changed_by, cut_by}
-use Rattle.wax_exclude.specs.Wanted.{Filter, filter_mark, filter_rules, stacked}
+use Rattle.wax_walk.specs.Given.{no_memory, changed_by, cut_by}
+use Rattle.wax_walk.specs.Course.{Course, asks, stop, unknown, yields}
+use Rattle.wax_exclude.specs.{Wanted.{Filter, filter_mark, filter_rules, stacked}, GlobRequests.AreRulesOf}
 use Rattle.wax_tree.specs.Programs.{any_mark}
-use Rattle.wax_exclude.specs.GlobRequests.{AreRulesOf}
 use Rattle.wax_tree.proofs.Combining.{combined_thrice, course_twice, filtered_twice, ruled}
 use Rattle.wax_walk.proofs.Filtered.{ruled_course}
-use Rattle.wax_walk.specs.Course.{Course, asks, stop, unknown, yields}
 
 pub stacked_more : (rules others : List (Facts → Mark)) (f : Forest Given)
     → stacked (rules ++ others) f ≡ stacked others (stacked rules f)

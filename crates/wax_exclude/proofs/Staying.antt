@@ -1,25 +1,20 @@
 -- Which folders of a walk are listed after filters.
 use Rattle.std.proofs.Common.{◌≡◌, ℕ, Bool, true, false, ◌⊎◌, cond, List, [], ◌∷◌, ◌++◌, refl, sym, ap, subst}
 use Rattle.std.proofs.Common.{◌∙◌, inl, inr, append_assoc, append-nil, arith}
-use Rattle.std.specs.List.{Contains}
-use Rattle.std.specs.Prelude.{All, nat_lt, ⊤}
 use Rattle.std.proofs.lemmas.List.Elements.{All-append, All-cons, All-contains, All-contains_itself, All-nil}
 use Rattle.std.proofs.lemmas.List.Elements.{All-weaker, Contains-append_left, Contains-append_right}
+use Rattle.std.specs.{List.Contains, Prelude.{All, nat_lt, ⊤}}
 use Rattle.wax_directory.specs.declared.directory.FileType.{FileType}
 use Rattle.wax_directory.specs.declared.directory.FileType.TheVariants.{Folder}
 use Rattle.wax_directory.specs.Shown.{Items, end, leaf, folder, sealed, misnamed, unread, not_text, Shown}
 use Rattle.wax_directory.specs.Shown.{a_leaf, a_folder, a_sealed, missing, failing, leaf_kind, join, IsPlain}
 use Rattle.wax_tree.specs.Plain.{WalkScope, Location, one_deeper, plain_entry, items_forest, plain_at}
-use Rattle.wax_tree.specs.Walking.{entry_location}
-use Rattle.wax_tree.specs.Prefix.{ArePlain, path_from}
+use Rattle.wax_tree.specs.{Walking.entry_location, Prefix.{ArePlain, path_from}}
 use Rattle.wax_walk.specs.declared.error.FaultKind.TheVariants.{Listing}
 use Rattle.wax_walk.specs.Forest.{Forest, nothing, item, lists, listings, followed_by, filtered}
 use Rattle.wax_walk.specs.Given.{Facts, Mark, with_tree, Given, entry, fault, no_memory, changed_by, cut_by}
-use Rattle.wax_exclude.proofs.Listing.{path_last}
-use Rattle.wax_exclude.proofs.Names.{at_join}
-use Rattle.wax_exclude.proofs.Stacking.{cut_left}
-use Rattle.wax_exclude.specs.inner.Descents.{At, child_location}
-use Rattle.wax_exclude.specs.Premises.{ArePlainItems, IsPlainShown}
+use Rattle.wax_exclude.proofs.{Listing.path_last, Names.at_join, Stacking.cut_left}
+use Rattle.wax_exclude.specs.{inner.Descents.{At, child_location}, Premises.{ArePlainItems, IsPlainShown}}
 use Rattle.wax_exclude.specs.Wanted.{stacked}
 
 -- ---- each folder listed

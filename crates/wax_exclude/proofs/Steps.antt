@@ -1,16 +1,10 @@
--- Steps of loops over tokens, components and programs.
-use Rattle.std.proofs.Common.{◌≡◌, ◌≢◌, ◌↔◌, ◌∙◌, ◌+◌, ◌-◌, ◌<◌, ℕ, suc, Bool, true, false, List, [], ◌∷◌}
-use Rattle.std.proofs.Common.{◌++◌, Some, length, take, drop, get_or, slice_get, inl, inr, refl, sym, ap}
-use Rattle.std.proofs.Common.{subst, arith, append_assoc}
-use Rattle.std.specs.List.{before_first, position_or_len}
+-- Steps of loops over tokens and components.
+use Rattle.std.proofs.Common.{◌≡◌, ◌≢◌, ◌∙◌, ◌+◌, ◌-◌, ◌<◌, ℕ, suc, Bool, true, false, List, [], ◌∷◌, ◌++◌}
+use Rattle.std.proofs.Common.{Some, length, take, drop, get_or, slice_get, refl, sym, ap, arith, append_assoc}
 use Rattle.std.proofs.lemmas.List.{drop_more}
-use Rattle.wax_program.specs.Machine.{Accepts}
-use Rattle.wax_token.specs.Kinds.{is_tree_wildcard}
-use Rattle.wax_token.specs.Syntax.{Tree}
-use Rattle.wax_token.specs.Words.{trees}
+use Rattle.std.specs.List.{before_first, position_or_len}
+use Rattle.wax_token.specs.{Kinds.is_tree_wildcard, Syntax.Tree, Words.trees}
 use Rattle.wax_exclude.specs.Covers.{ends_wild, is_everything}
-use Rattle.wax_prefilter.specs.Compiled.{Instructions}
-use Rattle.wax_exclude.specs.Compiled.{SomeAccepts}
 
 -- ---- up to the first
 
@@ -37,24 +31,6 @@ module _ {X : Type 0} (p : X → Bool) (found xs all : List X) (i : ℕ) (x : X)
   pub cut_here : p x ≡ true → found ++ before_first p (drop i xs) ≡ all → found ++ [] ≡ all
   cut_here e h =
       ap (λ z. found ++ z) (sym (ap (before_first p) split ∙ first_cut p x (drop (i + 1) xs) e)) ∙ h
-
--- ---- programs
-
-module _ (s : List ℕ) (programs : List Instructions) (i : ℕ) (p : Instructions) (in' : i < length programs)
-    (here : p ≡ get_or programs i p) where
-  at_next : drop i programs ≡ p ∷ drop (i + 1) programs
-  at_next = drop_more programs i p in' ∙ ap (λ z. z ∷ drop (i + 1) programs) (sym here)
-
-  pub refused_next : (Accepts p.0 0 s → ⊥) → SomeAccepts (drop i programs) s ↔ SomeAccepts programs s
-      → SomeAccepts (drop (i + 1) programs) s ↔ SomeAccepts programs s
-  refused_next n h = (
-    (λ k. h.0 (subst (λ z. SomeAccepts z s) (sym at_next) (inr k))),
-    (λ k. elim (subst (λ z. SomeAccepts z s) at_next (h.1 k)) [ inl a ↦ absurd (n a) | inr q ↦ q ]),
-  )
-
-  pub accepted_here : Accepts p.0 0 s → SomeAccepts (drop i programs) s ↔ SomeAccepts programs s
-      → SomeAccepts programs s
-  accepted_here a h = h.0 (subst (λ z. SomeAccepts z s) (sym at_next) (inl a))
 
 -- ---- the last token, and the only one
 

@@ -1,53 +1,38 @@
 -- What a walk yielded is the walk of a tree that answers as the directory did.
 use Rattle.std.proofs.Common.{◌≡◌, ◌∙◌, ◌⊎◌, Bool, true, false, List, [], ◌∷◌, ◌++◌, filter, refl, sym, ap}
-use Rattle.std.proofs.Common.{inl, inr, arith, subst}
+use Rattle.std.proofs.{Common.{inl, inr, arith, subst}, lemmas.Bool.{le-ltb, lt-ltb}}
 use Rattle.std.specs.Prelude.{if◌then◌else◌}
-use Rattle.std.proofs.lemmas.Bool.{le-ltb, lt-ltb}
-use Rattle.wax_directory.specs.History.{Answer}
-use Rattle.wax_directory.specs.Law.{Law}
+use Rattle.wax_directory.specs.{History.Answer, Law.Law}
 use Rattle.wax_directory.specs.Shown.{Items, Shown, a_folder, a_leaf, a_sealed, end, failing, folder, leaf}
-use Rattle.wax_directory.specs.Shown.{misnamed}
-use Rattle.wax_directory.specs.Shown.{missing, not_text, sealed, unread}
-use Rattle.wax_tree.specs.Programs.{any_mark}
+use Rattle.wax_directory.specs.Shown.{misnamed, missing, not_text, sealed, unread}
+use Rattle.wax_tree.specs.{Programs.any_mark, Begins.{OriginTakes, along, beyond, origin_location, scope_in}}
+use Rattle.wax_tree.specs.{Prefix.ArePlain, Courses.{AreNamed, IsNamed}, Follows.AreDistinctAlong}
 use Rattle.wax_tree.proofs.Answered.{along_yields, cutting_kept, lacks_alone, nothing_yields}
 use Rattle.wax_tree.proofs.AlongShown.{along_shown, distinct_missing}
-use Rattle.wax_tree.specs.Begins.{OriginTakes, along, beyond, origin_location, scope_in}
-use Rattle.wax_tree.specs.Begins as begin
-use Rattle.wax_tree.specs.Prefix.{ArePlain}
-use Rattle.wax_tree.specs.Courses.{AreNamed, IsNamed}
-use Rattle.wax_tree.specs.Follows.{AreDistinctAlong}
 use Rattle.wax_walk.proofs.Courses.{begins_whole, comes_first}
 use Rattle.wax_walk.proofs.Filtered.{Yields, filtered_begins, opened_yields, pruned_begins, pruned_ruled}
 use Rattle.wax_walk.proofs.Filtered.{opened_first, ruled_course, ruled_yields, yields_items, yields_opened}
 use Rattle.wax_walk.proofs.Following.{lacks_filtered}
 use Rattle.wax_walk.specs.Candidates.{Candidate, of_candidate}
 use Rattle.wax_walk.specs.Pruned.{IsPrunedBy, all_folders, opened_forest, opened_course, pruned_course}
-use Rattle.wax_walk.specs.Pruned.{these_folders}
-use Rattle.wax_walk.specs.Ruled.{IsMarkBy}
+use Rattle.wax_walk.specs.{Pruned.these_folders, Ruled.IsMarkBy}
 use Rattle.wax_walk.specs.Collected.{EndsThere, Took, TookCourse, cut_short, whole}
-use Rattle.wax_walk.specs.Course.{Course, CutsShort, IsFiltered, IsStartOf, answers, calls_of, items_of}
-use Rattle.wax_walk.specs.Opened.{opened_folders}
-use Rattle.wax_walk.specs.Course.{stop, unknown, yields}
-use Rattle.wax_walk.specs.Forest.{nothing}
-use Rattle.wax_walk.specs.Given.{Facts, Given, Mark, is_kept, no_memory}
-use Rattle.wax_walk.specs.View.{MayTake, WalkView}
+use Rattle.wax_walk.specs.Course.{Course, CutsShort, IsFiltered, IsStartOf, answers, calls_of, items_of, stop}
+use Rattle.wax_walk.specs.{Course.{unknown, yields}, Opened.opened_folders, Forest.nothing}
+use Rattle.wax_walk.specs.{Given.{Facts, Given, Mark, is_kept, no_memory}, View.{MayTake, WalkView}}
 use Rattle.wax_exclude.proofs.Feeding.{feeds_by_walk}
 use Rattle.wax_exclude.proofs.KeptItems.{cut_kept, kept_entries, kept_last, kept_twice}
-use Rattle.wax_exclude.proofs.StackingRequests.{stacked_any}
-use Rattle.wax_exclude.proofs.Wanting.{entries_wanted, few_listed}
+use Rattle.wax_exclude.proofs.{StackingRequests.stacked_any, Wanting.{entries_wanted, few_listed}}
 use Rattle.wax_exclude.specs.Feeds.{ruled_feed}
 use Rattle.wax_exclude.specs.GlobRequests.{AreOpened, CanBegin, GlobRequest, is_beyond, walk_for}
-use Rattle.wax_exclude.specs.Law.{WalkLaw}
-use Rattle.wax_exclude.specs.Premises.{ArePlainItems, IsPlainShown}
+use Rattle.wax_exclude.specs.{Law.WalkLaw, Premises.{ArePlainItems, IsPlainShown}}
 use Rattle.wax_exclude.specs.RuledWalks.{RuledWalk, WalkTakes, exceeds_range, lacking, origin_course}
-use Rattle.wax_exclude.specs.RuledWalks.{ruled_forest}
-use Rattle.wax_exclude.specs.RuledWalks.{walk_course, walks}
+use Rattle.wax_exclude.specs.RuledWalks.{ruled_forest, walk_course, walks}
 use Rattle.wax_exclude.specs.Told.{Answering, AreWanted, FeedsAnswered, KeepsAnswered, LeavesAnswered}
-use Rattle.wax_exclude.specs.Told.{OpensListed, ToldInPart}
-use Rattle.wax_exclude.specs.Told.{as_told, in_part, keeps_all, keeps_in_part, request_kept, ruled_kept}
-use Rattle.wax_exclude.specs.Told.{walk_calls}
-use Rattle.wax_exclude.specs.Walked.{origin_walk}
+use Rattle.wax_exclude.specs.Told.{OpensListed, ToldInPart, as_told, in_part, keeps_all, keeps_in_part}
+use Rattle.wax_exclude.specs.{Told.{request_kept, ruled_kept, walk_calls}, Walked.origin_walk}
 use Rattle.wax_exclude.specs.Wanted.{is_kept_entry, stacked}
+use Rattle.wax_tree.specs.Begins as begin
 
 plain_items : (l : Items) → AreNamed l → ArePlainItems l
 plain_items end n = tt

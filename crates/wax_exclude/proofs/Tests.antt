@@ -1,16 +1,12 @@
 -- The tests are true exactly where what they test holds.
 use Rattle.std.proofs.Common.{◌≡◌, ℕ, ◌≤◌, Bool, true, false, ◌&&◌, ◌||◌, ◌⊎◌, List, [], ◌∷◌, refl, ap}
-use Rattle.std.proofs.Common.{nat_lt, inl, inr}
+use Rattle.std.proofs.{Common.{nat_lt, inl, inr}, lemmas.Bool.{and_from, ltb-true, lt-ltb}}
 use Rattle.std.specs.Prelude.{IsTrue, ◌↔◌}
-use Rattle.std.proofs.lemmas.Bool.{and_from, ltb-true, lt-ltb}
-use Rattle.wax_token.specs.Decided.{holds_truly, each_decided, means_test, means_tested}
-use Rattle.wax_token.specs.Syntax.{Tree}
+use Rattle.wax_token.specs.{Decided.{holds_truly, each_decided, means_test, means_tested}, Syntax.Tree}
 use Rattle.wax_token.specs.Words.{members, trees}
 use Rattle.wax_walk.specs.Candidates.{Candidate}
 use Rattle.wax_exclude.specs.Covers.{is_everything, ends_wild, CoversSome, some_everything, WildMeans}
-use Rattle.wax_exclude.specs.Covers.{wild_test}
-use Rattle.wax_exclude.specs.Covers.{covers_test}
-use Rattle.wax_exclude.specs.Leading.{Lead, component_test, lead_test}
+use Rattle.wax_exclude.specs.{Covers.{wild_test, covers_test}, Leading.{Lead, component_test, lead_test}}
 
 pub and_true : (a b : Bool) → (a && b) ≡ true → (a ≡ true) × (b ≡ true)
 and_true true b e = (refl, e)

@@ -1,16 +1,14 @@
 -- Names as bytes and as characters.
 use Rattle.std.proofs.Common.{◌≡◌, ◌+◌, ℕ, suc, Bool, true, false, List, [], ◌∷◌, ◌++◌, map, length, get_or}
 use Rattle.std.proofs.Common.{refl, sym, ap, subst, ◌∙◌, arith, length-append, append-nil, drop, inl, inr}
-use Rattle.std.proofs.Common.{chars, encode_utf8_all}
-use Rattle.std.specs.Str.{IsUtf8}
-use Rattle.std.proofs.Math.Seq.{take-append_seam}
+use Rattle.std.proofs.{Common.{chars, encode_utf8_all}, Math.Seq.take-append_seam}
 use Rattle.std.proofs.lemmas.Str.{chars-append, encodes-chars, encodes-append, chars-nil, IsUtf8-append}
 use Rattle.std.proofs.lemmas.Str.{IsUtf8-nil, IsUtf8-take, IsUtf8-drop, IsCharBoundary-before_ascii}
 use Rattle.std.proofs.lemmas.Str.{IsCharBoundary-after_ascii}
+use Rattle.std.specs.Str.{IsUtf8}
 use Rattle.wax_query.specs.Below.{slashed}
-use Rattle.wax_exclude.specs.Candidates.{text_at}
+use Rattle.wax_exclude.specs.{Candidates.text_at, Prefix.{HasEmptyName, SplitsInto}}
 use Rattle.wax_exclude.proofs.Names.{AreTexts, chars_slash, texts_joined}
-use Rattle.wax_exclude.specs.Prefix.{HasEmptyName, SplitsInto}
 
 slash_text : IsUtf8 (47 ∷ [])
 unfolding lib.Utf8.encode

@@ -13,15 +13,12 @@ use Rattle.wax_exclude.proofs.Dropped.{RisesBy, all_at, at_is, comes_before, con
 use Rattle.wax_exclude.proofs.Dropped.{in_range, increasing_from, passed, passes, picked, range_rises}
 use Rattle.wax_exclude.proofs.Dropped.{rises_dropped, rises_first, rises_from, rises_passed, rises_rest}
 use Rattle.wax_exclude.proofs.Dropped.{same_index, shorter_at, stayed, stays_at, zip_dropped, zip_first}
-use Rattle.wax_exclude.proofs.Dropped.{zip_length, zip_second}
-use Rattle.wax_exclude.proofs.IdleLaw.{all_idle_can_go, known_reason}
+use Rattle.wax_exclude.proofs.{Dropped.{zip_length, zip_second}, IdleLaw.{all_idle_can_go, known_reason}}
 use Rattle.wax_exclude.proofs.Tests.{or_right, or_true}
 use Rattle.wax_exclude.specs.Idle.{AreIdle, IsCoveredBy, IsPath, IsReason, IsTakenBack, LineIgnores}
-use Rattle.wax_exclude.specs.Idle.{LineMeans, TakesNothing, is_known, without}
-use Rattle.wax_exclude.specs.Ignored.{Line, is_ignored}
+use Rattle.wax_exclude.specs.{Idle.{LineMeans, TakesNothing, is_known, without}, Ignored.{Line, is_ignored}}
 use Rattle.wax_exclude.specs.Tidy.{AreAt, CanGoAfter, GoInTurn, Removes, StillIgnores, StillMeans, TidiesUp}
-use Rattle.wax_exclude.specs.Tidy.{indexes_of}
-use Rattle.wax_exclude.specs.declared.idle.IdleLine.{IdleLine}
+use Rattle.wax_exclude.specs.{Tidy.indexes_of, declared.idle.IdleLine.IdleLine}
 use Rattle.wax_exclude.specs.declared.idle.IdleReason.{IdleReason}
 use Rattle.wax_exclude.specs.declared.idle.IdleReason.TheVariants.{Covered, TakesNothingBack, Unknown}
 use Rattle.wax_exclude.specs.inner.Tidy.{IsRenumbered, IsSameReason, unknown_indexes}

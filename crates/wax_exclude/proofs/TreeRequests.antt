@@ -1,34 +1,26 @@
 -- A plain walk is the walk of `**`.
 use Rattle.std.proofs.Common.{◌≡◌, ◌∙◌, ◌<◌, ◌&&◌, ◌∷◌, [], ℕ, true, false, List, ap, arith, chars, filter}
-use Rattle.std.proofs.Common.{inl, refl, sym, subst}
+use Rattle.std.proofs.{Common.{inl, refl, sym, subst}, lemmas.Bool.ltb-true}
 use Rattle.std.specs.Prelude.{if◌then◌else◌}
-use Rattle.std.proofs.lemmas.Bool.{ltb-true}
-use Rattle.wax_directory.specs.Law.{Law}
-use Rattle.wax_token.specs.Decided.{means_test, means_tested}
-use Rattle.wax_token.specs.Reads.{Span}
-use Rattle.wax_tree.specs.Begins.{Begins, scope_in}
-use Rattle.wax_tree.specs.Begins as begin
-use Rattle.wax_tree.specs.Courses.{plain_course}
-use Rattle.wax_tree.specs.declared.steps.DepthRange.{DepthRange}
-use Rattle.wax_tree.specs.Plain.{count_shown, plain}
-use Rattle.wax_tree.specs.Whole.{is_in, whole}
-use Rattle.wax_walk.specs.Candidates.{candidate_of, of_candidate}
-use Rattle.wax_walk.specs.Course.{Course, IsStartOf, stop}
+use Rattle.wax_directory.specs.{Law.Law, Shown.Shown}
+use Rattle.wax_token.specs.{Decided.{means_test, means_tested}, Reads.Span}
+use Rattle.wax_tree.specs.{Begins.{Begins, scope_in}, Courses.plain_course}
+use Rattle.wax_tree.specs.{declared.steps.DepthRange.DepthRange, Plain.{count_shown, plain}}
+use Rattle.wax_tree.specs.{Whole.{is_in, whole}, Programs.any_mark}
+use Rattle.wax_walk.specs.{Candidates.{candidate_of, of_candidate}, Course.{Course, IsStartOf, stop}}
 use Rattle.wax_walk.specs.Forest.{Forest, nothing, pending}
-use Rattle.wax_walk.proofs.Filtered.{ruled_course}
 use Rattle.wax_walk.specs.Given.{Facts, kept, alone, with_tree, Given, entry, fault, no_memory}
 use Rattle.wax_walk.specs.View.{WalkView}
+use Rattle.wax_walk.proofs.Filtered.{ruled_course}
 use Rattle.wax_tree.proofs.Combining.{ruled}
-use Rattle.wax_tree.specs.Programs.{any_mark}
 use Rattle.wax_exclude.proofs.StackingRequests.{any_alone, course_unruled, unruled}
-use Rattle.wax_exclude.specs.Marks.{glob_mark, led_mark}
+use Rattle.wax_exclude.specs.{Marks.{glob_mark, led_mark}, Premises.CanWalk}
 use Rattle.wax_exclude.specs.TreeRequests.{WantsUnfiltered, is_unfiltered, tree_request, tree_alone}
 use Rattle.wax_exclude.specs.GlobRequests.{ComesWanted, CanBegin, GlobRequest, goes, is_beyond}
 use Rattle.wax_exclude.specs.GlobRequests.{request_excluding, walk_for}
-use Rattle.wax_exclude.specs.RuledWalks.{lacking, origin_course, walk_course, walks}
-use Rattle.wax_exclude.specs.Walked.{glob_walk}
+use Rattle.wax_exclude.specs.{RuledWalks.{lacking, origin_course, walk_course, walks}, Walked.glob_walk}
 use Rattle.wax_exclude.specs.Wanted.{Filter, is_wanted, none_excludes, rules_of}
-use Rattle.wax_directory.specs.Shown.{Shown}
+use Rattle.wax_tree.specs.Begins as begin
 
 -- ---- `**`
 
@@ -38,7 +30,7 @@ all_meant s = (means_tested tree_alone false false s).1 tt
 all_kept : (f : Facts) → of_candidate (glob_mark false tree_alone) f ≡ kept
 all_kept f = λ i. led_mark true (all_meant (candidate_of f).text i)
 
-unchanged : (f : Forest Given) → ruled (of_candidate (glob_mark false tree_alone)) f ≡ f
+pub unchanged : (f : Forest Given) → ruled (of_candidate (glob_mark false tree_alone)) f ≡ f
 unchanged f = (λ i. ruled (λ facts. all_kept facts i) f) ∙ unruled f
 
 unchanged_course : (c : Course)
@@ -48,7 +40,7 @@ unchanged_course c = ap (λ r. ruled_course r c) (any_alone (of_candidate (glob_
 
 -- ---- what comes
 
-not_beyond : (range : DepthRange) (start : List ℕ) → is_beyond (tree_request range start) ≡ false
+pub not_beyond : (range : DepthRange) (start : List ℕ) → is_beyond (tree_request range start) ≡ false
 not_beyond range start = elim (is_beyond (tree_request range start)) as
     (λ b. is_beyond (tree_request range start) ≡ b → is_beyond (tree_request range start) ≡ false) [
       | true ↦ λ e. let l : range.max < 0 = ltb-true range.max 0 e in absurd (omega (arith, l))
@@ -81,16 +73,21 @@ plain_comes law d range start view begins = record {
       ∙ ap (λ b. if b then stop else ruled_course (any_mark (rules_of request.wanted))
       (origin_course range request.origin s)) (sym e)
 
-pub plain_goes : (range : DepthRange) (start : List ℕ) (filters : List (Filter Span))
-    → CanBegin (request_excluding (tree_request range start) filters)
-plain_goes range start filters = goes (record {
+pub can_walk : (range : DepthRange) (start : List ℕ) (filters : List (Filter Span))
+    → let request = request_excluding (tree_request range start) filters in
+    CanWalk request.wanted range range request.origin
+can_walk range start filters = record {
   spelled = (tt, tt);
   least = refl;
   greatest = inl refl;
   candidate = refl;
   begins = λ names are m. (names, refl);
   plain = tt;
-})
+}
+
+pub plain_goes : (range : DepthRange) (start : List ℕ) (filters : List (Filter Span))
+    → CanBegin (request_excluding (tree_request range start) filters)
+plain_goes range start filters = goes (can_walk range start filters)
 
 -- ---- what is wanted
 

@@ -1,36 +1,26 @@
 -- Lines of which it isn't found whether they decide anything.
-use Rattle.std.proofs.Common.{◌≡◌, ◌↔◌, ◌∙◌, ◌<◌, ◌++◌, ◌∷◌, [], ℕ, zero, suc, All, List, Option}
-use Rattle.std.proofs.Common.{Some, None, Contains, ap, arith, eqb, get_or, inl, inr, length, length-append}
-use Rattle.std.proofs.Common.{ne_eqb, refl, slice_get, subst, sym, true}
-use Rattle.std.proofs.lemmas.Bool.{cases_eq, cases_lt, false≢true}
-use Rattle.std.proofs.lemmas.Bool.Decides.{Decides-eqb}
-use Rattle.std.proofs.lemmas.List.Elements.{All-map, All-push}
+use Rattle.std.proofs.Common.{◌≡◌, ◌↔◌, ◌∙◌, ◌<◌, ◌++◌, ◌∷◌, [], ℕ, zero, suc, All, List, Option, Some, None}
+use Rattle.std.proofs.Common.{Contains, ap, arith, eqb, get_or, inl, inr, length, length-append, ne_eqb, refl}
+use Rattle.std.proofs.{Common.{slice_get, subst, sym, true}, lemmas.Bool.{cases_eq, cases_lt, false≢true}}
+use Rattle.std.proofs.{lemmas.Bool.Decides.Decides-eqb, lemmas.List.Elements.{All-map, All-push}}
 use Rattle.std.proofs.lemmas.Map.Keys.{IsDistinct-from_apart}
 use Rattle.std.proofs.lemmas.Map.Made.{Contains-tail, is_member-Decides}
 use Rattle.std.proofs.lemmas.Map.Steps.{length-le_from_distinct_below}
 use Rattle.std.proofs.lemmas.Option.{same_Some, slice_get-get_or, slice_get_within}
-use Rattle.std.specs.List.{IsDistinct, list_any}
-use Rattle.std.specs.Prelude.{filter, not, unwrap_or}
-use Rattle.wax_compare.specs.Limit.{AllDiffer, KeepsLimit}
-use Rattle.wax_compare.specs.declared.wanted.Comparison.TheVariants as comparison
-use Rattle.wax_compare.specs.declared.wanted.Criterion.TheVariants.{Accepted}
-use Rattle.wax_compare.specs.declared.wanted.Texts.TheVariants.{Paths}
-use Rattle.wax_compare.specs.declared.wanted.Wanted.{Wanted}
+use Rattle.std.specs.{List.{IsDistinct, list_any}, Prelude.{filter, not, unwrap_or}}
+use Rattle.wax_compare.specs.{Limit.{AllDiffer, KeepsLimit}, declared.wanted.Criterion.TheVariants.Accepted}
+use Rattle.wax_compare.specs.{declared.wanted.Texts.TheVariants.Paths, declared.wanted.Wanted.Wanted}
 use Rattle.wax_compare.specs.declared.wanted.Wanted.TheVariants.{FirstOnly}
-use Rattle.wax_exclude.proofs.Dropped.{contains_at, passed}
-use Rattle.wax_exclude.proofs.IdleLines.{AreLater, one_later, only_one}
-use Rattle.wax_exclude.specs.Idle.{LineMeans, is_known}
-use Rattle.wax_exclude.specs.Ignored.{Line}
+use Rattle.wax_exclude.proofs.{Dropped.{contains_at, passed}, IdleLines.{AreLater, one_later, only_one}}
+use Rattle.wax_exclude.specs.{Idle.{LineMeans, is_known}, Ignored.Line}
 use Rattle.wax_exclude.specs.Undecided.{AreTooLarge, AreUndecided, IsUndecided, SomeLineMeans}
-use Rattle.wax_exclude.specs.declared.idle.IdleLine.{IdleLine}
-use Rattle.wax_exclude.specs.declared.idle.IdleReason.{IdleReason}
+use Rattle.wax_exclude.specs.{declared.idle.IdleLine.IdleLine, declared.idle.IdleReason.IdleReason}
 use Rattle.wax_exclude.specs.declared.idle.IdleReason.TheVariants.{Covered, TakesNothingBack, Unknown}
-use Rattle.wax_exclude.specs.inner.Idle.{AreMatchedBy}
-use Rattle.wax_exclude.specs.inner.Tidy.{unknown_indexes}
+use Rattle.wax_exclude.specs.{inner.Idle.AreMatchedBy, inner.Tidy.unknown_indexes}
 use Rattle.wax_lazy.specs.Numbers.{IsLastNumber}
-use Rattle.wax_program.specs.Machine.{Accepts}
-use Rattle.wax_program.specs.declared.instruction.Instruction.{Instruction}
+use Rattle.wax_program.specs.{Machine.Accepts, declared.instruction.Instruction.Instruction}
 use Rattle.wax_token.specs.Reads.{Span}
+use Rattle.wax_compare.specs.declared.wanted.Comparison.TheVariants as comparison
 
 -- ---- lists of which no two elements are equal
 module _ {X : Type 0} where

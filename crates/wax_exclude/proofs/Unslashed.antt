@@ -3,8 +3,8 @@ use Rattle.std.proofs.Common.{◌≡◌, ◌≢◌, ℕ, zero, suc, Bool, true, 
 use Rattle.std.proofs.Common.{subst, inl, inr}
 use Rattle.wax_token.proofs.Slash.{slash_alone}
 use Rattle.wax_token.specs.Kinds.{is_boundary_leaf, has_boundary, some_has_boundary}
-use Rattle.wax_token.specs.Meaning.{HasNoSlash, SameFold, SameText, LeafMeans, in_class, Copies}
-use Rattle.wax_token.specs.Meaning.{Means, MeansSome, MeansEach}
+use Rattle.wax_token.specs.Meaning.{HasNoSlash, SameFold, SameText, LeafMeans, in_class, Copies, Means}
+use Rattle.wax_token.specs.Meaning.{MeansSome, MeansEach}
 use Rattle.wax_token.specs.Spelled.{LeafHasNoSlash, LiteralsHaveNoSlash, AllHaveNoSlash}
 use Rattle.wax_token.specs.Syntax.{Leaf, literal, class, separator, one, zero_or_more, tree, Tree, leaf}
 use Rattle.wax_token.specs.Syntax.{alternation, concatenation, repetition, Trees, none, more}

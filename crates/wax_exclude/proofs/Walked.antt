@@ -1,32 +1,24 @@
 -- What a glob's walk keeps is what is wanted.
-use Rattle.std.proofs.Common.{◌≡◌, ℕ, ◌<◌, Bool, true, false, ◌&&◌, cond, List, [], ◌∷◌, ◌++◌, map, refl}
-use Rattle.std.proofs.Common.{sym, ap}
-use Rattle.std.proofs.Common.{length, subst, ◌∙◌, chars}
-use Rattle.std.specs.Prelude.{filter, nat_lt, ⊤}
-use Rattle.std.proofs.lemmas.Bool.{ltb-true}
+use Rattle.std.proofs.Common.{◌≡◌, ℕ, ◌<◌, Bool, true, false, ◌&&◌, cond, List, [], ◌∷◌, ◌++◌, map, refl, sym}
+use Rattle.std.proofs.{Common.{ap, length, subst, ◌∙◌, chars}, lemmas.Bool.ltb-true}
 use Rattle.std.proofs.lemmas.List.Elements.{filter-append}
+use Rattle.std.specs.Prelude.{filter, nat_lt, ⊤}
 use Rattle.wax_directory.specs.declared.directory.FileType.{FileType}
 use Rattle.wax_directory.specs.declared.directory.FileType.TheVariants.{Folder}
 use Rattle.wax_directory.specs.Shown.{Items, end, leaf, folder, sealed, misnamed, unread, not_text, Shown}
 use Rattle.wax_directory.specs.Shown.{a_leaf, a_folder, a_sealed, missing, failing, leaf_kind}
-use Rattle.wax_token.specs.Decided.{means_test}
-use Rattle.wax_token.specs.Spelled.{LiteralsHaveNoSlash}
-use Rattle.wax_token.specs.Syntax.{Tree}
+use Rattle.wax_token.specs.{Decided.means_test, Spelled.LiteralsHaveNoSlash, Syntax.Tree}
 use Rattle.wax_tree.specs.Plain.{WalkScope, Location, one_deeper, plain_entry, unlisted, items_forest}
-use Rattle.wax_tree.specs.Plain.{below_forest}
-use Rattle.wax_tree.specs.Plain.{plain_at}
-use Rattle.wax_walk.specs.Candidates.{Candidate}
-use Rattle.wax_walk.specs.declared.error.FaultKind.{FaultKind}
+use Rattle.wax_tree.specs.Plain.{below_forest, plain_at}
+use Rattle.wax_walk.specs.{Candidates.Candidate, declared.error.FaultKind.FaultKind}
 use Rattle.wax_walk.specs.Forest.{Forest, nothing, item, lists, preorder, followed_by}
 use Rattle.wax_walk.specs.Given.{Facts, Given, fault}
 use Rattle.wax_exclude.proofs.Descending.{glob_descends, glob_keeps}
 use Rattle.wax_exclude.proofs.Filters.{filter_descends, filters_keep}
-use Rattle.wax_exclude.proofs.Names.{at_join, at_sees, names_chars, seen_at}
-use Rattle.wax_exclude.proofs.Passing.{passes_at}
+use Rattle.wax_exclude.proofs.{Names.{at_join, at_sees, names_chars, seen_at}, Passing.passes_at}
 use Rattle.wax_exclude.proofs.Stacking.{stacked_entries}
 use Rattle.wax_exclude.specs.inner.Descents.{At, child_location}
-use Rattle.wax_exclude.specs.inner.Stacks.{keeps, all_keep, is_left, AllPassDown}
-use Rattle.wax_exclude.specs.Marks.{glob_mark}
+use Rattle.wax_exclude.specs.{inner.Stacks.{keeps, all_keep, is_left, AllPassDown}, Marks.glob_mark}
 use Rattle.wax_exclude.specs.Premises.{ArePlainItems, IsPlainShown}
 use Rattle.wax_exclude.specs.Wanted.{Filter, Wanted, is_wanted, is_kept_entry, stacked, filter_mark}
 use Rattle.wax_exclude.specs.Wanted.{filter_rules, rules_of}

@@ -1,52 +1,37 @@
 -- What is wanted of a walk comes, and is what is kept.
 use Rattle.std.proofs.Common.{◌≡◌, ℕ, ◌+◌, ◌<◌, ◌≤◌, Bool, true, false, List, [], ◌∷◌, ◌++◌, length, filter}
-use Rattle.std.proofs.Common.{refl, sym, ap, subst, ◌∙◌, arith, inl, inr}
-use Rattle.std.proofs.Common.{length-append}
-use Rattle.std.proofs.lemmas.List.Elements.{All-nil}
-use Rattle.std.specs.List.{Contains}
-use Rattle.std.specs.Prelude.{if◌then◌else◌}
-use Rattle.std.proofs.lemmas.Bool.{ltb-false, ltb-true}
-use Rattle.wax_directory.specs.Law.{Law}
-use Rattle.wax_directory.specs.Shown.{Shown}
+use Rattle.std.proofs.Common.{refl, sym, ap, subst, ◌∙◌, arith, inl, inr, length-append}
+use Rattle.std.proofs.{lemmas.List.Elements.All-nil, lemmas.Bool.{ltb-false, ltb-true}}
+use Rattle.std.specs.{List.Contains, Prelude.if◌then◌else◌}
+use Rattle.wax_directory.specs.{Law.Law, Shown.Shown}
 use Rattle.wax_token.specs.Reads.{Span}
-use Rattle.wax_tree.specs.Begins.{Origin}
-use Rattle.wax_tree.specs.declared.steps.DepthRange.{DepthRange}
-use Rattle.wax_tree.specs.Follows.{AreDistinctAlong}
-use Rattle.wax_tree.specs.Plain.{count_shown}
+use Rattle.wax_tree.specs.{Begins.Origin, declared.steps.DepthRange.DepthRange, Follows.AreDistinctAlong}
+use Rattle.wax_tree.specs.{Plain.count_shown, Programs.any_mark}
 use Rattle.wax_walk.specs.Candidates.{Candidate, of_candidate}
 use Rattle.wax_walk.specs.Collected.{Yielded, whole, lacks_memory, over_budget, Took}
 use Rattle.wax_walk.specs.declared.error.FaultKind.TheVariants.{Budget}
-use Rattle.wax_walk.proofs.Filtered.{filtered_begins, ruled_course}
-use Rattle.wax_walk.proofs.Following.{lacks_filtered, take_ruled}
-use Rattle.wax_walk.proofs.TakenAs.{taken_seen, took_as}
 use Rattle.wax_walk.specs.Course.{Course, IsFiltered, IsStartOf, stop}
 use Rattle.wax_walk.specs.Forest.{Forest, Pending, filtered_pending, listings, nothing, pending, preorder}
 use Rattle.wax_walk.specs.Pruned.{opened_forest, opened_course}
 use Rattle.wax_walk.specs.Given.{Facts, Mark, Given, changed_by, combined_mark, cut_by, fault, no_memory}
-use Rattle.wax_walk.specs.Given.{is_kept}
-use Rattle.wax_walk.specs.Ruled.{IsMarkBy, ruled_view}
-use Rattle.wax_walk.specs.View.{WalkView, IsSeenAs, MayTake}
+use Rattle.wax_walk.specs.{Given.is_kept, Ruled.{IsMarkBy, ruled_view}, View.{WalkView, IsSeenAs, MayTake}}
+use Rattle.wax_walk.proofs.{Filtered.{filtered_begins, ruled_course}, Following.{lacks_filtered, take_ruled}}
+use Rattle.wax_walk.proofs.TakenAs.{taken_seen, took_as}
 use Rattle.wax_exclude.proofs.KeptItems.{cut_kept, kept_entries}
-use Rattle.wax_exclude.specs.Law.{WalkLaw}
-use Rattle.wax_exclude.specs.Premises.{IsPlainShown, IsWellNamed}
-use Rattle.wax_exclude.specs.Pruned.{CanWalkBy, ListsBy, Pruning, by_components, by_matches, first_rule}
-use Rattle.wax_exclude.specs.Pruned.{opening_by, rules_by}
-use Rattle.wax_exclude.specs.Walked.{wanted_entries, origin_walk, MayList}
-use Rattle.wax_exclude.specs.Wanted.{Filter, Wanted, filter_mark, filter_rules, is_kept_entry, stacked}
-use Rattle.wax_tree.specs.Programs.{any_mark}
-use Rattle.wax_exclude.specs.Due as due
-use Rattle.wax_exclude.specs.GlobRequests.{AreOpened, AreRulesOf, CanBegin, ComesExcluding, ComesWanted}
-use Rattle.wax_exclude.specs.GlobRequests.{GlobRequest, IsRuleOf, KeepsWanted}
-use Rattle.wax_exclude.specs.GlobRequests.{goes, is_beyond, request_excluding, request_pending, unmeant}
-use Rattle.wax_exclude.specs.GlobRequests.{walk_for}
-use Rattle.wax_exclude.specs.RuledWalks.{ComesRuled, RuledWalk, exceeds_range, lacking, origin_course}
-use Rattle.wax_exclude.specs.RuledWalks.{ruled_items, ruled_pending}
-use Rattle.wax_exclude.specs.RuledWalks.{walk_course, walks, with_rule}
-use Rattle.wax_tree.proofs.Combining.{ruled}
 use Rattle.wax_exclude.proofs.StackingRequests.{any_alone, any_both, any_filters, any_of_candidates}
-use Rattle.wax_exclude.proofs.StackingRequests.{course_more, filter_rules_more}
-use Rattle.wax_exclude.proofs.StackingRequests.{stacked_any, stacked_more}
+use Rattle.wax_exclude.proofs.StackingRequests.{course_more, filter_rules_more, stacked_any, stacked_more}
 use Rattle.wax_exclude.proofs.Reaching.{distinct_along}
+use Rattle.wax_exclude.specs.{Law.WalkLaw, Premises.{IsPlainShown, IsWellNamed}}
+use Rattle.wax_exclude.specs.Pruned.{CanWalkBy, ListsBy, Pruning, by_components, by_matches, first_rule}
+use Rattle.wax_exclude.specs.{Pruned.{opening_by, rules_by}, Walked.{wanted_entries, origin_walk, MayList}}
+use Rattle.wax_exclude.specs.Wanted.{Filter, Wanted, filter_mark, filter_rules, is_kept_entry, stacked}
+use Rattle.wax_exclude.specs.GlobRequests.{AreOpened, AreRulesOf, CanBegin, ComesExcluding, ComesWanted}
+use Rattle.wax_exclude.specs.GlobRequests.{GlobRequest, IsRuleOf, KeepsWanted, goes, is_beyond}
+use Rattle.wax_exclude.specs.GlobRequests.{request_excluding, request_pending, unmeant, walk_for}
+use Rattle.wax_exclude.specs.RuledWalks.{ComesRuled, RuledWalk, exceeds_range, lacking, origin_course}
+use Rattle.wax_exclude.specs.RuledWalks.{ruled_items, ruled_pending, walk_course, walks, with_rule}
+use Rattle.wax_tree.proofs.Combining.{ruled}
+use Rattle.wax_exclude.specs.Due as due
 
 -- ---- whatever comes
 

@@ -1,24 +1,17 @@
 -- What is wanted of the plain walk in a range is what is wanted of the whole walk, in range.
-use Rattle.std.proofs.Common.{◌≡◌, ℕ, ◌+◌, ◌<◌, ◌≤◌, Bool, true, false, ◌&&◌, not, cond, List, [], ◌∷◌}
-use Rattle.std.proofs.Common.{◌++◌, refl}
-use Rattle.std.proofs.Common.{sym, ap, ◌∙◌, inl, inr, arith, append-nil}
+use Rattle.std.proofs.Common.{◌≡◌, ℕ, ◌+◌, ◌<◌, ◌≤◌, Bool, true, false, ◌&&◌, not, cond, List, [], ◌∷◌, ◌++◌}
+use Rattle.std.proofs.Common.{refl, sym, ap, ◌∙◌, inl, inr, arith, append-nil}
+use Rattle.std.proofs.{lemmas.Bool.{ltb-true, lt-ltb, cases_lt}, lemmas.List.Elements.filter-append}
 use Rattle.std.specs.Prelude.{filter, nat_lt}
-use Rattle.std.proofs.lemmas.Bool.{ltb-true, lt-ltb, cases_lt}
-use Rattle.std.proofs.lemmas.List.Elements.{filter-append}
 use Rattle.wax_directory.specs.declared.directory.FileType.{FileType}
 use Rattle.wax_directory.specs.declared.directory.FileType.TheVariants.{Folder}
 use Rattle.wax_directory.specs.Shown.{Items, end, leaf, folder, sealed, misnamed, unread, not_text, Shown}
 use Rattle.wax_directory.specs.Shown.{a_leaf, a_folder, a_sealed, missing, failing, leaf_kind}
-use Rattle.wax_tree.specs.Begins.{scope_in}
-use Rattle.wax_tree.specs.declared.steps.DepthRange.{DepthRange}
+use Rattle.wax_tree.specs.{Begins.scope_in, declared.steps.DepthRange.DepthRange}
 use Rattle.wax_tree.specs.Plain.{WalkScope, Location, item_location, one_deeper, items_forest, below_forest}
-use Rattle.wax_tree.specs.Plain.{unlisted, plain_entry}
-use Rattle.wax_tree.specs.Plain.{plain_at}
-use Rattle.wax_tree.specs.Whole.{whole_items, whole_at, is_in}
-use Rattle.wax_walk.specs.declared.error.FaultKind.{FaultKind}
-use Rattle.wax_walk.specs.declared.error.FaultKind.TheVariants.{Listing}
-use Rattle.wax_walk.specs.Forest.{Forest, nothing, item, lists, followed_by, preorder}
-use Rattle.wax_walk.specs.Given.{Given, fault}
+use Rattle.wax_tree.specs.{Plain.{unlisted, plain_entry, plain_at}, Whole.{whole_items, whole_at, is_in}}
+use Rattle.wax_walk.specs.{declared.error.FaultKind.FaultKind, declared.error.FaultKind.TheVariants.Listing}
+use Rattle.wax_walk.specs.{Forest.{Forest, nothing, item, lists, followed_by, preorder}, Given.{Given, fault}}
 use Rattle.wax_exclude.proofs.Reaching.{of_followed, of_item, of_fault}
 
 past : (b r : Bool) → (b && false && r) ≡ false

@@ -1,8 +1,7 @@
 -- The lines of an ignore list's text.
 use Rattle.std.proofs.Common.{inl, inr, map, ◌≡◌, ◌≢◌, ◌==◌, ◌+◌, ◌<◌, ◌∙◌, ℕ, true, false, if◌then◌else◌}
 use Rattle.std.proofs.Common.{List, [], ◌∷◌, ◌++◌, drop, length, get_or, refl, sym, ap, append_assoc}
-use Rattle.std.proofs.lemmas.Bool.{cases_Bool, eqb-true}
-use Rattle.std.proofs.lemmas.List.{drop_more}
+use Rattle.std.proofs.{lemmas.Bool.{cases_Bool, eqb-true}, lemmas.List.drop_more}
 use Rattle.wax_exclude.specs.Lines.{Written, is_skipped, line_at, lines_from, said_at, reincludes}
 use Rattle.wax_exclude.specs.Lines.{without_return}
 

@@ -1,19 +1,15 @@
 -- Walks of globs and sets when they begin.
-use Rattle.std.specs.Prelude.{◌≡◌, ℕ, ◌<◌, ◌≤◌, ◌&&◌, Bool, true, false, List, [], ◌∷◌, length, min}
-use Rattle.std.specs.Prelude.{Option, Some, None}
+use Rattle.std.specs.Prelude.{◌≡◌, ℕ, ◌<◌, ◌≤◌, ◌&&◌, Bool, true, false, List, [], ◌∷◌, length, min, Option}
+use Rattle.std.specs.Prelude.{Some, None}
 use Rattle.wax_directory.specs.Law.{Law}
 use Rattle.wax_query.specs.Ranges.{Bounds}
-use Rattle.wax_token.specs.Reads.{Span}
-use Rattle.wax_token.specs.Syntax.{Tree}
-use Rattle.wax_tree.specs.Begins.{FailsFrom, IsBegun, Origin}
-use Rattle.wax_tree.specs.declared.steps.DepthRange.{DepthRange}
+use Rattle.wax_token.specs.{Reads.Span, Syntax.Tree}
+use Rattle.wax_tree.specs.{Begins.{FailsFrom, IsBegun, Origin}, declared.steps.DepthRange.DepthRange}
 use Rattle.wax_tree.specs.Prefix.{ArePlain}
-use Rattle.wax_walk.specs.Given.{Facts}
-use Rattle.wax_walk.specs.View.{WalkView, is_above}
+use Rattle.wax_walk.specs.{Given.Facts, View.{WalkView, is_above}}
 use Rattle.wax_prefilter.specs.Below.{goes_test}
 use Rattle.wax_exclude.specs.GlobRequests.{ComesWanted, GlobRequest}
-use Rattle.wax_exclude.specs.Pruned.{Pruning, by_components, by_matches, opens_where}
-use Rattle.wax_exclude.specs.Wanted.{Wanted}
+use Rattle.wax_exclude.specs.{Pruned.{Pruning, by_components, by_matches, opens_where}, Wanted.Wanted}
 
 -- the lesser of a greatest depth and the greatest number of components
 abbrev pub up_to : ℕ → Option ℕ → ℕ

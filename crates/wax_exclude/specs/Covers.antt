@@ -1,11 +1,8 @@
 -- What an excluded pattern covers: candidates with everything that can be below them.
 use Rattle.std.specs.Prelude.{◌≡◌, ℕ, ◌≤◌, Bool, true, false, ◌&&◌, ◌||◌, nat_lt, ◌⊎◌, List, [], ◌∷◌}
 use Rattle.std.specs.List.{list_any}
-use Rattle.wax_token.specs.Decided.{means_test}
-use Rattle.wax_token.specs.Kinds.{is_tree_wildcard}
-use Rattle.wax_token.specs.Meaning.{Means}
-use Rattle.wax_token.specs.Syntax.{Tree, leaf, tree, Trees, none, more}
-use Rattle.wax_token.specs.Words.{members}
+use Rattle.wax_token.specs.{Decided.means_test, Kinds.is_tree_wildcard, Meaning.Means}
+use Rattle.wax_token.specs.{Syntax.{Tree, leaf, tree, Trees, none, more}, Words.members}
 use Rattle.wax_walk.specs.Candidates.{Candidate}
 
 -- a `**` that isn't rooted

@@ -1,13 +1,10 @@
 -- Which line of an ignore list decides whether a path is ignored.
 use Rattle.std.specs.Prelude.{◌≡◌, ◌↔◌, ℕ, Bool, true, false, IsTrue, List, ◌∷◌, ◌++◌, Option, Some, None}
 use Rattle.std.specs.Prelude.{All, [], slice_get}
-use Rattle.wax_exclude.specs.Idle.{LineMeans}
-use Rattle.wax_exclude.specs.Ignored.{Line, is_ignored}
+use Rattle.wax_exclude.specs.{Idle.LineMeans, Ignored.{Line, is_ignored}}
 use Rattle.wax_lazy.specs.Numbers.{IsLastWhere}
-use Rattle.wax_program.specs.Machine.{Accepts, mark}
-use Rattle.wax_program.specs.declared.instruction.Instruction.{Instruction}
-use Rattle.wax_token.specs.Meaning.{Means}
-use Rattle.wax_token.specs.Reads.{Span}
+use Rattle.wax_program.specs.{Machine.{Accepts, mark}, declared.instruction.Instruction.Instruction}
+use Rattle.wax_token.specs.{Meaning.Means, Reads.Span}
 
 -- the line is the last one of the list that matches the text
 pub record IsLastMatch {A : Type 0} (lines : List (Line A)) (s : List ℕ) (line : Line A) : Type 0 where

@@ -1,9 +1,7 @@
 -- How a walk ends of which it is known what it is to yield.
 use Rattle.std.specs.Prelude.{◌≡◌, ◌<◌, ◌++◌, ℕ, List, filter}
-use Rattle.wax_walk.specs.Collected.{IsCutShort}
-use Rattle.wax_walk.specs.declared.error.FaultKind.TheVariants.{Budget}
-use Rattle.wax_walk.specs.Forest.{Forest, preorder, listings}
-use Rattle.wax_walk.specs.Given.{Given, fault, no_memory, is_kept}
+use Rattle.wax_walk.specs.{Collected.IsCutShort, declared.error.FaultKind.TheVariants.Budget}
+use Rattle.wax_walk.specs.{Forest.{Forest, preorder, listings}, Given.{Given, fault, no_memory, is_kept}}
 use Rattle.wax_exclude.specs.Wanted.{is_kept_entry}
 
 -- what a walk is to yield, and the entries that it is to keep of this; what is claimed of the folders that

@@ -1,12 +1,8 @@
 -- What the alternatives of an excluded pattern decide about entries.
 use Rattle.std.specs.Prelude.{ℕ, Bool, false, List}
-use Rattle.wax_token.specs.Decided.{holds, some_decided}
-use Rattle.wax_token.specs.Syntax.{Tree}
-use Rattle.wax_token.specs.Words.{trees}
-use Rattle.wax_walk.specs.Candidates.{Candidate}
-use Rattle.wax_walk.specs.Given.{Mark}
-use Rattle.wax_exclude.specs.Covers.{covers_test}
-use Rattle.wax_exclude.specs.Marks.{covered_mark}
+use Rattle.wax_token.specs.{Decided.{holds, some_decided}, Syntax.Tree, Words.trees}
+use Rattle.wax_walk.specs.{Candidates.Candidate, Given.Mark}
+use Rattle.wax_exclude.specs.{Covers.covers_test, Marks.covered_mark}
 
 -- whether one of the alternatives matches the text
 abbrev pub some_test : {A : Type 0} → List (Tree A) → List ℕ → Bool

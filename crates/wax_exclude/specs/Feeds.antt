@@ -1,20 +1,14 @@
 -- The feed of a walk with filters, as a list.
 use Rattle.std.specs.Prelude.{◌≡◌, ℕ, ◌<◌, ◌≤◌, if◌then◌else◌, List, [], length}
 use Rattle.wax_directory.specs.Shown.{Shown}
-use Rattle.wax_tree.specs.Programs.{any_mark}
-use Rattle.wax_tree.specs.Begins.{Origin, origin_location}
-use Rattle.wax_tree.specs.declared.steps.DepthRange.{DepthRange}
-use Rattle.wax_tree.specs.Plain.{count_shown}
+use Rattle.wax_tree.specs.{Programs.any_mark, Begins.{Origin, origin_location}}
+use Rattle.wax_tree.specs.{declared.steps.DepthRange.DepthRange, Plain.count_shown}
 use Rattle.wax_tree.specs.Whole.{whole_along, yielded}
-use Rattle.wax_walk.specs.Collected.{IsCutShort}
-use Rattle.wax_walk.specs.declared.error.FaultKind.TheVariants.{Budget}
-use Rattle.wax_walk.specs.Forest.{preorder}
-use Rattle.wax_walk.specs.Given.{Facts, Mark, Given, fault, no_memory}
-use Rattle.wax_walk.specs.Left.{left_of, opened_items}
+use Rattle.wax_walk.specs.{Collected.IsCutShort, declared.error.FaultKind.TheVariants.Budget, Forest.preorder}
+use Rattle.wax_walk.specs.{Given.{Facts, Mark, Given, fault, no_memory}, Left.{left_of, opened_items}}
 use Rattle.wax_walk.specs.Pruned.{Opening, opened_forest}
 use Rattle.wax_exclude.specs.GlobRequests.{GlobRequest, request_walk, walk_for}
-use Rattle.wax_exclude.specs.RuledWalks.{RuledWalk, exceeds_range, ruled_forest}
-use Rattle.wax_exclude.specs.Walked.{origin_walk}
+use Rattle.wax_exclude.specs.{RuledWalks.{RuledWalk, exceeds_range, ruled_forest}, Walked.origin_walk}
 use Rattle.wax_exclude.specs.Wanted.{stacked}
 
 -- what rules, one after another, leave of the whole walk along the names of the origin, in the range, if only

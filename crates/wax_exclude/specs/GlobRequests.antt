@@ -1,22 +1,14 @@
 -- What a walk of a glob, without what filters exclude, yields to its end.
 use Rattle.std.specs.Prelude.{◌≡◌, ℕ, ◌<◌, Bool, ⊤, List, [], ◌∷◌, ◌++◌, length}
-use Rattle.wax_directory.specs.Law.{Law}
-use Rattle.wax_directory.specs.Shown.{Shown}
+use Rattle.wax_directory.specs.{Law.Law, Shown.Shown}
 use Rattle.wax_token.specs.Reads.{Span}
-use Rattle.wax_tree.specs.Begins.{Origin}
-use Rattle.wax_tree.specs.declared.steps.DepthRange.{DepthRange}
-use Rattle.wax_tree.specs.Plain.{count_shown}
-use Rattle.wax_walk.specs.Candidates.{Candidate}
-use Rattle.wax_walk.specs.Forest.{Forest, Pending, listings}
-use Rattle.wax_walk.specs.Given.{Mark, Given}
+use Rattle.wax_tree.specs.{Begins.Origin, declared.steps.DepthRange.DepthRange, Plain.count_shown}
+use Rattle.wax_walk.specs.{Candidates.Candidate, Forest.{Forest, Pending, listings}, Given.{Mark, Given}}
 use Rattle.wax_walk.specs.View.{WalkView}
-use Rattle.wax_exclude.specs.Candidates.{base}
-use Rattle.wax_exclude.specs.Due.{Due, KeepsDue}
-use Rattle.wax_exclude.specs.Premises.{IsUnmeant}
+use Rattle.wax_exclude.specs.{Candidates.base, Due.{Due, KeepsDue}, Premises.IsUnmeant}
 use Rattle.wax_exclude.specs.Pruned.{CanWalkBy, ListsBy, Pruning, opening_by, rules_by}
 use Rattle.wax_exclude.specs.RuledWalks.{ComesRuled, RuledWalk, exceeds_range, ruled_forest, ruled_pending}
-use Rattle.wax_exclude.specs.Walked.{wanted_entries}
-use Rattle.wax_exclude.specs.Wanted.{Filter, Wanted, filter_mark}
+use Rattle.wax_exclude.specs.{Walked.wanted_entries, Wanted.{Filter, Wanted, filter_mark}}
 
 -- ---- rules of filters
 

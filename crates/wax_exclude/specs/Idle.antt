@@ -1,16 +1,13 @@
 -- Lines of ignore lists that decide nothing about plain paths. Lines are known by their indexes: which of
 -- them ignore, and which texts they mean.
 use Rattle.std.specs.Prelude.{◌≡◌, ◌≢◌, ◌⊎◌, ◌<◌, ◌==◌, ◌++◌, [], ◌∷◌, ℕ, suc, Bool, true, false, List, Some}
-use Rattle.std.specs.Prelude.{Contains, filter, if◌then◌else◌, length, map, slice_get, ⊤}
-use Rattle.std.specs.List.{list_any}
+use Rattle.std.specs.{Prelude.{Contains, filter, if◌then◌else◌, length, map, slice_get, ⊤}, List.list_any}
 use Rattle.std.specs.Str.{all_scalars}
 use Rattle.wax_query.specs.Below.{IsPlainPath}
-use Rattle.wax_exclude.specs.Ignored.{Line, is_ignored}
-use Rattle.wax_exclude.specs.declared.idle.IdleLine.{IdleLine}
+use Rattle.wax_exclude.specs.{Ignored.{Line, is_ignored}, declared.idle.IdleLine.IdleLine}
 use Rattle.wax_exclude.specs.declared.idle.IdleReason.{IdleReason}
 use Rattle.wax_exclude.specs.declared.idle.IdleReason.TheVariants.{Covered, TakesNothingBack, Unknown}
-use Rattle.wax_token.specs.Meaning.{Means}
-use Rattle.wax_token.specs.Reads.{Span}
+use Rattle.wax_token.specs.{Meaning.Means, Reads.Span}
 
 -- the line with this index ignores
 pub record LineIgnores {A : Type 0} (lines : List (Line A)) (index : ℕ) : Type 0 where

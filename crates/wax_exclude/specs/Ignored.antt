@@ -2,14 +2,9 @@
 use Rattle.std.specs.Prelude.{◌≡◌, ℕ, Bool, true, false, ◌&&◌, ◌||◌, if◌then◌else◌, ◌⊎◌, List, [], ◌∷◌, refl}
 use Rattle.std.specs.Coded.{Coded, code_by, coded×, coded_bool, coded_ℕ}
 use Rattle.wax_facts.specs.Alternatives.{alternatives}
-use Rattle.wax_token.specs.Decided.{means_test}
-use Rattle.wax_token.specs.Reads.{Span}
-use Rattle.wax_token.specs.Syntax.{Tree}
-use Rattle.wax_token.specs.TreeCode.{tree_code}
-use Rattle.wax_walk.specs.Candidates.{Candidate}
-use Rattle.wax_walk.specs.Given.{Mark}
-use Rattle.wax_exclude.specs.Covers.{CoversSome, covers_test}
-use Rattle.wax_exclude.specs.Marks.{covered_mark}
+use Rattle.wax_token.specs.{Decided.means_test, Reads.Span, Syntax.Tree, TreeCode.tree_code}
+use Rattle.wax_walk.specs.{Candidates.Candidate, Given.Mark}
+use Rattle.wax_exclude.specs.{Covers.{CoversSome, covers_test}, Marks.covered_mark}
 
 -- a line: whether it ignores what its glob matches or re-includes it
 pub record Line (A : Type 0) : Type 0 where

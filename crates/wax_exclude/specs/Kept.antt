@@ -1,20 +1,13 @@
 -- What a plain walk, without what lines ignore, yields to its end.
-use Rattle.std.specs.Prelude.{◌⊎◌, ◌&&◌, ◌∷◌, ℕ, List, [], All, filter}
-use Rattle.std.specs.List.{Contains}
+use Rattle.std.specs.{Prelude.{◌⊎◌, ◌&&◌, ◌∷◌, ℕ, List, [], All, filter}, List.Contains}
 use Rattle.wax_directory.specs.Shown.{Shown}
 use Rattle.wax_token.specs.Reads.{Span}
-use Rattle.wax_tree.specs.Begins.{scope_in}
-use Rattle.wax_tree.specs.declared.steps.DepthRange.{DepthRange}
-use Rattle.wax_tree.specs.Plain.{count_shown, plain}
+use Rattle.wax_tree.specs.{Begins.scope_in, declared.steps.DepthRange.DepthRange, Plain.{count_shown, plain}}
 use Rattle.wax_tree.specs.Whole.{is_in, whole}
-use Rattle.wax_walk.specs.Forest.{Forest, listings}
-use Rattle.wax_walk.specs.Given.{Given}
-use Rattle.wax_exclude.specs.Due.{Due, KeepsDue}
-use Rattle.wax_exclude.specs.GlobRequests.{GlobRequest, request_excluding}
-use Rattle.wax_exclude.specs.Ignored.{Line}
-use Rattle.wax_exclude.specs.TreeRequests.{tree_request}
-use Rattle.wax_exclude.specs.Unignored.{ignore_rules, is_unignored, IsIgnoredBelow}
-use Rattle.wax_exclude.specs.Walked.{MayList}
+use Rattle.wax_walk.specs.{Forest.{Forest, listings}, Given.Given}
+use Rattle.wax_exclude.specs.{Due.{Due, KeepsDue}, GlobRequests.{GlobRequest, request_excluding}}
+use Rattle.wax_exclude.specs.{Ignored.Line, TreeRequests.tree_request}
+use Rattle.wax_exclude.specs.{Unignored.{ignore_rules, is_unignored, IsIgnoredBelow}, Walked.MayList}
 use Rattle.wax_exclude.specs.Wanted.{not_ignored, stacked}
 
 -- a plain walk from a start, of the depths in range, without what these lines ignore

@@ -2,16 +2,12 @@
 use Rattle.std.specs.Prelude.{◌≡◌, ◌<◌, ◌≤◌, ◌⊎◌, [], All, filter, length}
 use Rattle.wax_directory.specs.Shown.{Shown}
 use Rattle.wax_token.specs.Reads.{Span}
-use Rattle.wax_tree.specs.Begins.{Origin}
-use Rattle.wax_tree.specs.declared.steps.DepthRange.{DepthRange}
-use Rattle.wax_tree.specs.Follows.{AreDistinctAlong}
+use Rattle.wax_tree.specs.{Begins.Origin, declared.steps.DepthRange.DepthRange, Follows.AreDistinctAlong}
 use Rattle.wax_walk.specs.Forest.{preorder, listings}
 use Rattle.wax_prefilter.specs.Below.{goes_test}
-use Rattle.wax_exclude.specs.Candidates.{base}
-use Rattle.wax_exclude.specs.Premises.{CanWalk, IsUnmeant, IsPlainShown}
+use Rattle.wax_exclude.specs.{Candidates.base, Premises.{CanWalk, IsUnmeant, IsPlainShown}}
 use Rattle.wax_exclude.specs.Pruned.{CanWalkLeast, ListsBy, by_matches, least_walk}
-use Rattle.wax_exclude.specs.Walked.{wanted_entries, glob_walk, MayList}
-use Rattle.wax_exclude.specs.Wanted.{Wanted, is_kept_entry}
+use Rattle.wax_exclude.specs.{Walked.{wanted_entries, glob_walk, MayList}, Wanted.{Wanted, is_kept_entry}}
 
 -- the entries that are kept are those of the whole walk that are in the requested range, that the glob
 -- matches and that no filter excludes, in order

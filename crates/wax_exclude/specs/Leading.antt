@@ -1,13 +1,9 @@
 -- The leading components of a glob: those that the first names of each matching candidate match.
 use Rattle.std.specs.Prelude.{ℕ, Bool, true, false, ◌&&◌, not, if◌then◌else◌, ⊤, List, [], ◌∷◌}
 use Rattle.std.specs.List.{before_first, list_any}
-use Rattle.wax_token.specs.Decided.{holds, each_decided}
-use Rattle.wax_token.specs.Kinds.{is_separator, has_boundary}
-use Rattle.wax_token.specs.Meaning.{MeansEach}
-use Rattle.wax_token.specs.Syntax.{Tree}
-use Rattle.wax_token.specs.Words.{trees}
-use Rattle.wax_components.specs.Parts.{components}
-use Rattle.wax_components.specs.TopLevel.{tokens_of}
+use Rattle.wax_token.specs.{Decided.{holds, each_decided}, Kinds.{is_separator, has_boundary}}
+use Rattle.wax_token.specs.{Meaning.MeansEach, Syntax.Tree, Words.trees}
+use Rattle.wax_components.specs.{Parts.components, TopLevel.tokens_of}
 
 -- the components before the first one that has a boundary, at any depth
 abbrev pub leading : {A : Type 0} → Tree A → List (List (Tree A))

@@ -1,12 +1,9 @@
 -- How a glob's walk and an excluded pattern mark entries.
 use Rattle.std.specs.Prelude.{Bool, false, if◌then◌else◌}
 use Rattle.wax_facts.specs.Alternatives.{alternatives}
-use Rattle.wax_token.specs.Decided.{means_test}
-use Rattle.wax_token.specs.Syntax.{Tree}
-use Rattle.wax_walk.specs.Candidates.{Candidate}
-use Rattle.wax_walk.specs.Given.{Mark, kept, alone, with_tree}
-use Rattle.wax_exclude.specs.Covers.{covers_test}
-use Rattle.wax_exclude.specs.Leading.{leading_of, lead_test}
+use Rattle.wax_token.specs.{Decided.means_test, Syntax.Tree}
+use Rattle.wax_walk.specs.{Candidates.Candidate, Given.{Mark, kept, alone, with_tree}}
+use Rattle.wax_exclude.specs.{Covers.covers_test, Leading.{leading_of, lead_test}}
 
 -- an entry is excluded with everything below it if the leading components don't lead to it, and else by
 -- itself if it doesn't match

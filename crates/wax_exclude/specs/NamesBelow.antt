@@ -1,11 +1,8 @@
 -- What is below an entry, by the names of candidates.
-use Rattle.std.specs.Prelude.{◌≡◌, ◌↔◌, ℕ, true, IsTrue, List, ◌∷◌, ◌++◌}
-use Rattle.std.specs.List.{Contains}
-use Rattle.wax_directory.specs.Names.{names_in_path}
-use Rattle.wax_directory.specs.Shown.{Shown}
+use Rattle.std.specs.{Prelude.{◌≡◌, ◌↔◌, ℕ, true, IsTrue, List, ◌∷◌, ◌++◌}, List.Contains}
+use Rattle.wax_directory.specs.{Names.names_in_path, Shown.Shown}
 use Rattle.wax_tree.specs.Whole.{whole}
-use Rattle.wax_walk.specs.Given.{Facts, Mark, Given, entry, cut_by}
-use Rattle.wax_walk.specs.Left.{is_cancelled}
+use Rattle.wax_walk.specs.{Given.{Facts, Mark, Given, entry, cut_by}, Left.is_cancelled}
 use Rattle.wax_exclude.specs.Premises.{IsWellNamed}
 
 -- the names of the first entry's candidate are the first ones of the second's, which has more

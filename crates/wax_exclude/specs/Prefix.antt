@@ -1,6 +1,5 @@
 -- The prefix of a glob, as names.
-use Rattle.std.specs.Prelude.{◌≡◌, ℕ, Bool, false, ◌⊎◌, List, [], ◌∷◌, ◌++◌, IsUtf8, chars}
-use Rattle.std.specs.List.{Contains}
+use Rattle.std.specs.{Prelude.{◌≡◌, ℕ, Bool, false, ◌⊎◌, List, [], ◌∷◌, ◌++◌, IsUtf8, chars}, List.Contains}
 use Rattle.wax_directory.specs.Names.{is_rooted, names_in_path}
 use Rattle.wax_facts.specs.Prefix.{Prefix}
 use Rattle.wax_token.specs.Syntax.{Tree}

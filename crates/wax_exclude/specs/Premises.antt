@@ -2,15 +2,10 @@
 use Rattle.std.specs.Prelude.{◌≡◌, ℕ, ◌≤◌, ◌⊎◌, ◌++◌, Bool, false, ⊤, List, length, map, chars}
 use Rattle.wax_directory.specs.Shown.{Items, end, leaf, folder, sealed, misnamed, unread, not_text, Shown}
 use Rattle.wax_directory.specs.Shown.{a_folder, IsPlain, IsDistinct}
-use Rattle.wax_token.specs.Meaning.{Means}
-use Rattle.wax_token.specs.Spelled.{LiteralsHaveNoSlash}
-use Rattle.wax_token.specs.Syntax.{Tree}
-use Rattle.wax_tree.specs.Begins.{Origin}
-use Rattle.wax_tree.specs.declared.steps.DepthRange.{DepthRange}
-use Rattle.wax_tree.specs.Prefix.{ArePlain}
+use Rattle.wax_token.specs.{Meaning.Means, Spelled.LiteralsHaveNoSlash, Syntax.Tree}
+use Rattle.wax_tree.specs.{Begins.Origin, declared.steps.DepthRange.DepthRange, Prefix.ArePlain}
 use Rattle.wax_query.specs.Below.{AreNames}
-use Rattle.wax_exclude.specs.Candidates.{base, text_at}
-use Rattle.wax_exclude.specs.Wanted.{Wanted}
+use Rattle.wax_exclude.specs.{Candidates.{base, text_at}, Wanted.Wanted}
 
 -- each candidate that matches has at most `upper` names
 abbrev pub BoundsNames : {A : Type 0} → Bool → Tree A → ℕ → Type 0

@@ -1,25 +1,17 @@
 -- Walks that open only folders below which something can match.
-use Rattle.std.specs.Prelude.{◌≡◌, ◌↔◌, ◌⊎◌, ℕ, ◌<◌, ◌≤◌, Bool, IsTrue, true, false, ◌&&◌, not, nat_lt}
-use Rattle.std.specs.List.{Contains}
+use Rattle.std.specs.Prelude.{◌≡◌, ◌↔◌, ◌⊎◌, ℕ, ◌<◌, ◌≤◌, Bool, IsTrue, true, false, ◌&&◌, not, nat_lt, All}
+use Rattle.std.specs.{Prelude.{Option, if◌then◌else◌, List, [], ◌∷◌, ◌++◌, length, map, chars}, List.Contains}
 use Rattle.std.specs.Str.{all_scalars}
-use Rattle.std.specs.Prelude.{All, Option, if◌then◌else◌, List, [], ◌∷◌, ◌++◌, length, map, chars}
 use Rattle.wax_directory.specs.Shown.{Shown}
-use Rattle.wax_token.specs.Decided.{means_test}
-use Rattle.wax_token.specs.Meaning.{Means}
-use Rattle.wax_token.specs.Syntax.{Tree}
-use Rattle.wax_tree.specs.Begins.{Origin}
-use Rattle.wax_tree.specs.declared.steps.DepthRange.{DepthRange}
-use Rattle.wax_tree.specs.Prefix.{ArePlain, path_from}
-use Rattle.wax_walk.specs.Candidates.{Candidate, of_candidate}
-use Rattle.wax_walk.specs.Forest.{Forest, listings}
-use Rattle.wax_walk.specs.Given.{Facts, Mark, kept, alone, Given, entry}
-use Rattle.wax_prefilter.specs.Below.{goes_test}
-use Rattle.wax_walk.specs.Pruned.{Opening, all_folders, opens_by, pruned, these_folders}
-use Rattle.wax_query.specs.Below.{AreNames}
-use Rattle.wax_query.specs.Ranges.{AtMost}
+use Rattle.wax_token.specs.{Decided.means_test, Meaning.Means, Syntax.Tree}
+use Rattle.wax_tree.specs.{Begins.Origin, declared.steps.DepthRange.DepthRange, Prefix.{ArePlain, path_from}}
 use Rattle.wax_tree.specs.Programs.{limit_below}
-use Rattle.wax_exclude.specs.Candidates.{base, candidate_at, text_at}
-use Rattle.wax_exclude.specs.Marks.{glob_mark}
+use Rattle.wax_walk.specs.{Candidates.{Candidate, of_candidate}, Forest.{Forest, listings}}
+use Rattle.wax_walk.specs.Given.{Facts, Mark, kept, alone, Given, entry}
+use Rattle.wax_walk.specs.Pruned.{Opening, all_folders, opens_by, pruned, these_folders}
+use Rattle.wax_prefilter.specs.Below.{goes_test}
+use Rattle.wax_query.specs.{Below.AreNames, Ranges.AtMost}
+use Rattle.wax_exclude.specs.{Candidates.{base, candidate_at, text_at}, Marks.glob_mark}
 use Rattle.wax_exclude.specs.Premises.{BeginsWith, BoundsNames, CanWalk}
 use Rattle.wax_exclude.specs.Walked.{AreUncovered, ExcludesBelow, MayList, origin_walk}
 use Rattle.wax_exclude.specs.Wanted.{Filter, Wanted, is_wanted, filter_rules, stacked}

@@ -1,20 +1,14 @@
 -- What comes of a walk from an origin, filtered by rules.
 use Rattle.std.specs.Prelude.{◌≡◌, ℕ, ◌+◌, Bool, if◌then◌else◌, nat_lt, List, [], ◌∷◌, ◌++◌, length}
-use Rattle.wax_directory.specs.Law.{Law}
-use Rattle.wax_directory.specs.Shown.{Shown}
-use Rattle.wax_tree.specs.Programs.{any_mark}
-use Rattle.wax_tree.specs.Begins.{Origin, origin_location, scope_in}
-use Rattle.wax_tree.specs.Courses.{IsNamed, along_course}
-use Rattle.wax_tree.specs.declared.steps.DepthRange.{DepthRange}
-use Rattle.wax_tree.specs.Follows.{AreDistinctAlong}
-use Rattle.wax_tree.specs.Plain.{count_shown}
+use Rattle.wax_directory.specs.{Law.Law, Shown.Shown}
+use Rattle.wax_tree.specs.{Programs.any_mark, Begins.{Origin, origin_location, scope_in}}
+use Rattle.wax_tree.specs.{Courses.{IsNamed, along_course}, declared.steps.DepthRange.DepthRange}
+use Rattle.wax_tree.specs.{Follows.AreDistinctAlong, Plain.count_shown}
 use Rattle.wax_walk.specs.Course.{Course, IsStartOf, filtered_course, stop, yields}
 use Rattle.wax_walk.specs.Forest.{Forest, nothing, Pending, pending}
 use Rattle.wax_walk.specs.Given.{Facts, Mark, Given, changed_by, cut_by, no_memory}
-use Rattle.wax_walk.specs.View.{MayTake, WalkView}
-use Rattle.wax_walk.specs.Pruned.{Opening, opened_forest, opened_course}
-use Rattle.wax_exclude.specs.Walked.{origin_walk}
-use Rattle.wax_exclude.specs.Wanted.{stacked}
+use Rattle.wax_walk.specs.{View.{MayTake, WalkView}, Pruned.{Opening, opened_forest, opened_course}}
+use Rattle.wax_exclude.specs.{Walked.origin_walk, Wanted.stacked}
 
 -- the folders that a walk opens, and the rules that filter it, one after another; the range that is walked,
 -- and the origin

@@ -1,12 +1,9 @@
 -- Ignore lists without the lines that decide nothing about plain paths. Without some of them, others may
 -- decide nothing, too, so lines are removed until none is known to decide nothing.
 use Rattle.std.specs.Prelude.{◌≡◌, ◌≢◌, ◌↔◌, ◌<◌, ◌++◌, [], ◌∷◌, ℕ, List, Some, Contains, length, map}
-use Rattle.std.specs.Prelude.{slice_get, ⊤}
-use Rattle.std.specs.List.{AllZip}
-use Rattle.std.specs.List.Sorted.{IsStrictlyIncreasing}
+use Rattle.std.specs.{Prelude.{slice_get, ⊤}, List.AllZip, List.Sorted.IsStrictlyIncreasing}
 use Rattle.wax_exclude.specs.Idle.{DecidesSome, IsPath, IsReason, LineIgnores, LineMeans}
-use Rattle.wax_exclude.specs.Ignored.{Line, is_ignored}
-use Rattle.wax_exclude.specs.declared.idle.IdleLine.{IdleLine}
+use Rattle.wax_exclude.specs.{Ignored.{Line, is_ignored}, declared.idle.IdleLine.IdleLine}
 use Rattle.wax_exclude.specs.declared.idle.IdleReason.TheVariants.{Unknown}
 
 -- each line decides some plain path, except those with these indexes, of which it isn't known

@@ -1,20 +1,13 @@
 -- What a walk yields to its end, whatever the directory answers.
 use Rattle.std.specs.Prelude.{◌≡◌, ◌++◌, ℕ, List, [], ◌∷◌, filter}
-use Rattle.wax_directory.specs.History.{Answer}
-use Rattle.wax_directory.specs.Law.{Law}
-use Rattle.wax_directory.specs.Shown.{Shown}
-use Rattle.wax_tree.specs.Courses.{IsNamed}
-use Rattle.wax_tree.specs.Follows.{AreDistinctAlong}
+use Rattle.wax_directory.specs.{History.Answer, Law.Law, Shown.Shown}
+use Rattle.wax_tree.specs.{Courses.IsNamed, Follows.AreDistinctAlong}
 use Rattle.wax_walk.specs.Collected.{IsCutShort}
 use Rattle.wax_walk.specs.Course.{Course, CutsShort, DirectoryCall, IsKnownFirst, IsStartOf, answers}
-use Rattle.wax_walk.specs.Course.{calls_of, items_of}
-use Rattle.wax_walk.specs.Forest.{listings}
-use Rattle.wax_walk.specs.Given.{Given, is_kept}
+use Rattle.wax_walk.specs.{Course.{calls_of, items_of}, Forest.listings, Given.{Given, is_kept}}
 use Rattle.wax_walk.specs.Opened.{opened_folders}
-use Rattle.wax_exclude.specs.Feeds.{ruled_feed}
-use Rattle.wax_exclude.specs.GlobRequests.{AreOpened, GlobRequest, walk_for}
-use Rattle.wax_exclude.specs.RuledWalks.{RuledWalk, ruled_forest, walk_course}
-use Rattle.wax_exclude.specs.Walked.{wanted_entries}
+use Rattle.wax_exclude.specs.{Feeds.ruled_feed, GlobRequests.{AreOpened, GlobRequest, walk_for}}
+use Rattle.wax_exclude.specs.{RuledWalks.{RuledWalk, ruled_forest, walk_course}, Walked.wanted_entries}
 use Rattle.wax_exclude.specs.Wanted.{is_kept_entry}
 
 -- the calls of the walk if s is shown, with their answers

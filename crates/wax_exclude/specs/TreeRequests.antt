@@ -1,15 +1,11 @@
 -- A plain walk, as the walk of `**`.
 use Rattle.std.specs.Prelude.{◌≡◌, ℕ, Bool, false, ◌&&◌, List, [], chars, filter}
 use Rattle.wax_directory.specs.Shown.{Shown}
-use Rattle.wax_token.specs.Reads.{Span}
-use Rattle.wax_token.specs.Syntax.{Tree, leaf, tree, concatenation, none, more}
-use Rattle.wax_tree.specs.declared.steps.DepthRange.{DepthRange}
-use Rattle.wax_tree.specs.Whole.{is_in, whole}
+use Rattle.wax_token.specs.{Reads.Span, Syntax.{Tree, leaf, tree, concatenation, none, more}}
+use Rattle.wax_tree.specs.{declared.steps.DepthRange.DepthRange, Whole.{is_in, whole}}
 use Rattle.wax_walk.specs.Given.{Given}
-use Rattle.wax_exclude.specs.GlobRequests.{GlobRequest, request_excluding}
-use Rattle.wax_exclude.specs.Pruned.{by_components}
-use Rattle.wax_exclude.specs.Walked.{wanted_entries}
-use Rattle.wax_exclude.specs.Wanted.{Filter, is_kept_where, none_excludes}
+use Rattle.wax_exclude.specs.{GlobRequests.{GlobRequest, request_excluding}, Pruned.by_components}
+use Rattle.wax_exclude.specs.{Walked.wanted_entries, Wanted.{Filter, is_kept_where, none_excludes}}
 
 -- `**`, which matches every text
 abbrev pub tree_alone : Tree Span

@@ -1,18 +1,12 @@
 -- Lines of ignore lists of which it wasn't found whether they decide anything, since that takes too much.
 use Rattle.std.specs.Prelude.{◌≡◌, ◌⊎◌, ◌<◌, ◌∷◌, [], ℕ, All, List, Some, Contains, length, slice_get}
 use Rattle.std.specs.List.{AllZip}
-use Rattle.wax_compare.specs.Limit.{AllDiffer, KeepsLimitBy}
-use Rattle.wax_compare.specs.declared.wanted.Comparison.TheVariants as comparison
-use Rattle.wax_compare.specs.declared.wanted.Texts.TheVariants.{Paths}
+use Rattle.wax_compare.specs.{Limit.{AllDiffer, KeepsLimitBy}, declared.wanted.Texts.TheVariants.Paths}
 use Rattle.wax_compare.specs.declared.wanted.Wanted.{Wanted}
-use Rattle.wax_exclude.specs.Idle.{LineMeans}
-use Rattle.wax_exclude.specs.Ignored.{Line}
-use Rattle.wax_exclude.specs.declared.idle.IdleLine.{IdleLine}
+use Rattle.wax_exclude.specs.{Idle.LineMeans, Ignored.Line, declared.idle.IdleLine.IdleLine}
 use Rattle.wax_exclude.specs.declared.idle.IdleReason.TheVariants.{Unknown}
-use Rattle.wax_token.specs.Cost.{program_length}
-use Rattle.wax_token.specs.Reads.{Span}
-use Rattle.wax_token.specs.Syntax.{Tree, alternation}
-use Rattle.wax_token.specs.Words.{trees}
+use Rattle.wax_token.specs.{Cost.program_length, Reads.Span, Syntax.{Tree, alternation}, Words.trees}
+use Rattle.wax_compare.specs.declared.wanted.Comparison.TheVariants as comparison
 
 -- one of the lines with these indexes means the text
 abbrev pub SomeLineMeans : List (Line Span) → List ℕ → List ℕ → Type 0

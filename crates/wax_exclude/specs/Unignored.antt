@@ -1,21 +1,13 @@
 -- The law of plain walks that a list of lines filters.
 use Rattle.std.specs.Prelude.{◌≡◌, ℕ, Bool, false, ◌&&◌, not, ◌⊎◌, List, [], ◌∷◌, ◌++◌, All, chars, filter}
-use Rattle.std.specs.Prelude.{map}
-use Rattle.std.specs.List.{Contains}
+use Rattle.std.specs.{Prelude.map, List.Contains}
 use Rattle.wax_directory.specs.Shown.{Shown}
 use Rattle.wax_token.specs.Reads.{Span}
-use Rattle.wax_tree.specs.Begins.{scope_in}
-use Rattle.wax_tree.specs.declared.steps.DepthRange.{DepthRange}
-use Rattle.wax_tree.specs.Plain.{plain}
-use Rattle.wax_tree.specs.Prefix.{ArePlain, path_from}
-use Rattle.wax_tree.specs.Whole.{is_in, whole}
-use Rattle.wax_walk.specs.Candidates.{of_candidate}
-use Rattle.wax_walk.specs.Forest.{preorder, listings}
-use Rattle.wax_walk.specs.Given.{Facts, Mark, Given}
-use Rattle.wax_exclude.specs.Candidates.{candidate_at}
-use Rattle.wax_exclude.specs.Ignored.{Line, is_ignored, IgnoresBelow, ignore_mark}
-use Rattle.wax_exclude.specs.Premises.{IsPlainShown}
-use Rattle.wax_exclude.specs.Wanted.{is_kept_entry, is_kept_where, stacked}
+use Rattle.wax_tree.specs.{Begins.scope_in, declared.steps.DepthRange.DepthRange, Plain.plain}
+use Rattle.wax_tree.specs.{Prefix.{ArePlain, path_from}, Whole.{is_in, whole}}
+use Rattle.wax_walk.specs.{Candidates.of_candidate, Forest.{preorder, listings}, Given.{Facts, Mark, Given}}
+use Rattle.wax_exclude.specs.{Candidates.candidate_at, Ignored.{Line, is_ignored, IgnoresBelow, ignore_mark}}
+use Rattle.wax_exclude.specs.{Premises.IsPlainShown, Wanted.{is_kept_entry, is_kept_where, stacked}}
 
 -- an entry that is kept and not ignored
 abbrev pub is_unignored : {A : Type 0} → List (Line A) → Given → Bool

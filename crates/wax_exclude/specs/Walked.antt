@@ -3,17 +3,10 @@ use Rattle.std.specs.Prelude.{◌≡◌, ℕ, ◌<◌, ◌≤◌, ◌++◌, ◌&
 use Rattle.std.specs.Prelude.{chars}
 use Rattle.wax_facts.specs.Alternatives.{alternatives}
 use Rattle.wax_directory.specs.Shown.{Shown}
-use Rattle.wax_tree.specs.Begins.{Origin, origin_location, scope_in}
-use Rattle.wax_tree.specs.declared.steps.DepthRange.{DepthRange}
-use Rattle.wax_tree.specs.Plain.{plain_at}
-use Rattle.wax_tree.specs.Prefix.{ArePlain, path_from, walk_from}
-use Rattle.wax_tree.specs.Whole.{is_in, whole_at}
-use Rattle.wax_walk.specs.Candidates.{Candidate}
-use Rattle.wax_walk.specs.Forest.{Forest, nothing}
-use Rattle.wax_walk.specs.Given.{Given}
-use Rattle.wax_exclude.specs.Candidates.{candidate_at}
-use Rattle.wax_exclude.specs.Covers.{CoversSome}
-use Rattle.wax_exclude.specs.Ignored.{IgnoresBelow}
+use Rattle.wax_tree.specs.{Begins.{Origin, origin_location, scope_in}, declared.steps.DepthRange.DepthRange}
+use Rattle.wax_tree.specs.{Plain.plain_at, Prefix.{ArePlain, path_from, walk_from}, Whole.{is_in, whole_at}}
+use Rattle.wax_walk.specs.{Candidates.Candidate, Forest.{Forest, nothing}, Given.Given}
+use Rattle.wax_exclude.specs.{Candidates.candidate_at, Covers.CoversSome, Ignored.IgnoresBelow}
 use Rattle.wax_exclude.specs.Leading.{leading_of, Lead}
 use Rattle.wax_exclude.specs.Wanted.{Filter, not_meant, not_ignored, Wanted, is_wanted, stacked, rules_of}
 

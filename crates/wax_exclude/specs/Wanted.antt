@@ -1,13 +1,9 @@
 -- The entries that a glob matches and no filter excludes.
 use Rattle.std.specs.Prelude.{ℕ, Bool, true, false, ◌&&◌, not, List, [], ◌∷◌, chars}
-use Rattle.wax_token.specs.Decided.{means_test}
-use Rattle.wax_token.specs.Syntax.{Tree}
-use Rattle.wax_walk.specs.Candidates.{Candidate, of_candidate}
-use Rattle.wax_walk.specs.Forest.{Forest, filtered}
-use Rattle.wax_walk.specs.Given.{Facts, Mark, kept, Given, entry}
-use Rattle.wax_walk.specs.Given.{changed_by, cut_by}
-use Rattle.wax_exclude.specs.Ignored.{Line, is_ignored, ignore_mark}
-use Rattle.wax_exclude.specs.Marks.{glob_mark, not_mark}
+use Rattle.wax_token.specs.{Decided.means_test, Syntax.Tree}
+use Rattle.wax_walk.specs.{Candidates.{Candidate, of_candidate}, Forest.{Forest, filtered}}
+use Rattle.wax_walk.specs.Given.{Facts, Mark, kept, Given, entry, changed_by, cut_by}
+use Rattle.wax_exclude.specs.{Ignored.{Line, is_ignored, ignore_mark}, Marks.{glob_mark, not_mark}}
 
 -- a filter of a walk: it excludes what a pattern matches, or what a list of lines ignores
 pub data Filter (A : Type 0) : Type 0 where

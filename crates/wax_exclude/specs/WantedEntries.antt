@@ -1,15 +1,11 @@
 -- Which entries are wanted, in the words of what globs match.
 use Rattle.std.specs.Prelude.{◌≡◌, ◌≤◌, ◌⊎◌, ℕ, true, false, List, [], ◌∷◌, All, chars}
 use Rattle.wax_directory.specs.Shown.{Shown}
-use Rattle.wax_token.specs.Meaning.{Means}
-use Rattle.wax_token.specs.Reads.{Span}
-use Rattle.wax_tree.specs.Begins.{Origin, origin_location}
-use Rattle.wax_tree.specs.declared.steps.DepthRange.{DepthRange}
+use Rattle.wax_token.specs.{Meaning.Means, Reads.Span}
+use Rattle.wax_tree.specs.{Begins.{Origin, origin_location}, declared.steps.DepthRange.DepthRange}
 use Rattle.wax_tree.specs.Whole.{whole_at}
 use Rattle.wax_walk.specs.Given.{Given, entry, kept}
-use Rattle.wax_exclude.specs.Deciding.{IsLastMatch}
-use Rattle.wax_exclude.specs.Ignored.{Line}
-use Rattle.wax_exclude.specs.Walked.{wanted_entries}
+use Rattle.wax_exclude.specs.{Deciding.IsLastMatch, Ignored.Line, Walked.wanted_entries}
 use Rattle.wax_exclude.specs.Wanted.{Filter, not_ignored, not_meant, Wanted}
 
 -- the filter excludes the text: its pattern matches it, or the last line that matches it ignores

@@ -2,8 +2,7 @@
 //! longest matches.
 ghost use Rattle.std.specs.Prelude.{◌≡◌, ◌+◌, ◌*◌};
 ghost use Rattle.wax_query.specs.Ranges.{bounds};
-ghost use Rattle.wax_tree.specs.Begins.{BeginsAt, EndsWithin};
-ghost use Rattle.wax_tree.specs.Prefix.{from_last};
+ghost use Rattle.wax_tree.specs.{Begins.{BeginsAt, EndsWithin}, Prefix.from_last};
 ghost use Rattle.wax_exclude.specs.BeginsRequest.{origin_from, within};
 
 use crate::prefixes::PrefixNames;

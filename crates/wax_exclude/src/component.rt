@@ -1,9 +1,6 @@
 //! Leading components of globs.
-ghost use Rattle.std.specs.Prelude.{◌≡◌, ◌↔◌, ◌<◌, ◌≤◌, IfOk, IsTrue, chars, false};
-ghost use Rattle.std.specs.List.{list_any};
-ghost use Rattle.wax_token.specs.Cost.{costs, program_length};
-ghost use Rattle.wax_token.specs.Kinds.{has_boundary};
-ghost use Rattle.wax_token.specs.Meaning.{MeansEach};
+ghost use Rattle.std.specs.{Prelude.{◌≡◌, ◌↔◌, ◌<◌, ◌≤◌, IfOk, IsTrue, chars, false}, List.list_any};
+ghost use Rattle.wax_token.specs.{Cost.{costs, program_length}, Kinds.has_boundary, Meaning.MeansEach};
 ghost use Rattle.wax_token.specs.Words.{trees};
 ghost use Rattle.wax_components.specs.TopLevel.{tokens_of};
 ghost use Rattle.wax_exclude.specs.Leading.{begins_with_separator, component_test, leading_of};
@@ -26,8 +23,7 @@ pub struct LeadingComponent<'g, 't> {
 
 impl<'g, 't> Model for LeadingComponent<'g, 't> {
     ghost use Rattle.std.specs.Prelude.{List};
-    ghost use Rattle.wax_token.specs.Reads.{Span};
-    ghost use Rattle.wax_token.specs.Syntax.{Tree};
+    ghost use Rattle.wax_token.specs.{Reads.Span, Syntax.Tree};
     ghost use Rattle.wax_exclude.specs.Compiled.{AcceptsEach, row_code};
 
     ghost Value = { List (Tree Span) };

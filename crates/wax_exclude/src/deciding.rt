@@ -1,9 +1,6 @@
 //! Which line of an ignore list decides.
 ghost use Rattle.std.specs.Prelude.{◌≡◌, ◌<◌, ◌≤◌, ◌+◌, ℕ, IfOk, List, chars, length};
-ghost use Rattle.wax_exclude.specs.Deciding.{DecidingLineDecides, IsDecidingLine, LastMatchDecides};
-ghost use Rattle.wax_exclude.specs.Deciding.{SaysLines};
-ghost use Rattle.wax_exclude.specs.Ignored.{Line};
-ghost use Rattle.wax_exclude.specs.Length.{list_length};
+ghost use Rattle.wax_exclude.specs.{Deciding.{IsDecidingLine, SaysLines}, Ignored.Line, Length.list_length};
 ghost use Rattle.wax_lazy.specs.Cost.{path_visits};
 ghost use Rattle.wax_token.specs.Reads.{Span};
 
@@ -11,7 +8,7 @@ use crate::idle::numbered_by_index;
 use crate::rules::IgnoreLine;
 use std::alloc::Global;
 use std::marker::Model;
-use wax_lazy::{Matcher, last_number};
+use wax_lazy::{Matcher, last_number_metered};
 use wax_match::encode::{CompiledProgram, Meter};
 use wax_query::diagnostics::NoMemory;
 use wax_query::matching::CandidatePath;
@@ -25,11 +22,9 @@ pub struct DecidingLines {
 }
 
 impl Model for DecidingLines {
-    ghost use Rattle.std.specs.Prelude.{List};
-    ghost use Rattle.std.specs.Coded.{coded_list};
-    ghost use Rattle.wax_program.specs.declared.instruction.Instruction.{Instruction};
+    ghost use Rattle.std.specs.{Prelude.List, Coded.coded_list};
+    ghost use Rattle.wax_program.specs.{declared.instruction.Instruction.Instruction, Closed.IsClosed};
     ghost use Rattle.wax_program.specs.contracts.instruction.Instruction as instruction;
-    ghost use Rattle.wax_program.specs.Closed.{IsClosed};
 
     ghost Value = { List Instruction };
 
@@ -86,22 +81,20 @@ impl DecidingLines {
     }
 }
 
-/// Returns the index of the last line that matches a path, or `None` if no line does.
+/// Returns the index of the last line that matches a path, or `None` if no line does. The meter counts the
+/// instructions that are read to decide, without what compiling the lines takes.
 pub(crate) fn deciding_line(
     alloc: Global,
     lines: &[IgnoreLine],
     path: &str,
+    meter: &mut Meter,
 ) -> Result<Option<usize>, NoMemory>
-    ensures { IfOk result (IsDecidingLine lines.now (chars path.now)) }
+    ensures line { IfOk result (IsDecidingLine lines.now (chars path.now)) }
+    ensures above { let size = list_length lines.now in
+        meter.new ≤ meter.old + path_visits size (length (chars path.now)) + size }
+    ensures steady { meter.old ≤ meter.new }
 {
     let program = numbered_by_index(alloc, lines)?;
-    let found = last_number(alloc, &program, path)?;
+    let found = last_number_metered(alloc, &program, path, meter)?;
     Ok(found)
 }
-
-/// States that an ignore list ignores a text exactly if its last line that matches the text has no
-/// `!`, whichever way that line is named.
-pub fn law_of_last_match()
-    ensures last { LastMatchDecides }
-    ensures index { DecidingLineDecides }
-{}

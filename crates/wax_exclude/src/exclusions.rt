@@ -1,75 +1,65 @@
 //! Patterns that are excluded from a walk.
-ghost use Rattle.std.specs.Prelude.{◌≡◌, ◌↔◌, ◌<◌, ◌≤◌, ℕ, IfOk, IsTrue, List, chars, false};
-ghost use Rattle.std.specs.List.{All, list_any};
+ghost use Rattle.std.specs.Prelude.{◌≡◌, ◌↔◌, ◌<◌, ◌≤◌, ℕ, IfOk, IsTrue, List, false};
 ghost use Rattle.wax_facts.specs.Alternatives.{alternatives};
-ghost use Rattle.wax_query.specs.Outcome.{MatchBuild};
-ghost use Rattle.wax_token.specs.Cost.{cost, program_length};
-ghost use Rattle.wax_query.specs.Below.{IsBelow};
-ghost use Rattle.wax_token.specs.Meaning.{Means, MeansSome};
-ghost use Rattle.wax_token.specs.Words.{members, trees};
+ghost use Rattle.wax_query.specs.{Outcome.MatchBuild, Below.IsBelow};
+ghost use Rattle.wax_token.specs.{Cost.program_length, Meaning.{Means, MeansSome}, Words.{members, trees}};
 ghost use Rattle.wax_exclude.specs.Candidates.{NoSlashAfterNames, folder_at};
 ghost use Rattle.wax_exclude.specs.Covers.{CoversSome, ends_wild, is_everything, is_unrooted};
-ghost use Rattle.wax_exclude.specs.Covers.{some_everything};
-ghost use Rattle.wax_exclude.specs.Compiled.{CoverAll, SomeAccepts};
-ghost use Rattle.wax_walk.specs.Candidates.{in_characters};
 ghost use Rattle.wax_walk.specs.Given.{with_tree};
-ghost use Rattle.wax_walk.specs.Said.{mark_of};
 
-use crate::fitting::compile_fitting;
 use crate::folders::{folder_candidate, is_tree};
+use crate::numbers::NumberedLines;
+use crate::rules::IgnoreLine;
 use std::alloc::Global;
 use std::marker::Model;
-use wax_facts::into_alternatives;
-use wax_lazy::Matcher;
-use wax_match::encode::CompileError;
-use wax_prefilter::CompiledTokens;
+use std::slice;
+use wax_match::encode::{CompileError, Meter};
+use wax_prefilter::Prefilter;
 use wax_query::diagnostics::{NoMemory, Refusal};
 use wax_query::matching::CandidatePath;
 use wax_token::token::{ExpressionMetadata, LeafKind, Token, Wildcard};
 use wax_walk::{Candidate, EntryResidue, Exclude};
 
-/// How many bytes may be kept of earlier texts.
-const MOST_BYTES: usize = 2_097_152;
+/// How many bytes may be kept of earlier entries at least.
+const LEAST_BYTES: usize = 2_097_152;
 
 /// A pattern that is excluded from a walk, as a rule. It excludes each entry that the pattern
 /// matches: with everything below it if an alternative covers the entry, and otherwise by itself.
 /// An alternative that is only an unrooted `**` covers everything. One that ends with `**` covers
 /// what it matches, except for the start of the walk. Contracts see the alternatives.
 pub struct Exclusion {
-    alternatives: Vec<Token<'static, ExpressionMetadata>>,
-    /// Accepts what at least one alternative matches.
-    whole: Matcher<CompiledTokens>,
-    /// What each alternative that ends with `**` is compiled to.
-    covering: Vec<CompiledTokens>,
-    /// True if an alternative is only an unrooted `**`.
-    covers_all: bool,
+    /// The pattern, as the only line of an ignore list.
+    line: IgnoreLine,
+    /// What this line decides.
+    numbered: NumberedLines,
+    /// What is known of all texts that the pattern matches.
+    prefilter: Prefilter,
 }
 
 // Written out, so that a crate that drops these needn't prove again how their tokens are dropped.
 impl Drop for Exclusion {
     fn drop(self) {
         let Exclusion {
-            alternatives: _,
-            whole: _,
-            covering: _,
-            covers_all: _,
+            line: _,
+            numbered: _,
+            prefilter: _,
         } = self;
     }
 }
 
 impl Model for Exclusion {
     ghost use Rattle.std.specs.Prelude.{List};
-    ghost use Rattle.wax_token.specs.Reads.{Span};
-    ghost use Rattle.wax_token.specs.Syntax.{Tree};
-    ghost use Rattle.wax_exclude.specs.Compiled.{IsExclusion, row_code};
+    ghost use Rattle.wax_token.specs.{Reads.Span, Syntax.Tree};
+    ghost use Rattle.wax_facts.specs.Alternatives.{alternatives};
+    ghost use Rattle.wax_exclude.specs.{Compiled.row_code, inner.Numbers.KnowsPattern};
 
     ghost Value = { List (Tree Span) };
 
     ghost coded = { row_code };
 
-    ghost view = { λ e. e.alternatives.items };
+    ghost view = { λ e. alternatives e.line.glob };
 
-    ghost invariant = { λ e. IsExclusion e.alternatives.items e.whole e.covering.items e.covers_all };
+    ghost invariant = { λ e. KnowsPattern e.line e.numbered e.prefilter };
 }
 
 impl Exclusion {
@@ -91,28 +81,25 @@ impl Exclusion {
         ensures fits { MatchBuild result (λ _. program_length pattern.entry ≤ 1048576)
             (λ _. 1048576 < program_length pattern.entry) }
     {
-        let compiled = CompiledTokens::of_token(alloc, &pattern)?;
-        let alternatives = into_alternatives(alloc, pattern)?;
-        let covering = covering_of(alloc, alternatives.as_slice())?;
-        let covers_all = some_everything(alternatives.as_slice());
+        let line = match IgnoreLine::new(true, pattern) {
+            Ok(line) => line,
+            Err(error) => return Err(Refusal::Refused(error)),
+        };
+        let prefilter = Prefilter::new(alloc, line.glob().concatenation())?;
+        let numbered = NumberedLines::new(alloc, slice::from_ref(&line), LEAST_BYTES)?;
         Ok(Exclusion {
-            alternatives,
-            whole: Matcher::with_most(alloc, compiled, MOST_BYTES),
-            covering,
-            covers_all,
+            line,
+            numbered,
+            prefilter,
         })
     }
-}
-
-impl Exclusion {
-    ghost use Rattle.wax_exclude.specs.Excluded.{excluded_mark, some_test};
 
     /// Returns whether an alternative of the pattern covers the folder with this path, so that everything
     /// below it is excluded. For the start of a walk, which has no name, only an unrooted `**` does.
     ///
     /// If it returns false, everything below may still be excluded, each entry by itself, as by
     /// `**/*`. If a `/` follows the last name of the path, no promise is made of what is below. It
-    /// takes the time of a match for the pattern, and for each alternative that ends with `**`.
+    /// takes the time of a match for the pattern.
     ///
     /// ```
     /// use wax::walk::exclusion_of;
@@ -130,60 +117,11 @@ impl Exclusion {
         ensures below { NoSlashAfterNames path.now → IfOk result (λ answer. IsTrue answer → (s : List ℕ)
             → IsBelow path.now s → MeansSome (trees self.now) false false s) }
     {
-        let residue = self.residue_once(alloc, folder_candidate(path))?;
+        let mut meter = Meter::new();
+        let residue = self
+            .numbered
+            .residue_once(alloc, folder_candidate(path), &mut meter)?;
         Ok(is_tree(residue))
-    }
-
-    /// Returns whether an alternative matches the text.
-    fn is_match(&self, alloc: Global, text: &str) -> Result<bool, NoMemory>
-        ensures { IfOk result (λ answer. answer ≡ some_test self.now (chars text.now)) }
-    {
-        self.whole.holder().is_match(alloc, text)
-    }
-
-    /// Returns what `is_match` does, with the help of what is kept of earlier texts.
-    fn is_match_cached(&mut self, text: &str) -> Result<bool, NoMemory>
-        ensures decides { IfOk result (λ answer. answer ≡ some_test self.old (chars text.now)) }
-        ensures same { self.new ≡ self.old }
-    {
-        self.whole.is_match(text)
-    }
-
-    /// Returns what to exclude of an entry, once it is known whether an alternative matches its
-    /// candidate.
-    fn excluded(
-        &self,
-        alloc: Global,
-        candidate: Candidate<'_>,
-        is_matched: bool,
-    ) -> Result<Option<EntryResidue>, NoMemory>
-        requires { is_matched ≡ some_test self.now (chars candidate.path.now) }
-        ensures { IfOk result
-            (λ r. mark_of r ≡ excluded_mark self.now (in_characters candidate.entry)) }
-    {
-        if self.covers_all {
-            return Ok(Some(EntryResidue::Tree));
-        }
-        if !is_matched {
-            return Ok(None);
-        }
-        if candidate.depth > 0 && some_accepts(alloc, self.covering.as_slice(), candidate.path)? {
-            return Ok(Some(EntryResidue::Tree));
-        }
-        Ok(Some(EntryResidue::File))
-    }
-
-    /// Returns what to exclude of an entry, and keeps nothing for later ones.
-    fn residue_once(
-        &self,
-        alloc: Global,
-        candidate: Candidate<'_>,
-    ) -> Result<Option<EntryResidue>, NoMemory>
-        ensures { IfOk result
-            (λ r. mark_of r ≡ excluded_mark self.now (in_characters candidate.entry)) }
-    {
-        let is_matched = self.is_match(alloc, candidate.path)?;
-        self.excluded(alloc, candidate, is_matched)
     }
 }
 
@@ -197,38 +135,12 @@ impl Exclude for Exclusion {
         alloc: Global,
         candidate: Candidate<'_>,
     ) -> Result<Option<EntryResidue>, NoMemory> {
-        let is_matched = self.is_match_cached(candidate.path)?;
-        self.excluded(alloc, candidate, is_matched)
-    }
-}
-
-// Compiles the alternatives that end with `**`, each by itself.
-fn covering_of<'t>(
-    alloc: Global,
-    alternatives: &[Token<'t, ExpressionMetadata>],
-) -> Result<Vec<CompiledTokens>, NoMemory>
-    requires { All (λ t. cost t < 1048576) alternatives.now }
-    ensures { IfOk result (λ programs. CoverAll programs.items alternatives.now) }
-{
-    let mut programs = Vec::new(alloc);
-    for token in alternatives {
-        if ends_wild(token) {
-            let program = compile_fitting(alloc, token.concatenation())?;
-            programs.push(program)?;
+        if !self.prefilter.may_match_quickly(candidate.path) {
+            return Ok(None);
         }
+        let mut meter = Meter::new();
+        self.numbered.residue(candidate, &mut meter)
     }
-    Ok(programs)
-}
-
-fn some_accepts(alloc: Global, programs: &[CompiledTokens], text: &str) -> Result<bool, NoMemory>
-    ensures { IfOk result (λ answer. IsTrue answer ↔ SomeAccepts programs.now (chars text.now)) }
-{
-    for program in programs {
-        if program.is_match(alloc, text)? {
-            return Ok(true);
-        }
-    }
-    Ok(false)
 }
 
 pub fn ends_wild<'t>(token: &Token<'t, ExpressionMetadata>) -> bool
@@ -238,12 +150,6 @@ pub fn ends_wild<'t>(token: &Token<'t, ExpressionMetadata>) -> bool
         Some(last) => last.is_tree_wildcard(),
         None => false,
     }
-}
-
-pub fn some_everything<'t>(alternatives: &[Token<'t, ExpressionMetadata>]) -> bool
-    ensures { result ≡ some_everything alternatives.now }
-{
-    alternatives.iter().any(|token| is_everything(token))
 }
 
 /// Returns whether the token is an unrooted `**`, by itself. It matches every text.

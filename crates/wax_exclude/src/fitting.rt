@@ -1,9 +1,7 @@
 //! Tokens that are known to fit, compiled.
 ghost use Rattle.std.specs.Prelude.{◌↔◌, ◌<◌, ℕ, List, IfOk, false};
 ghost use Rattle.wax_program.specs.Machine.{Accepts};
-ghost use Rattle.wax_token.specs.Cost.{costs};
-ghost use Rattle.wax_token.specs.Meaning.{MeansEach};
-ghost use Rattle.wax_token.specs.Words.{trees};
+ghost use Rattle.wax_token.specs.{Cost.costs, Meaning.MeansEach, Words.trees};
 
 use std::alloc::Global;
 use wax_prefilter::CompiledTokens;

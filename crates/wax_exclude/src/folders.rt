@@ -1,8 +1,6 @@
 //! Folders as rules see them, and what rules exclude with everything below.
-ghost use Rattle.std.specs.Prelude.{◌≡◌, ◌==◌, ◌↔◌, IsTrue, chars, nat_lt, not};
-ghost use Rattle.std.specs.List.{list_any};
-ghost use Rattle.wax_walk.specs.Given.{with_tree};
-ghost use Rattle.wax_walk.specs.Said.{mark_of};
+ghost use Rattle.std.specs.{Prelude.{◌≡◌, ◌==◌, ◌↔◌, IsTrue, chars, nat_lt, not}, List.list_any};
+ghost use Rattle.wax_walk.specs.{Given.with_tree, Said.mark_of};
 ghost use Rattle.wax_exclude.specs.Candidates.{folder_at};
 
 use wax_query::matching::CandidatePath;

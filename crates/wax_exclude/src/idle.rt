@@ -1,13 +1,10 @@
 //! Lines of an ignore list that decide nothing.
 ghost use Rattle.std.specs.Prelude.{◌≡◌, ◌↔◌, ◌<◌, ℕ, All, List, IfOk, MatchOption, Some, length};
 ghost use Rattle.std.specs.Bool.{MatchBool};
-ghost use Rattle.wax_compare.specs.Comparison.{IsAnswer, IsWanted};
-ghost use Rattle.wax_compare.specs.Limit.{AllDiffer};
+ghost use Rattle.wax_compare.specs.{Comparison.{IsAnswer, IsWanted}, Limit.AllDiffer};
 ghost use Rattle.wax_compare.specs.declared.wanted.Texts.TheVariants.{Paths};
-ghost use Rattle.wax_exclude.specs.Idle.{AllIdleLinesCanGo, AreIdle, DecidesSome, HasEffect};
-ghost use Rattle.wax_exclude.specs.Idle.{IdleLinesCanGo, IdleLinesCanGoTogether, IsReason, LineIgnores};
-ghost use Rattle.wax_exclude.specs.Idle.{LineMeans, TakesNothing};
-ghost use Rattle.wax_exclude.specs.Length.{list_length};
+ghost use Rattle.wax_exclude.specs.Idle.{AreIdle, DecidesSome, HasEffect, IsReason, LineIgnores, LineMeans};
+ghost use Rattle.wax_exclude.specs.{Idle.TakesNothing, Length.list_length};
 ghost use Rattle.wax_exclude.specs.Undecided.{AreTooLarge, AreUndecided, IsUndecided, SomeLineMeans};
 ghost use Rattle.wax_exclude.specs.inner.Idle.{AreMatchedBy, IsCovering};
 ghost use Rattle.wax_program.specs.Machine.{Accepts};
@@ -236,11 +233,3 @@ fn union_of(
         Err(Refusal::Memory) => Err(NoMemory),
     }
 }
-
-/// States that without a line that decides nothing, an ignore list ignores the same plain paths; and
-/// so without some of these lines, or without all of them at once.
-pub fn law_of_idle_lines()
-    ensures one { IdleLinesCanGo }
-    ensures some { IdleLinesCanGoTogether }
-    ensures all { AllIdleLinesCanGo }
-{}

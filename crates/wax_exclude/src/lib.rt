@@ -2,16 +2,13 @@
 #![tactic(auto)]
 
 mod along;
-mod below;
 mod component;
 mod deciding;
 mod exclusions;
 mod fitting;
 mod folders;
 mod idle;
-mod kept;
-mod law;
-mod leading_law;
+mod laws;
 mod lines;
 mod numbers;
 mod prefixes;
@@ -19,20 +16,18 @@ mod rules;
 mod split;
 mod tidy;
 mod wanted;
-mod wanted_law;
 
 pub use along::{walk_along, within};
-pub use below::law_of_cancelling;
 pub use component::{LeadingComponent, leading};
-pub use deciding::{DecidingLines, law_of_last_match};
+pub use deciding::DecidingLines;
 pub use exclusions::{Exclusion, is_everything};
-pub use idle::{IdleLine, IdleReason, law_of_idle_lines};
-pub use kept::collect_unignored;
-pub use law::{law_of_closures, law_of_feeds, law_of_ignoring, law_of_plain_walks, law_of_walks};
-pub use leading_law::law_of_rooted_leading;
+pub use idle::{IdleLine, IdleReason};
+pub use laws::{
+    law_of_cancelling, law_of_closures, law_of_feeds, law_of_idle_lines, law_of_ignoring,
+    law_of_last_match, law_of_plain_walks, law_of_rooted_leading, law_of_walks, law_of_wanted,
+};
 pub use lines::{WrittenLine, written_lines};
 pub use prefixes::{PrefixNames, common_prefix_of, prefix_names_of};
 pub use rules::{IgnoreLine, IgnoreRule};
 pub use tidy::TidyLines;
 pub use wanted::{collect, collect_excluding, collect_feed};
-pub use wanted_law::law_of_wanted;

@@ -1,7 +1,7 @@
 //! The lines of an ignore list's text.
 ghost use Rattle.std.specs.Prelude.{◌≡◌, ◌++◌, ◌∷◌, [], IfOk, map, option_to_list};
-ghost use Rattle.wax_exclude.specs.Lines.{between_feeds, is_skipped, line_at, without_return};
-ghost use Rattle.wax_exclude.specs.Lines.{written_lines, written_of};
+ghost use Rattle.wax_exclude.specs.Lines.{between_feeds, is_skipped, line_at, without_return, written_lines};
+ghost use Rattle.wax_exclude.specs.Lines.{written_of};
 
 use std::alloc::{AllocError, Global};
 use wax_query::diagnostics::NoMemory;

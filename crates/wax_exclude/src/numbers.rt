@@ -1,25 +1,19 @@
 //! What the lines of an ignore list decide, by one program over all of them.
-ghost use Rattle.std.specs.Prelude.{◌≡◌, ◌↔◌, ◌⊎◌, ◌<◌, ◌≤◌, ◌+◌, ◌^◌, ◌++◌, ◌∷◌, [], ℕ, List, IfOk};
-ghost use Rattle.std.specs.Prelude.{IsTrue, OnOk, Some, chars, false, if◌then◌else◌, length, map, nat_lt};
+ghost use Rattle.std.specs.Prelude.{◌≡◌, ◌↔◌, ◌⊎◌, ◌<◌, ◌≤◌, ◌+◌, ◌^◌, ◌++◌, ◌∷◌, [], ℕ, List, IfOk, IsTrue};
+ghost use Rattle.std.specs.Prelude.{OnOk, Some, chars, false, if◌then◌else◌, length, map, nat_lt};
 ghost use Rattle.std.specs.List.{list_any};
-ghost use Rattle.wax_exclude.specs.Covers.{some_everything};
-ghost use Rattle.wax_exclude.specs.declared.split.SplitLine.{SplitLine};
-ghost use Rattle.wax_compare.specs.Selected.{CanSelect, IsSelected};
+ghost use Rattle.wax_exclude.specs.{Covers.some_everything, declared.split.SplitLine.SplitLine};
 ghost use Rattle.wax_exclude.specs.inner.Listed.{ignored_by, listed_mark};
 ghost use Rattle.wax_exclude.specs.inner.Numbers.{AlternativesPass, HasMatch, IsSettledFrom, KnowsLines};
-ghost use Rattle.wax_exclude.specs.inner.Numbers.{LinesPass, MatchesBy};
-ghost use Rattle.wax_exclude.specs.inner.Numbers.{alternatives_cost, covers_everything, is_odd, number_after};
-ghost use Rattle.wax_exclude.specs.inner.Numbers.{numbered_mark, split_length};
+ghost use Rattle.wax_exclude.specs.inner.Numbers.{LinesPass, MatchesBy, alternatives_cost, covers_everything};
+ghost use Rattle.wax_exclude.specs.inner.Numbers.{is_odd, number_after, numbered_mark, split_length};
 ghost use Rattle.wax_exclude.specs.inner.Split.{split_of};
-ghost use Rattle.wax_lazy.specs.Cost.{list_visits};
-ghost use Rattle.wax_lazy.specs.Numbers.{IsLastNumber};
+ghost use Rattle.wax_compare.specs.Selected.{CanSelect, IsSelected};
+ghost use Rattle.wax_lazy.specs.{Cost.list_visits, Numbers.IsLastNumber};
 ghost use Rattle.wax_match.specs.Numbered.{MeansNumbered, numbered_length};
 ghost use Rattle.wax_prefilter.specs.Literals.{MayPass};
-ghost use Rattle.wax_program.specs.Closed.{IsClosed};
-ghost use Rattle.wax_program.specs.Machine.{Accepts, mark};
-ghost use Rattle.wax_walk.specs.Candidates.{in_characters};
-ghost use Rattle.wax_walk.specs.Given.{alone, with_tree};
-ghost use Rattle.wax_walk.specs.Said.{mark_of};
+ghost use Rattle.wax_program.specs.{Closed.IsClosed, Machine.{Accepts, mark}};
+ghost use Rattle.wax_walk.specs.{Candidates.in_characters, Given.{alone, with_tree}, Said.mark_of};
 
 use crate::exclusions::{ends_wild, is_everything};
 use crate::rules::IgnoreLine;
@@ -27,7 +21,7 @@ use crate::split::{SplitLine, split_lines};
 use std::alloc::{AllocError, Global};
 use wax_compare::{Criterion, Selector};
 use wax_facts::Alternative;
-use wax_lazy::{Matcher, last_number};
+use wax_lazy::{Matcher, last_number_metered};
 use wax_match::encode::{CompiledProgram, Meter, Numbered, compile_numbered};
 use wax_prefilter::Literals;
 use wax_query::diagnostics::NoMemory;
@@ -57,22 +51,31 @@ pub struct NumberedLines {
 }
 
 impl NumberedLines {
-    /// Compiles the alternatives of the lines.
-    pub fn new(alloc: Global, lines: &[IgnoreLine]) -> Result<NumberedLines, NoMemory>
+    /// Compiles the alternatives of the lines. At least `least_bytes` bytes may be kept of earlier entries.
+    pub fn new(
+        alloc: Global,
+        lines: &[IgnoreLine],
+        least_bytes: usize,
+    ) -> Result<NumberedLines, NoMemory>
         ensures { IfOk result (KnowsLines (map split_of lines.now)) }
     {
         let split = split_lines(alloc, lines)?;
-        Self::of_split(alloc, split.as_slice())
+        Self::of_split(alloc, split.as_slice(), least_bytes)
     }
 
     /// Compiles the alternatives of lines that are split.
-    fn of_split(alloc: Global, lines: &[SplitLine<'_>]) -> Result<NumberedLines, NoMemory>
+    fn of_split(
+        alloc: Global,
+        lines: &[SplitLine<'_>],
+        least_bytes: usize,
+    ) -> Result<NumberedLines, NoMemory>
         ensures { IfOk result (KnowsLines lines.now) }
     {
         let top = number_after(lines.len() + 1, true);
         let settled = settled_from(lines);
         let program = program_of(alloc, lines, settled, top)?;
-        let most_bytes = MOST_BYTES.min(top.saturating_mul(BYTES_PER_LINE));
+        let by_lines = MOST_BYTES.min(top.saturating_mul(BYTES_PER_LINE));
+        let most_bytes = least_bytes.max(by_lines);
         Ok(NumberedLines {
             matcher: Matcher::with_most(alloc, program, most_bytes),
             top,
@@ -100,17 +103,22 @@ impl NumberedLines {
         Ok(self.residue_by(last, candidate.depth))
     }
 
-    /// Returns what `residue` does, and keeps nothing for later entries.
+    /// Returns what `residue` does, and keeps nothing for later entries. The meter counts the instructions
+    /// that are read.
     pub fn residue_once(
         &self,
         alloc: Global,
         candidate: Candidate<'_>,
+        meter: &mut Meter,
     ) -> Result<Option<EntryResidue>, NoMemory>
         requires { IsClosed self.now.matcher }
-        ensures { (lines : List SplitLine) → KnowsLines lines self.now
+        ensures says { (lines : List SplitLine) → KnowsLines lines self.now
             → IfOk result (λ r. mark_of r ≡ listed_mark lines (in_characters candidate.entry)) }
+        ensures above { meter.new
+            ≤ meter.old + list_visits self.now.matcher (length (chars candidate.entry.path.now)) }
+        ensures steady { meter.old ≤ meter.new }
     {
-        let last = self.last_once(alloc, candidate.path)?;
+        let last = self.last_once(alloc, candidate.path, meter)?;
         Ok(self.residue_by(last, candidate.depth))
     }
 
@@ -130,15 +138,22 @@ impl NumberedLines {
 
     // Returns the greatest number that matches a path. Runs the program unless the path contains no
     // literal of an alternative.
-    fn last_once(&self, alloc: Global, path: &str) -> Result<Option<usize>, AllocError>
+    fn last_once(
+        &self,
+        alloc: Global,
+        path: &str,
+        meter: &mut Meter,
+    ) -> Result<Option<usize>, AllocError>
         requires { IsClosed self.now.matcher }
-        ensures { (lines : List SplitLine) → KnowsLines lines self.now
+        ensures last { (lines : List SplitLine) → KnowsLines lines self.now
             → IfOk result (IsLastNumber self.now.matcher (chars path.now)) }
+        ensures above { meter.new ≤ meter.old + list_visits self.now.matcher (length (chars path.now)) }
+        ensures steady { meter.old ≤ meter.new }
     {
         if !self.literals.may_match(path) {
             return Ok(None);
         }
-        last_number(alloc, self.matcher.holder(), path)
+        last_number_metered(alloc, self.matcher.holder(), path, meter)
     }
 
     // Returns what the greatest number that matches an entry excludes of it.

@@ -1,11 +1,9 @@
 //! Prefixes of globs, split into names.
-ghost use Rattle.std.specs.Prelude.{◌≡◌, ◌↔◌, ◌∷◌, [], ℕ, Bool, IfOk, IsTrue, List, MatchOption};
-ghost use Rattle.std.specs.Prelude.{chars, false, map, string_bytes};
+ghost use Rattle.std.specs.Prelude.{◌≡◌, ◌↔◌, ◌∷◌, [], ℕ, Bool, IfOk, IsTrue, List, MatchOption, chars};
+ghost use Rattle.std.specs.Prelude.{false, map, string_bytes};
 ghost use Rattle.wax_directory.specs.Names.{is_rooted, names_in_path};
 ghost use Rattle.wax_facts.specs.Prefix.{Prefix};
-ghost use Rattle.wax_token.specs.Reads.{Span};
-ghost use Rattle.wax_token.specs.Syntax.{alternation};
-ghost use Rattle.wax_token.specs.Words.{trees};
+ghost use Rattle.wax_token.specs.{Reads.Span, Syntax.alternation, Words.trees};
 ghost use Rattle.wax_tree.specs.Prefix.{from_last};
 ghost use Rattle.wax_exclude.specs.Premises.{BeginsWith, IsUnmeant};
 ghost use Rattle.wax_exclude.specs.Prefix.{HasEmptyName, IsCommonPrefix, PrefixSplitsInto, SplitsInto};

@@ -6,11 +6,8 @@ ghost use Rattle.wax_query.specs.Below.{IsBelow};
 ghost use Rattle.wax_token.specs.Cost.{program_length};
 ghost use Rattle.wax_walk.specs.Given.{with_tree};
 ghost use Rattle.wax_exclude.specs.Candidates.{NoSlashAfterNames, folder_at};
-ghost use Rattle.wax_exclude.specs.Deciding.{IsDecidingLine, SaysLines, ignores_at};
-ghost use Rattle.wax_exclude.specs.Idle.{AreIdle};
-ghost use Rattle.wax_exclude.specs.Ignored.{IgnoresBelow, is_ignored};
-ghost use Rattle.wax_exclude.specs.Length.{list_length};
-ghost use Rattle.wax_exclude.specs.Tidy.{TidiesUp};
+ghost use Rattle.wax_exclude.specs.{Deciding.{IsDecidingLine, SaysLines, ignores_at}, Idle.AreIdle};
+ghost use Rattle.wax_exclude.specs.{Ignored.{IgnoresBelow, is_ignored}, Length.list_length, Tidy.TidiesUp};
 ghost use Rattle.wax_exclude.specs.Undecided.{AreUndecided, IsUndecided};
 
 use crate::deciding::DecidingLines;
@@ -116,8 +113,7 @@ pub struct IgnoreRule {
 }
 
 impl Model for IgnoreRule {
-    ghost use Rattle.std.specs.Prelude.{List, map};
-    ghost use Rattle.std.specs.Coded.{coded_list};
+    ghost use Rattle.std.specs.{Prelude.{List, map}, Coded.coded_list};
     ghost use Rattle.wax_token.specs.Reads.{Span};
     ghost use Rattle.wax_exclude.specs.Ignored.{Line, line_code};
 
@@ -125,8 +121,7 @@ impl Model for IgnoreRule {
 
     ghost coded = { coded_list line_code };
 
-    ghost use Rattle.wax_exclude.specs.inner.Numbers.{KnowsLines};
-    ghost use Rattle.wax_exclude.specs.inner.Split.{split_of};
+    ghost use Rattle.wax_exclude.specs.{inner.Numbers.KnowsLines, inner.Split.split_of};
 
     ghost view = { λ r. r.lines.items };
 
@@ -139,7 +134,7 @@ impl IgnoreRule {
     pub fn new(alloc: Global, lines: Vec<IgnoreLine>) -> Result<IgnoreRule, NoMemory>
         ensures { IfOk result (λ rule. rule ≡ lines.items) }
     {
-        let numbered = NumberedLines::new(alloc, lines.as_slice())?;
+        let numbered = NumberedLines::new(alloc, lines.as_slice(), 0)?;
         Ok(IgnoreRule { lines, numbered })
     }
 
@@ -147,7 +142,26 @@ impl IgnoreRule {
     pub fn is_ignored(&self, alloc: Global, path: &CandidatePath<'_>) -> Result<bool, NoMemory>
         ensures { IfOk result (λ answer. answer ≡ is_ignored self.now path.now) }
     {
-        let residue = self.numbered.residue_once(alloc, path_candidate(path))?;
+        let mut meter = Meter::new();
+        self.is_ignored_metered(alloc, path, &mut meter)
+    }
+
+    /// Returns what `is_ignored` does, and moves the meter by the number of instructions that the list's
+    /// program visits. Its bound is that of `is_ignored_cached_metered`.
+    pub fn is_ignored_metered(
+        &self,
+        alloc: Global,
+        path: &CandidatePath<'_>,
+        meter: &mut Meter,
+    ) -> Result<bool, NoMemory>
+        ensures decides { IfOk result (λ answer. answer ≡ is_ignored self.now path.now) }
+        ensures above { let size = list_length self.now in
+            meter.new ≤ meter.old + path_visits size (length path.now) + size }
+        ensures steady { meter.old ≤ meter.new }
+    {
+        let residue = self
+            .numbered
+            .residue_once(alloc, path_candidate(path), meter)?;
         Ok(residue.is_some())
     }
 
@@ -165,7 +179,30 @@ impl IgnoreRule {
         ensures below { NoSlashAfterNames path.now → IfOk result (λ answer. IsTrue answer → (s : List ℕ)
             → IsBelow path.now s → is_ignored self.now s ≡ true) }
     {
-        let residue = self.numbered.residue_once(alloc, folder_candidate(path))?;
+        let mut meter = Meter::new();
+        self.ignores_below_metered(alloc, path, &mut meter)
+    }
+
+    /// Returns what `ignores_below` does, and moves the meter as `is_ignored_metered` does.
+    pub fn ignores_below_metered(
+        &self,
+        alloc: Global,
+        path: &CandidatePath<'_>,
+        meter: &mut Meter,
+    ) -> Result<bool, NoMemory>
+        ensures says { IfOk result (λ answer. IsTrue answer
+            ↔ (⟦<IgnoreRule as Exclude>⟧.rule self.now (folder_at path.now) ≡ with_tree)) }
+        ensures covers { IfOk result
+            (λ answer. IsTrue answer ↔ IgnoresBelow self.now (folder_at path.now)) }
+        ensures below { NoSlashAfterNames path.now → IfOk result (λ answer. IsTrue answer → (s : List ℕ)
+            → IsBelow path.now s → is_ignored self.now s ≡ true) }
+        ensures above { let size = list_length self.now in
+            meter.new ≤ meter.old + path_visits size (length path.now) + size }
+        ensures steady { meter.old ≤ meter.new }
+    {
+        let residue = self
+            .numbered
+            .residue_once(alloc, folder_candidate(path), meter)?;
         Ok(is_tree(residue))
     }
 
@@ -242,7 +279,26 @@ impl IgnoreRule {
         ensures line { IfOk result (IsDecidingLine self.now path.now) }
         ensures decides { IfOk result (λ found. is_ignored self.now path.now ≡ ignores_at self.now found) }
     {
-        deciding::deciding_line(alloc, self.lines.as_slice(), path.as_str())
+        let mut meter = Meter::new();
+        self.deciding_line_metered(alloc, path, &mut meter)
+    }
+
+    /// Returns what `deciding_line` does, and moves the meter by the number of instructions that are
+    /// visited to decide the path, without what compiling the lines takes. Its bound is that of
+    /// `is_ignored_cached_metered`.
+    pub fn deciding_line_metered(
+        &self,
+        alloc: Global,
+        path: &CandidatePath<'_>,
+        meter: &mut Meter,
+    ) -> Result<Option<usize>, NoMemory>
+        ensures line { IfOk result (IsDecidingLine self.now path.now) }
+        ensures decides { IfOk result (λ found. is_ignored self.now path.now ≡ ignores_at self.now found) }
+        ensures above { let size = list_length self.now in
+            meter.new ≤ meter.old + path_visits size (length path.now) + size }
+        ensures steady { meter.old ≤ meter.new }
+    {
+        deciding::deciding_line(alloc, self.lines.as_slice(), path.as_str(), meter)
     }
 
     /// Compiles the lines once more, to find the deciding lines of many paths.

@@ -17,8 +17,7 @@ pub struct Alternatives<'a> {
 
 impl<'a> Model for Alternatives<'a> {
     ghost use Rattle.std.specs.Prelude.{List};
-    ghost use Rattle.wax_token.specs.Reads.{Span};
-    ghost use Rattle.wax_token.specs.Syntax.{Tree};
+    ghost use Rattle.wax_token.specs.{Reads.Span, Syntax.Tree};
     ghost use Rattle.wax_exclude.specs.Compiled.{row_code};
 
     ghost Value = { List (Tree Span) };

@@ -1,8 +1,7 @@
 //! Ignore lists without the lines that decide nothing.
 ghost use Rattle.std.specs.Prelude.{◌≡◌, ◌==◌, ◌<◌, All, IfOk, filter, filter_map, length, slice_get};
 ghost use Rattle.std.specs.List.{AllZip, list_any, range_with_len};
-ghost use Rattle.wax_exclude.specs.Idle.{is_known, without};
-ghost use Rattle.wax_exclude.specs.Tidy.{TidiesUp, indexes_of};
+ghost use Rattle.wax_exclude.specs.{Idle.{is_known, without}, Tidy.{TidiesUp, indexes_of}};
 ghost use Rattle.wax_exclude.specs.Undecided.{IsUndecided};
 ghost use Rattle.wax_exclude.specs.inner.Tidy.{IsRenumbered, IsSameReason, unknown_indexes};
 

@@ -2,16 +2,11 @@
 use Rattle.std.proofs.Common.{Bool, None, Option, Some, [], false, if◌then◌else◌, refl, true, ℕ, ◌&&◌, ◌≡◌}
 use Rattle.wax_token.specs.Reads.{Span}
 use Rattle.wax_token.specs.Syntax.{Tree, Trees, alternation, class, concatenation, leaf, literal, more, none}
-use Rattle.wax_token.specs.Syntax.{one, repetition, separator, tree, zero_or_more}
-use Rattle.wax_token.specs.Words.{members}
+use Rattle.wax_token.specs.{Syntax.{one, repetition, separator, tree, zero_or_more}, Words.members}
+use Rattle.wax_token.specs.Kinds.{is_separator_leaf, is_such, is_tree_leaf, is_boundary_leaf}
 use Rattle.wax_facts.specs.Rules.{alternative_breaks, branch_breaks, break_in, first_that_holds}
-use Rattle.wax_facts.specs.Rules.{side_has_boundary}
-use Rattle.wax_facts.specs.Rules.{last_of, rows_of, sub_glob_breaks}
-use Rattle.wax_token.specs.Kinds.{is_separator_leaf, is_such, is_tree_leaf}
-use Rattle.wax_facts.specs.Situated.{Situated}
-use Rattle.wax_token.specs.Kinds.{is_boundary_leaf}
-use Rattle.wax_facts.proofs.Lists.{nil_left, nil_right}
-use Rattle.wax_facts.proofs.Truths.{and_left, true_false}
+use Rattle.wax_facts.specs.{Rules.{side_has_boundary, last_of, rows_of, sub_glob_breaks}, Situated.Situated}
+use Rattle.wax_facts.proofs.{Lists.{nil_left, nil_right}, Truths.{and_left, true_false}}
 
 three_not : {A : Type 0} (a b c : Bool) (x y z : A) (o : Option A)
     → (if a then Some x else if b then Some y else if c then Some z else o) ≡ None

@@ -1,16 +1,12 @@
 -- Texts have at most the fixed size of a token that matches them.
 use Rattle.std.proofs.Common.{◌≡◌, ◌≤◌, ◌+◌, ◌*◌, ℕ, zero, suc, Bool, true, false, List, [], ◌∷◌, ◌++◌}
-use Rattle.std.proofs.Common.{Option, Some, None}
-use Rattle.std.proofs.Common.{refl, sym, ap, ◌∙◌, subst, inl, inr, arith}
-use Rattle.std.specs.Prelude.{if◌then◌else◌}
-use Rattle.std.specs.Char.{len_utf8}
-use Rattle.std.proofs.lemmas.Bool.{and_parts, cases_Bool, false≢true}
-use Rattle.std.proofs.lemmas.Bool.Decides.{Decides-eqb}
+use Rattle.std.proofs.Common.{Option, Some, None, refl, sym, ap, ◌∙◌, subst, inl, inr, arith}
+use Rattle.std.proofs.{lemmas.Bool.{and_parts, cases_Bool, false≢true}, lemmas.Bool.Decides.Decides-eqb}
+use Rattle.std.specs.{Prelude.if◌then◌else◌, Char.len_utf8}
 use Rattle.wax_facts.proofs.Copies.{sizes_of_copies}
 use Rattle.wax_facts.specs.SizeBounds.{SizesBound, all_mind_case, leaf_minds_case, minds_case}
 use Rattle.wax_facts.specs.Sizes.{are_of_size, common_size, fixed_size, is_size, leaf_size, option_sum}
-use Rattle.wax_facts.specs.Sizes.{size_if}
-use Rattle.wax_facts.specs.Sizes.{total_size}
+use Rattle.wax_facts.specs.Sizes.{size_if, total_size}
 use Rattle.wax_query.specs.Ranges.{AtMost}
 use Rattle.wax_token.specs.Meaning.{Copies, LeafMeans, Means, MeansEach, MeansSome, SameText}
 use Rattle.wax_token.specs.Reads.{utf8_len}

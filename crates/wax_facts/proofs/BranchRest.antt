@@ -2,12 +2,10 @@
 use Rattle.std.proofs.Common.{List, [], false, inl, inr, refl, subst, sym, ℕ, ◌↔◌, ◌∷◌, ◌≡◌}
 use Rattle.wax_token.specs.Meaning.{Means, MeansEach}
 use Rattle.wax_token.specs.Syntax.{Tree, Trees, alternation, concatenation, leaf, more, none, repetition}
-use Rattle.wax_facts.specs.Joined.{begins_with_leaf}
-use Rattle.wax_facts.specs.Orderly.{Flat, Full, IsSome}
+use Rattle.wax_facts.specs.{Joined.begins_with_leaf, Orderly.{Flat, Full, IsSome}}
 use Rattle.wax_facts.specs.Prefix.{IsRooted, Prefix, PrefixOf, opened}
 use Rattle.wax_facts.specs.Rest.{begins_with_tree, rest, unrooted}
-use Rattle.wax_facts.proofs.OpenedMeans.{opened_from, opened_to}
-use Rattle.wax_facts.proofs.Trees.{unrooted_plain}
+use Rattle.wax_facts.proofs.{OpenedMeans.{opened_from, opened_to}, Trees.unrooted_plain}
 use Rattle.wax_facts.proofs.WrittenRest.{rest_same}
 
 -- a list whose first token is a branch doesn't begin with `**`

@@ -3,13 +3,11 @@ use Rattle.std.proofs.Common.{Bool, [], false, if◌then◌else◌, refl, true, 
 use Rattle.wax_token.specs.Reads.{Span}
 use Rattle.wax_token.specs.Syntax.{Tree, Trees, alternation, concatenation, leaf, more, none, repetition}
 use Rattle.wax_facts.specs.Rules.{adjacent_boundaries, adjacent_span, are_incompatible, boundary_break}
-use Rattle.wax_facts.specs.Rules.{broken}
-use Rattle.wax_facts.specs.Situated.{Situated}
+use Rattle.wax_facts.specs.{Rules.broken, Situated.Situated}
 use Rattle.wax_facts.specs.Orderly.{Apart, ApartEach, ApartSome, Flat, FlatEach, FlatSome}
 use Rattle.wax_facts.proofs.Lists.{nil_left, nil_right}
 use Rattle.wax_facts.proofs.NoBreak.{Lawful, LawfulEach, LawfulSome, after_this, before_these, broken_lawful}
-use Rattle.wax_facts.proofs.NoBreak.{top}
-use Rattle.wax_facts.proofs.NoMeeting.{meet}
+use Rattle.wax_facts.proofs.{NoBreak.top, NoMeeting.meet}
 
 compatible : {A : Type 0} (b : Bool) (x : A) → (if b then x ∷ [] else []) ≡ [] → b ≡ false
 compatible true x e = absurd (let f : ⊥ = cc in f)

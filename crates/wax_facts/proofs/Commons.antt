@@ -1,12 +1,9 @@
 -- The common answer of branches, from the last to the first.
 use Rattle.std.proofs.Common.{◌≡◌, ℕ, zero, suc, ◌-◌, ◌<◌, List, [], ◌∷◌, length, get_or, drop, drop-cons}
 use Rattle.std.proofs.Common.{sym, ◌∙◌, ap, arith}
-use Rattle.wax_token.specs.Syntax.{Tree}
-use Rattle.wax_token.specs.Words.{trees}
-use Rattle.wax_query.specs.declared.query.when.When.{When}
-use Rattle.wax_query.specs.Whens.{certainty}
-use Rattle.wax_facts.specs.Root.{root, root_some}
-use Rattle.wax_facts.specs.Exhaustive.{exhaustive, exhaustive_some, exhaustive_last}
+use Rattle.wax_token.specs.{Syntax.Tree, Words.trees}
+use Rattle.wax_query.specs.{declared.query.when.When.When, Whens.certainty}
+use Rattle.wax_facts.specs.{Root.{root, root_some}, Exhaustive.{exhaustive, exhaustive_some, exhaustive_last}}
 
 pub root_put : {A : Type 0} (ts : List (Tree A)) (index : ℕ) (t : Tree A) (common new : When) → 0 < index
     → index < length ts → t ≡ get_or ts (index - 1) t →

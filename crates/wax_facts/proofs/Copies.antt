@@ -1,8 +1,7 @@
 -- Sizes of copies.
 use Rattle.std.proofs.Common.{◌≡◌, ◌==◌, ℕ, ◌*◌, Bool, Option, Some, None, refl, ap, inl, inr, sym, ◌∙◌}
+use Rattle.std.proofs.{lemmas.Bool.{cases_Bool, false≢true}, lemmas.Bool.Decides.Decides-eqb}
 use Rattle.std.specs.Prelude.{if◌then◌else◌}
-use Rattle.std.proofs.lemmas.Bool.{cases_Bool, false≢true}
-use Rattle.std.proofs.lemmas.Bool.Decides.{Decides-eqb}
 use Rattle.wax_facts.specs.CopySizes.{SizesOfCopies}
 
 the_same : (m n : ℕ) → Some m ≡ Some n → m ≡ n

@@ -3,14 +3,10 @@ use Rattle.std.proofs.Common.{Bool, List, None, Option, Some, [], false, inl, in
 use Rattle.std.proofs.Common.{◌∙◌, ◌≡◌}
 use Rattle.wax_query.specs.Components.{EndsWithSlash}
 use Rattle.wax_token.specs.Syntax.{Tree, Trees, alternation, class, concatenation, leaf, literal, more, none}
-use Rattle.wax_token.specs.Syntax.{one, repetition, separator, tree, zero_or_more}
-use Rattle.wax_facts.specs.InvariantText.{Text}
-use Rattle.wax_facts.specs.Orderly.{IsSome}
-use Rattle.wax_facts.specs.Prefix.{Cut, taken}
-use Rattle.wax_token.specs.Kinds.{is_separator}
+use Rattle.wax_token.specs.{Syntax.{one, repetition, separator, tree, zero_or_more}, Kinds.is_separator}
+use Rattle.wax_facts.specs.{InvariantText.Text, Orderly.IsSome, Prefix.{Cut, taken}}
 use Rattle.wax_facts.specs.Rest.{after, begins_with_tree}
-use Rattle.wax_facts.proofs.Endings.{ends_append}
-use Rattle.wax_facts.proofs.Truths.{true_false}
+use Rattle.wax_facts.proofs.{Endings.ends_append, Truths.true_false}
 
 abbrev pub EndsAt : {A : Type 0} → Trees A → Option (ℕ × List ℕ) → Type 0
 EndsAt ts None = Unit {0}

@@ -2,22 +2,15 @@
 use Rattle.std.proofs.Common.{List, None, Option, Some, [], ap, append-nil, arith, false, inl, inr, refl}
 use Rattle.std.proofs.Common.{subst, suc, sym, true, zero, ℕ, ◌++◌, ◌∙◌, ◌≡◌, ◌≢◌}
 use Rattle.wax_query.specs.Components.{EndsWithSlash}
-use Rattle.wax_token.specs.Syntax.{Tree, Trees, more, none}
+use Rattle.wax_token.specs.{Syntax.{Tree, Trees, more, none}, Kinds.is_boundary_leaf}
 use Rattle.wax_facts.specs.Situated.{first_starts_in}
-use Rattle.wax_token.specs.Kinds.{is_boundary_leaf}
 use Rattle.wax_facts.specs.Orderly.{ApartEach, FullEach, IsSome, Orderly, WordedEach}
 use Rattle.wax_facts.specs.Prefix.{Cut, Prefix, PrefixOf, opened, or_nothing}
-use Rattle.wax_facts.specs.Rest.{after, begins_with_tree}
-use Rattle.wax_facts.specs.inner.Cuts.{IsFree}
-use Rattle.wax_facts.proofs.CutEnds.{ends_at}
-use Rattle.wax_facts.proofs.Endings.{ends_back}
-use Rattle.wax_facts.proofs.Fronts.{FrontText, cut_text}
-use Rattle.wax_facts.proofs.Lists.{nil_left}
+use Rattle.wax_facts.specs.{Rest.{after, begins_with_tree}, inner.Cuts.IsFree}
+use Rattle.wax_facts.proofs.{CutEnds.ends_at, Endings.ends_back, Fronts.{FrontText, cut_text}, Lists.nil_left}
 use Rattle.wax_facts.proofs.NoTree.{begins_in, first_no_tree, where_some}
-use Rattle.wax_facts.proofs.OpenedApart.{opened_apart, opened_worded}
-use Rattle.wax_facts.proofs.OpenedMeans.{opened_full}
-use Rattle.wax_facts.proofs.TextEnds.{text_ends, text_some}
-use Rattle.wax_facts.proofs.Truths.{true_false}
+use Rattle.wax_facts.proofs.{OpenedApart.{opened_apart, opened_worded}, OpenedMeans.opened_full}
+use Rattle.wax_facts.proofs.{TextEnds.{text_ends, text_some}, Truths.true_false}
 
 front_free : {A : Type 0} (n : ℕ) (ts : Trees A) (p : List ℕ) → FullEach ts → WordedEach ts → ApartEach ts
     → FrontText (suc n) ts p →

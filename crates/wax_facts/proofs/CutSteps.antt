@@ -1,12 +1,8 @@
 -- The cut of a list, token by token.
 use Rattle.std.proofs.Common.{◌≡◌, ℕ, suc, ◌+◌, true, false, List, [], ◌++◌, Option, Some, None, refl, sym}
-use Rattle.std.proofs.Common.{◌∙◌, ap, subst, inl, inr}
-use Rattle.std.proofs.Common.{arith, append_assoc, append-nil}
-use Rattle.wax_token.specs.Syntax.{Tree, Trees, none, more}
-use Rattle.wax_facts.specs.InvariantText.{Text, Variant}
-use Rattle.wax_token.specs.Kinds.{is_tree_wildcard}
-use Rattle.wax_facts.specs.Prefix.{taken, Cut, CutBefore, or_nothing}
-use Rattle.wax_token.specs.Kinds.{is_separator}
+use Rattle.std.proofs.Common.{◌∙◌, ap, subst, inl, inr, arith, append_assoc, append-nil}
+use Rattle.wax_token.specs.{Syntax.{Tree, Trees, none, more}, Kinds.{is_tree_wildcard, is_separator}}
+use Rattle.wax_facts.specs.{InvariantText.{Text, Variant}, Prefix.{taken, Cut, CutBefore, or_nothing}}
 
 -- the cut of all, where n tokens are taken, their last `/` is followed by q, and what is left is cut so
 abbrev pub resumed : Option (ℕ × List ℕ) → ℕ → List ℕ → Option (ℕ × List ℕ) → Option (ℕ × List ℕ)

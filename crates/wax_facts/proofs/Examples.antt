@@ -3,11 +3,9 @@ use Rattle.std.proofs.Common.{◌≡◌, ℕ, true, false, List, [], ◌∷◌, 
 use Rattle.wax_query.specs.declared.query.when.When.{When}
 use Rattle.wax_query.specs.declared.query.when.When.TheVariants.{Never, Sometimes, Always}
 use Rattle.wax_token.specs.declared.token.Evaluation.TheVariants.{Eager}
-use Rattle.wax_token.specs.Syntax.{Tree, leaf, alternation, concatenation, repetition}
-use Rattle.wax_token.specs.Syntax.{literal, separator, zero_or_more, tree}
-use Rattle.wax_token.specs.Words.{trees}
-use Rattle.wax_facts.specs.Root.{root}
-use Rattle.wax_facts.specs.Exhaustive.{exhaustive}
+use Rattle.wax_token.specs.Syntax.{Tree, leaf, alternation, concatenation, repetition, literal, separator}
+use Rattle.wax_token.specs.{Syntax.{zero_or_more, tree}, Words.trees}
+use Rattle.wax_facts.specs.{Root.root, Exhaustive.exhaustive}
 
 abbrev Plain : Type 0
 Plain = Tree ℕ

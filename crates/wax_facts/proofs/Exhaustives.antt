@@ -1,13 +1,12 @@
 -- Where it is sure, what lies below each meant text is meant too.
-use Rattle.std.proofs.Common.{Bool, List, ap, append_assoc, arith, false, inl, inr, refl, suc, true, zero}
-use Rattle.std.proofs.Common.{ℕ, ◌++◌, ◌∙◌, ◌∷◌, ◌≡◌, ◌≤◌}
+use Rattle.std.proofs.Common.{Bool, List, ap, append_assoc, arith, false, inl, inr, refl, suc, true, zero, ℕ}
+use Rattle.std.proofs.Common.{◌++◌, ◌∙◌, ◌∷◌, ◌≡◌, ◌≤◌}
 use Rattle.wax_token.specs.Meaning.{Copies, LeafMeans, Means, MeansEach, MeansSome}
 use Rattle.wax_token.specs.Syntax.{Leaf, Tree, Trees, alternation, class, concatenation, leaf, literal, more}
 use Rattle.wax_token.specs.Syntax.{none, one, repetition, separator, tree, zero_or_more}
 use Rattle.wax_query.specs.declared.query.when.When.TheVariants.{Always}
 use Rattle.wax_facts.specs.Exhaustive.{exhaustive, exhaustive_last, exhaustive_some, leaf_exhaustive}
-use Rattle.wax_facts.proofs.Roots.{begins_append}
-use Rattle.wax_facts.proofs.Whens.{certain, never_always, optional_never}
+use Rattle.wax_facts.proofs.{Roots.begins_append, Whens.{certain, never_always, optional_never}}
 
 module _ (r : List ℕ) where
   abbrev Below : (List ℕ → Type 0) → List ℕ → Type 0

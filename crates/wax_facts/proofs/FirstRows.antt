@@ -1,11 +1,8 @@
 -- The first row of a table that holds.
 use Rattle.std.proofs.Common.{◌≡◌, true, false, List, [], ◌∷◌, Option, Some, None, refl, ap, inl, inr, subst}
-use Rattle.std.proofs.Common.{sym}
+use Rattle.std.proofs.{Common.sym, lemmas.Bool.cases_Bool, lemmas.List.Elements.{All-cons, All-nil}}
 use Rattle.std.specs.Prelude.{All, MatchOption, if◌then◌else◌}
-use Rattle.std.proofs.lemmas.Bool.{cases_Bool}
-use Rattle.std.proofs.lemmas.List.Elements.{All-cons, All-nil}
-use Rattle.wax_facts.specs.FirstRow.{FirstBrokenDecides, IsFirstBroken}
-use Rattle.wax_facts.specs.Rules.{first_that_holds}
+use Rattle.wax_facts.specs.{FirstRow.{FirstBrokenDecides, IsFirstBroken}, Rules.first_that_holds}
 use Rattle.wax_facts.specs.declared.rules.Row.{Row}
 
 abbrev Holds : Row → Type 0

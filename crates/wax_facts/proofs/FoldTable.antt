@@ -1,18 +1,13 @@
 -- The table of characters with one folding is in order, so a search tells whether a character is in it.
 use Rattle.std.proofs.Common.{◌≡◌, ◌≢◌, ◌↔◌, ℕ, zero, suc, ◌<◌, ◌≤◌, ◌==◌, ◌&&◌, ◌||◌, nat_lt, Bool, true}
-use Rattle.std.proofs.Common.{List, [], ◌∷◌}
-use Rattle.std.proofs.Common.{length, get_or, Result, Ok, Err, refl, sym, ◌∙◌, ap, inl, inr, arith, rules}
-use Rattle.std.proofs.Common.{true≢false, IsTrue}
-use Rattle.std.proofs.lemmas.Bool.{cases_eq, cases_lt}
-use Rattle.std.proofs.lemmas.Cmp.{ranked}
-use Rattle.std.proofs.lemmas.Bool.Decides.{nat_tests}
+use Rattle.std.proofs.Common.{List, [], ◌∷◌, length, get_or, Result, Ok, Err, refl, sym, ◌∙◌, ap, inl, inr}
+use Rattle.std.proofs.{Common.{arith, rules, true≢false, IsTrue}, lemmas.Bool.{cases_eq, cases_lt}}
+use Rattle.std.proofs.{lemmas.Cmp.ranked, lemmas.Bool.Decides.nat_tests}
 use Rattle.std.proofs.lemmas.List.Elements.{at_from_Contains, Contains-get_or}
 use Rattle.std.proofs.lemmas.List.Sorted.{IsNonDecreasingBy-from_default}
-use Rattle.std.specs.List.{HoldsAt}
-use Rattle.std.specs.List.Sorted.{IsSearchInRange, IsBinarySearchResult, IsNonDecreasingBy}
+use Rattle.std.specs.{List.HoldsAt, List.Sorted.{IsSearchInRange, IsBinarySearchResult, IsNonDecreasingBy}}
 use Rattle.std.specs.Ordering.{nat_cmp, ordering_index}
-use Rattle.std.specs.declared.cmp.Ordering.TheVariants.{Less, Equal, Greater}
-use Rattle.std.specs.Result.{is_err}
+use Rattle.std.specs.{declared.cmp.Ordering.TheVariants.{Less, Equal, Greater}, Result.is_err}
 use Rattle.unicode.specs.CaseFolding.{simple_fold, fold_pairs, IsFoldPairs}
 use Rattle.unicode.proofs.BoundLemmas.{pairs_rise, pairs_rise-fold_pairs}
 use Rattle.wax_token.specs.Meaning.{SameFold}

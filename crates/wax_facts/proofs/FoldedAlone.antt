@@ -1,7 +1,6 @@
 -- Characters that share their folding with no other.
 use Rattle.std.proofs.Common.{◌≡◌, ℕ, zero, suc, ◌+◌, ◌<◌, ◌≤◌, List, [], ◌∷◌, length, drop, get_or, sym}
-use Rattle.std.proofs.Common.{subst, arith}
-use Rattle.std.proofs.lemmas.List.{drop_all}
+use Rattle.std.proofs.{Common.{subst, arith}, lemmas.List.drop_all}
 use Rattle.wax_facts.specs.InvariantText.{FoldsAlone, AllFoldAlone}
 use Rattle.wax_facts.proofs.TextSteps.{drop_here}
 

@@ -1,16 +1,9 @@
 -- Invariant tokens are taken from the front.
 use Rattle.std.proofs.Common.{Bool, List, None, Option, Some, [], ap, append-nil, append_assoc, false, inl}
 use Rattle.std.proofs.Common.{inr, refl, subst, suc, sym, true, zero, ℕ, ◌++◌, ◌∙◌, ◌≡◌}
-use Rattle.wax_token.specs.Meaning.{MeansEach}
-use Rattle.wax_token.specs.Syntax.{Trees, more, none}
-use Rattle.wax_facts.specs.InvariantText.{Text}
-use Rattle.wax_facts.specs.Orderly.{FullEach, IsSome}
-use Rattle.wax_facts.specs.Prefix.{Cut, taken}
-use Rattle.wax_token.specs.Kinds.{is_separator}
-use Rattle.wax_facts.specs.Rest.{after}
-use Rattle.wax_facts.proofs.Lists.{same_back}
-use Rattle.wax_facts.proofs.TextMeant.{text_meant}
-use Rattle.wax_facts.proofs.TextSound.{text_sound}
+use Rattle.wax_token.specs.{Meaning.MeansEach, Syntax.{Trees, more, none}, Kinds.is_separator}
+use Rattle.wax_facts.specs.{InvariantText.Text, Orderly.{FullEach, IsSome}, Prefix.{Cut, taken}, Rest.after}
+use Rattle.wax_facts.proofs.{Lists.same_back, TextMeant.text_meant, TextSound.text_sound}
 
 abbrev pub FrontText : {A : Type 0} → ℕ → Trees A → List ℕ → Type 0
 FrontText zero ts p = p ≡ []

@@ -1,10 +1,9 @@
 -- Which sub-glob the rest belongs to.
 use Rattle.std.proofs.Common.{◌≡◌, ℕ, zero, suc, ◌-◌, ◌<◌, ◌≤◌, ◌||◌, nat_lt, Bool, true, false, List, []}
-use Rattle.std.proofs.Common.{◌∷◌, ◌++◌, length, Option, Some, None, if◌then◌else◌}
-use Rattle.std.proofs.Common.{refl, sym, ◌∙◌, ap, subst, arith, rules, length-append, drop, min}
+use Rattle.std.proofs.Common.{◌∷◌, ◌++◌, length, Option, Some, None, if◌then◌else◌, refl, sym, ◌∙◌, ap, subst}
+use Rattle.std.proofs.Common.{arith, rules, length-append, drop, min}
 use Rattle.wax_token.specs.Syntax.{tree_size, trees_size, Tree, leaf, alternation, concatenation, repetition}
-use Rattle.wax_token.specs.Syntax.{Trees, none, more}
-use Rattle.wax_token.specs.Words.{members, trees}
+use Rattle.wax_token.specs.{Syntax.{Trees, none, more}, Words.{members, trees}}
 use Rattle.wax_facts.specs.Prefix.{opened}
 use Rattle.wax_facts.specs.Rest.{after, begins_with_tree, entered, or_here, inner_cut, inner_last, owner}
 use Rattle.wax_facts.specs.Orderly.{Flat, FlatEach, is_token}

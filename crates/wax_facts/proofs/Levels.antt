@@ -1,7 +1,6 @@
 -- The levels of tokens, taken one after another.
 use Rattle.std.proofs.Common.{◌≡◌, ◌+◌, List, [], ◌∷◌, ◌++◌, refl, sym, ◌∙◌, ap, append_assoc, arith}
-use Rattle.wax_token.specs.Syntax.{Tree, tree_size, trees_size}
-use Rattle.wax_token.specs.Words.{trees}
+use Rattle.wax_token.specs.{Syntax.{Tree, tree_size, trees_size}, Words.trees}
 use Rattle.wax_facts.specs.Alternatives.{beside, joined, levels, levels_each}
 
 pub beside_nil : {X : Type 0} (xs : List (List X)) → beside xs [] ≡ xs

@@ -1,17 +1,12 @@
 -- The prefix of a glob is its longest literal prefix.
 use Rattle.std.proofs.Common.{◌≡◌, ◌≤◌, ◌⊎◌, ℕ, suc, Bool, true, false, List, [], ◌∷◌, ◌++◌, length, Option}
-use Rattle.std.proofs.Common.{Some, None}
-use Rattle.std.proofs.Common.{refl, sym, ap, ◌∙◌, subst, inl, inr, append-nil, append_assoc, arith}
-use Rattle.std.proofs.lemmas.Bool.{false≢true}
-use Rattle.wax_token.specs.Kinds.{is_separator, is_tree_wildcard}
-use Rattle.wax_token.specs.Syntax.{Tree, Trees, more, none}
+use Rattle.std.proofs.Common.{Some, None, refl, sym, ap, ◌∙◌, subst, inl, inr, append-nil, append_assoc}
+use Rattle.std.proofs.{Common.arith, lemmas.Bool.false≢true}
+use Rattle.wax_token.specs.{Kinds.{is_separator, is_tree_wildcard}, Syntax.{Tree, Trees, more, none}}
 use Rattle.wax_token.specs.Words.{listed, trees}
-use Rattle.wax_facts.proofs.PrefixUnique.{tree_text}
-use Rattle.wax_facts.proofs.TextUnique.{text_unique}
-use Rattle.wax_facts.proofs.Truths.{true_false}
+use Rattle.wax_facts.proofs.{PrefixUnique.tree_text, TextUnique.text_unique, Truths.true_false}
 use Rattle.wax_facts.specs.Longest.{IsBorder, IsLiteralPrefix, IsLongestPrefix}
-use Rattle.wax_facts.specs.InvariantText.{Text, TextOfEach}
-use Rattle.wax_facts.specs.Joined.{Front}
+use Rattle.wax_facts.specs.{InvariantText.{Text, TextOfEach}, Joined.Front}
 use Rattle.wax_facts.specs.Prefix.{Cut, IsRooted, Prefix, PrefixOf, opened, or_nothing, taken}
 
 front_nothing : (m n : ℕ) (q p : List ℕ) → m ≡ 0 → q ≡ [] → (m ≤ n) × Front q p

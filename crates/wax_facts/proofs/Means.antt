@@ -1,13 +1,13 @@
 -- A token means a text where one of its alternatives does.
-use Rattle.std.proofs.Common.{◌≡◌, ℕ, ◌≤◌, ◌==◌, ◌⊎◌, Bool, true, false, List, [], ◌∷◌, ◌++◌}
-use Rattle.std.proofs.Common.{Option, Some, None, if◌then◌else◌, refl, sym, subst, inl, inr, arith, eqb-true}
+use Rattle.std.proofs.Common.{◌≡◌, ℕ, ◌≤◌, ◌==◌, ◌⊎◌, Bool, true, false, List, [], ◌∷◌, ◌++◌, Option, Some}
+use Rattle.std.proofs.Common.{None, if◌then◌else◌, refl, sym, subst, inl, inr, arith, eqb-true}
 use Rattle.std.proofs.lemmas.Bool.{and_parts}
 use Rattle.wax_query.specs.Ranges.{AtMost}
 use Rattle.wax_token.specs.Meaning.{Copies, Means, MeansEach, MeansSome}
 use Rattle.wax_token.specs.Syntax.{Tree, leaf, alternation, concatenation, repetition, Trees, none, more}
 use Rattle.wax_token.specs.Words.{members, trees}
-use Rattle.wax_facts.specs.Alternatives.{MeansOneOf, alternatives, beside, is_exactly_one, joined}
-use Rattle.wax_facts.specs.Alternatives.{levels, levels_each}
+use Rattle.wax_facts.specs.Alternatives.{MeansOneOf, alternatives, beside, is_exactly_one, joined, levels}
+use Rattle.wax_facts.specs.Alternatives.{levels_each}
 
 -- ---- what is within a token
 pub as_members : {A : Type 0} (t : Tree A) (b a : Bool) (s : List ℕ) → Means t b a s

@@ -4,8 +4,7 @@ use Rattle.std.specs.List.{flat_map}
 use Rattle.wax_token.specs.Reads.{Span}
 use Rattle.wax_token.specs.Syntax.{Tree, Trees, alternation, concatenation, leaf, more, none, repetition}
 use Rattle.wax_facts.specs.Rules.{adjacent_boundaries, alternative_breaks, boundary_breaks, bounds_breaks}
-use Rattle.wax_facts.specs.Rules.{branch_breaks, broken, size_breaks}
-use Rattle.wax_facts.specs.Alternatives.{beside}
+use Rattle.wax_facts.specs.{Rules.{branch_breaks, broken, size_breaks}, Alternatives.beside}
 use Rattle.wax_facts.specs.Situated.{Situated, branch_levels, breadth_first, end_side, situated_levels}
 use Rattle.wax_facts.specs.Situated.{member_levels, right_of}
 use Rattle.wax_facts.proofs.Lists.{nil_left, nil_right}

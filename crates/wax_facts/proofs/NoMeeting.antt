@@ -2,15 +2,13 @@
 use Rattle.std.proofs.Common.{Bool, None, Some, [], false, if◌then◌else◌, refl, sym, true, ◌&&◌, ◌∙◌, ◌≡◌}
 use Rattle.wax_token.specs.Reads.{Span}
 use Rattle.wax_token.specs.Syntax.{Leaf, Tree, Trees, alternation, concatenation, leaf, more, none}
-use Rattle.wax_token.specs.Syntax.{repetition}
-use Rattle.wax_token.specs.Words.{annotation_of, members}
+use Rattle.wax_token.specs.{Syntax.repetition, Words.{annotation_of, members}}
+use Rattle.wax_token.specs.Kinds.{is_such, is_boundary_leaf}
 use Rattle.wax_facts.specs.Rules.{adjacent_span, alternative_breaks, boundary_break, side_has_boundary}
-use Rattle.wax_token.specs.Kinds.{is_such}
-use Rattle.wax_query.specs.Spans.{span_union}
-use Rattle.wax_facts.specs.Situated.{Situated, ends_in, first_starts_in, last_ends_in}
-use Rattle.wax_token.specs.Kinds.{is_boundary_leaf}
-use Rattle.wax_facts.specs.Situated.{some_ends_in, some_starts_in, starts_with_leaf}
+use Rattle.wax_facts.specs.Situated.{Situated, ends_in, first_starts_in, last_ends_in, some_ends_in}
+use Rattle.wax_facts.specs.Situated.{some_starts_in, starts_with_leaf}
 use Rattle.wax_facts.specs.Orderly.{Flat, FlatEach, FlatSome, is_token}
+use Rattle.wax_query.specs.Spans.{span_union}
 use Rattle.wax_facts.proofs.BareSides.{Bare, FirstBare, LastBare, alternative_parts, bare_of, repetition_bare}
 use Rattle.wax_facts.proofs.NoBreak.{Lawful, LawfulEach, LawfulSome, after_this, before_these}
 use Rattle.wax_facts.proofs.Truths.{and_right, false_or, true_false}

@@ -2,9 +2,8 @@
 use Rattle.std.proofs.Common.{ap, false, refl, true, ◌≡◌}
 use Rattle.wax_token.specs.Syntax.{Leaf, Tree, Trees, alternation, class, concatenation, leaf, literal, more}
 use Rattle.wax_token.specs.Syntax.{none, one, repetition, separator, tree, zero_or_more}
-use Rattle.wax_facts.specs.Situated.{first_starts_in, some_starts_in, starts_with_leaf}
 use Rattle.wax_token.specs.Kinds.{is_boundary_leaf}
-use Rattle.wax_facts.specs.Orderly.{IsSome}
+use Rattle.wax_facts.specs.{Situated.{first_starts_in, some_starts_in, starts_with_leaf}, Orderly.IsSome}
 use Rattle.wax_facts.specs.Rest.{begins_with_tree}
 use Rattle.wax_facts.specs.inner.Cuts.{first_starts_with_tree, some_starts_with_tree, starts_with_tree}
 use Rattle.wax_facts.proofs.Trees.{BeginsWithTree, begins_so}

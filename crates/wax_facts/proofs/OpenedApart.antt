@@ -1,10 +1,9 @@
 -- What the rules keep of a glob they keep of its opened list.
 use Rattle.std.proofs.Common.{Bool, None, Some, false, refl, suc, true, zero, ◌||◌, ◌∙◌, ◌≡◌}
 use Rattle.wax_token.specs.Syntax.{Tree, Trees, alternation, concatenation, leaf, more, none, repetition}
-use Rattle.wax_facts.specs.Situated.{first_starts_in, starts_with_leaf}
 use Rattle.wax_token.specs.Kinds.{is_boundary_leaf}
-use Rattle.wax_facts.specs.Orderly.{Apart, ApartEach, Worded, WordedEach}
-use Rattle.wax_facts.specs.Prefix.{opened, opened_last}
+use Rattle.wax_facts.specs.Situated.{first_starts_in, starts_with_leaf}
+use Rattle.wax_facts.specs.{Orderly.{Apart, ApartEach, Worded, WordedEach}, Prefix.{opened, opened_last}}
 
 mutual
   pub opened_worded : {A : Type 0} (t : Tree A) → Worded t → WordedEach (opened t)

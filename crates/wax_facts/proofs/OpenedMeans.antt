@@ -3,8 +3,7 @@ use Rattle.std.proofs.Common.{Bool, List, None, Some, ap, append-nil, arith, inl
 use Rattle.std.proofs.Common.{zero, ℕ, ◌++◌, ◌∙◌, ◌≡◌}
 use Rattle.wax_token.specs.Meaning.{Means, MeansEach}
 use Rattle.wax_token.specs.Syntax.{Tree, Trees, alternation, concatenation, leaf, more, none, repetition}
-use Rattle.wax_facts.specs.Orderly.{Full, FullEach, IsSome}
-use Rattle.wax_facts.specs.Prefix.{opened, opened_last}
+use Rattle.wax_facts.specs.{Orderly.{Full, FullEach, IsSome}, Prefix.{opened, opened_last}}
 use Rattle.wax_facts.proofs.OneCopy.{one_copy}
 
 put : {A : Type 0} (t : Tree A) (ts : Trees A) → IsSome ts → (b f : Bool) (s x y : List ℕ) → s ≡ x ++ y

@@ -5,20 +5,15 @@ use Rattle.wax_query.specs.Components.{EndsWithSlash}
 use Rattle.wax_token.specs.Meaning.{Means, MeansEach}
 use Rattle.wax_token.specs.Syntax.{Tree, Trees, alternation, class, concatenation, leaf, literal, more, none}
 use Rattle.wax_token.specs.Syntax.{one, repetition, separator, tree, zero_or_more}
-use Rattle.wax_facts.specs.Joined.{begins_with_leaf, path}
-use Rattle.wax_facts.specs.Orderly.{Full, FullEach, IsSome}
+use Rattle.wax_facts.specs.{Joined.{begins_with_leaf, path}, Orderly.{Full, FullEach, IsSome}}
 use Rattle.wax_facts.specs.Prefix.{Cut, IsRooted, Prefix, PrefixOf, opened, or_nothing}
 use Rattle.wax_facts.specs.Rest.{after, begins_with_tree, unrooted}
 use Rattle.wax_facts.specs.inner.Cuts.{IsFree, first_starts_with_tree}
-use Rattle.wax_facts.proofs.CutEnds.{ends_at}
-use Rattle.wax_facts.proofs.Fronts.{FrontText, cut_text, later, take_from, take_to}
-use Rattle.wax_facts.proofs.Moved.{each_moved}
-use Rattle.wax_facts.proofs.OpenedMeans.{opened_from, opened_full, opened_to}
+use Rattle.wax_facts.proofs.{CutEnds.ends_at, Fronts.{FrontText, cut_text, later, take_from, take_to}}
+use Rattle.wax_facts.proofs.{Moved.each_moved, OpenedMeans.{opened_from, opened_full, opened_to}}
 use Rattle.wax_facts.proofs.Paths.{path_bare, path_ends}
 use Rattle.wax_facts.proofs.Trees.{BeginsWithTree, begins_so, unrooted_first, unrooted_from, unrooted_plain}
-use Rattle.wax_facts.proofs.Trees.{unrooted_to}
-use Rattle.wax_facts.proofs.Truths.{true_false}
-use Rattle.wax_facts.proofs.Whens.{never_always}
+use Rattle.wax_facts.proofs.{Trees.unrooted_to, Truths.true_false, Whens.never_always}
 
 -- a token that begins with no `**` is no `**`
 no_tree : {A : Type 0} (ts : Trees A) → first_starts_with_tree ts ≡ false → begins_with_tree ts ≡ false

@@ -2,11 +2,8 @@
 use Rattle.std.proofs.Common.{◌≡◌, ◌≢◌, ℕ, zero, suc, List, [], ◌∷◌, length, Option, Some, None, slice_get}
 use Rattle.std.proofs.Common.{refl, sym, ◌∙◌, ap, subst, arith}
 use Rattle.wax_token.specs.Syntax.{Tree, leaf, alternation, concatenation, repetition, Trees, none, more}
-use Rattle.wax_token.specs.Words.{members, trees}
-use Rattle.wax_token.specs.Kinds.{is_tree_wildcard}
-use Rattle.wax_facts.specs.Prefix.{opened, opened_last}
-use Rattle.wax_facts.specs.Rest.{begins_with_tree}
-use Rattle.wax_facts.specs.inner.Bodies.{open_body}
+use Rattle.wax_token.specs.{Words.{members, trees}, Kinds.is_tree_wildcard}
+use Rattle.wax_facts.specs.{Prefix.{opened, opened_last}, Rest.begins_with_tree, inner.Bodies.open_body}
 use Rattle.wax_facts.specs.inner.Opening.{IsOpened}
 
 pub closed_branches : {A : Type 0} (a : A) (ts : List (Tree A)) → length ts ≢ 1

@@ -2,10 +2,8 @@
 use Rattle.std.proofs.Common.{◌≡◌, ◌≢◌, ◌+◌, List, [], ◌∷◌, Some, None, length, refl, ap}
 use Rattle.wax_token.specs.Kinds.{alternation_of}
 use Rattle.wax_token.specs.Syntax.{Tree, leaf, alternation, concatenation, repetition, Trees, tree_size}
-use Rattle.wax_token.specs.Syntax.{trees_size}
-use Rattle.wax_token.specs.Words.{trees}
-use Rattle.wax_facts.specs.Alternatives.{levels, levels_each}
-use Rattle.wax_facts.specs.inner.Opened.{own_levels}
+use Rattle.wax_token.specs.{Syntax.trees_size, Words.trees}
+use Rattle.wax_facts.specs.{Alternatives.{levels, levels_each}, inner.Opened.own_levels}
 
 -- alternations and concatenations of none or of several are no other token
 pub own_alternation : {A : Type 0} (a : A) (ts : List (Tree A)) → length ts ≢ 1 →

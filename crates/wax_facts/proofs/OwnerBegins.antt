@@ -3,11 +3,9 @@ use Rattle.std.proofs.Common.{Bool, None, Option, Some, ap, false, refl, subst, 
 use Rattle.std.proofs.Common.{◌≡◌}
 use Rattle.wax_token.specs.Syntax.{Tree, Trees, alternation, concatenation, leaf, more, none, repetition}
 use Rattle.wax_token.specs.Words.{members}
-use Rattle.wax_facts.specs.Orderly.{Flat, FlatEach, is_token}
-use Rattle.wax_facts.specs.Prefix.{opened, opened_last}
+use Rattle.wax_facts.specs.{Orderly.{Flat, FlatEach, is_token}, Prefix.{opened, opened_last}}
 use Rattle.wax_facts.specs.Rest.{after, begins_with_tree, entered, inner_cut, inner_last, or_here}
-use Rattle.wax_facts.proofs.Owners.{after_none}
-use Rattle.wax_facts.proofs.Truths.{false_true}
+use Rattle.wax_facts.proofs.{Owners.after_none, Truths.false_true}
 
 abbrev pub Tells : {A : Type 0} → Trees A → Type 0
 Tells xs = begins_with_tree (opened_last xs) ≡ true → begins_with_tree xs ≡ true

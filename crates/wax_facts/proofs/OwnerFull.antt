@@ -2,8 +2,7 @@
 use Rattle.std.proofs.Common.{Bool, None, Option, Some, false, suc, true, zero, ℕ}
 use Rattle.wax_token.specs.Syntax.{Tree, Trees, alternation, concatenation, leaf, more, none, repetition}
 use Rattle.wax_token.specs.Words.{members}
-use Rattle.wax_facts.specs.Orderly.{Full, FullEach}
-use Rattle.wax_facts.specs.Prefix.{opened}
+use Rattle.wax_facts.specs.{Orderly.{Full, FullEach}, Prefix.opened}
 use Rattle.wax_facts.specs.Rest.{after, begins_with_tree, entered, inner_cut, inner_last, or_here}
 
 pub members_full : {A : Type 0} (t : Tree A) → Full t → FullEach (members t)

@@ -2,8 +2,7 @@
 use Rattle.std.proofs.Common.{Bool, None, Option, Some, ap, false, refl, suc, sym, true, zero, ℕ, ◌∙◌, ◌≡◌}
 use Rattle.wax_token.specs.Syntax.{Tree, Trees, alternation, concatenation, leaf, more, none, repetition}
 use Rattle.wax_token.specs.Words.{members}
-use Rattle.wax_facts.specs.Orderly.{Flat, FlatEach, is_token}
-use Rattle.wax_facts.specs.Prefix.{opened, opened_last}
+use Rattle.wax_facts.specs.{Orderly.{Flat, FlatEach, is_token}, Prefix.{opened, opened_last}}
 use Rattle.wax_facts.specs.Rest.{after, begins_with_tree, entered, inner_cut, inner_last, or_here, owner}
 
 pub after_none : {A : Type 0} (n : ℕ) (ts : Trees A) → ts ≡ none → after n ts ≡ none

@@ -1,23 +1,15 @@
 -- What is known of the two parts of a glob.
 use Rattle.std.proofs.Common.{◌≡◌, ◌↔◌, ◌⊎◌, ℕ, false, List, Option, Some, None, IfSome, MatchOption, refl}
 use Rattle.std.proofs.Common.{sym, subst}
-use Rattle.wax_token.specs.Meaning.{Means}
-use Rattle.wax_token.specs.Reads.{Span}
-use Rattle.wax_token.specs.Syntax.{Tree, concatenation, Trees, none, more}
+use Rattle.wax_token.specs.{Meaning.Means, Reads.Span, Syntax.{Tree, concatenation, Trees, none, more}}
 use Rattle.wax_token.specs.Words.{members}
-use Rattle.wax_facts.specs.Joined.{begins_with_leaf, path}
-use Rattle.wax_facts.specs.Orderly.{Flat, Full, FullEach, IsSome, Orderly}
+use Rattle.wax_facts.specs.{Joined.{begins_with_leaf, path}, Orderly.{Flat, Full, FullEach, IsSome, Orderly}}
 use Rattle.wax_facts.specs.Partition.{BeginsPlainly, IsPartition, IsSplit, MeansAfter, SplitsAll, glob_up_to}
-use Rattle.wax_facts.specs.Prefix.{IsRooted, opened}
-use Rattle.wax_facts.specs.Rest.{after, inner_cut, owner, rest, unrooted}
-use Rattle.wax_facts.proofs.BranchRest.{branch_rest}
-use Rattle.wax_facts.proofs.OpenedMeans.{last_some}
-use Rattle.wax_facts.proofs.OwnerFull.{after_full, full_here, inner_full, members_full}
-use Rattle.wax_facts.proofs.Owners.{owner_opened}
-use Rattle.wax_facts.proofs.PrefixWhole.{prefix_whole}
-use Rattle.wax_facts.proofs.RestOrderly.{rest_orderly, unrooted_some}
-use Rattle.wax_facts.proofs.Splits.{orderly_rest, orderly_split}
-use Rattle.wax_facts.proofs.WrittenRest.{not_none}
+use Rattle.wax_facts.specs.{Prefix.{IsRooted, opened}, Rest.{after, inner_cut, owner, rest, unrooted}}
+use Rattle.wax_facts.proofs.{BranchRest.branch_rest, OpenedMeans.last_some}
+use Rattle.wax_facts.proofs.{OwnerFull.{after_full, full_here, inner_full, members_full}, Owners.owner_opened}
+use Rattle.wax_facts.proofs.{PrefixWhole.prefix_whole, RestOrderly.{rest_orderly, unrooted_some}}
+use Rattle.wax_facts.proofs.{Splits.{orderly_rest, orderly_split}, WrittenRest.not_none}
 
 -- ---- tokens are left of the opened list exactly where the rest has some
 some_unrooted : {A : Type 0} (ts : Trees A) → IsSome (unrooted ts) → IsSome ts

@@ -4,13 +4,10 @@ use Rattle.std.proofs.Common.{inr, refl, subst, suc, sym, true, zero, ℕ, ◌++
 use Rattle.wax_query.specs.Components.{BeginsWithSlash}
 use Rattle.wax_token.specs.Meaning.{Means, MeansEach}
 use Rattle.wax_token.specs.Syntax.{Tree, Trees, alternation, concatenation, leaf, more, none, repetition}
-use Rattle.wax_facts.specs.Prefix.{Cut, IsRooted, Prefix, opened, opened_last, or_nothing}
 use Rattle.wax_token.specs.Kinds.{is_separator}
-use Rattle.wax_facts.specs.Prefix.{taken}
+use Rattle.wax_facts.specs.Prefix.{Cut, IsRooted, Prefix, opened, opened_last, or_nothing, taken}
 use Rattle.wax_facts.specs.Joined.{Front}
-use Rattle.wax_facts.proofs.OneCopy.{one_copy}
-use Rattle.wax_facts.proofs.Roots.{root_sound}
-use Rattle.wax_facts.proofs.TextSound.{text_sound}
+use Rattle.wax_facts.proofs.{OneCopy.one_copy, Roots.root_sound, TextSound.text_sound}
 
 -- one piece for each token, matched with or without something after it
 abbrev pub Loosely : {A : Type 0} → Trees A → Bool → List ℕ → Type 0

@@ -2,12 +2,9 @@
 use Rattle.std.proofs.Common.{List, Option, ap, inl, inr, sym, true, ℕ, ◌∙◌, ◌≡◌}
 use Rattle.wax_token.specs.Syntax.{Tree, Trees, alternation, class, concatenation, leaf, literal, more, none}
 use Rattle.wax_token.specs.Syntax.{one, repetition, separator, tree, zero_or_more}
-use Rattle.wax_facts.specs.InvariantText.{Text}
-use Rattle.wax_token.specs.Kinds.{is_tree_wildcard}
-use Rattle.wax_facts.specs.Prefix.{Cut, Prefix, PrefixOf, opened, or_nothing, taken}
-use Rattle.wax_token.specs.Kinds.{is_separator}
-use Rattle.wax_facts.proofs.TextUnique.{text_unique}
-use Rattle.wax_facts.proofs.Truths.{true_false}
+use Rattle.wax_token.specs.Kinds.{is_tree_wildcard, is_separator}
+use Rattle.wax_facts.specs.{InvariantText.Text, Prefix.{Cut, Prefix, PrefixOf, opened, or_nothing, taken}}
+use Rattle.wax_facts.proofs.{TextUnique.text_unique, Truths.true_false}
 
 -- a `**` has no invariant text
 pub tree_text : {A : Type 0} (t : Tree A) (x : List ℕ) → is_tree_wildcard t ≡ true → Text t x → ⊥

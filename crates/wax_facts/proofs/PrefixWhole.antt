@@ -1,14 +1,10 @@
 -- Where no token is left, the glob means the prefix alone.
 use Rattle.std.proofs.Common.{List, None, Option, Some, false, inl, inr, subst, suc, sym, zero, ℕ, ◌↔◌, ◌≡◌}
-use Rattle.wax_token.specs.Meaning.{Means, MeansEach}
-use Rattle.wax_token.specs.Syntax.{Tree, Trees, more, none}
-use Rattle.wax_facts.specs.InvariantText.{TextOfEach}
-use Rattle.wax_facts.specs.Orderly.{Full, FullEach, IsSome}
-use Rattle.wax_facts.specs.Prefix.{Cut, Prefix, PrefixOf, opened, or_nothing}
-use Rattle.wax_facts.specs.Rest.{after}
+use Rattle.wax_token.specs.{Meaning.{Means, MeansEach}, Syntax.{Tree, Trees, more, none}}
+use Rattle.wax_facts.specs.{InvariantText.TextOfEach, Orderly.{Full, FullEach, IsSome}}
+use Rattle.wax_facts.specs.{Prefix.{Cut, Prefix, PrefixOf, opened, or_nothing}, Rest.after}
 use Rattle.wax_facts.proofs.Fronts.{FrontText, cut_text}
-use Rattle.wax_facts.proofs.OpenedMeans.{opened_from, opened_full, opened_some, opened_to}
-use Rattle.wax_facts.proofs.Seams.{front_all}
+use Rattle.wax_facts.proofs.{OpenedMeans.{opened_from, opened_full, opened_some, opened_to}, Seams.front_all}
 use Rattle.wax_facts.proofs.TextMeant.{each_meant}
 
 front_each : {A : Type 0} (n : ℕ) (ts : Trees A) (p : List ℕ) → FrontText n ts p

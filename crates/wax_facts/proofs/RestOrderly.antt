@@ -1,15 +1,11 @@
 -- The rest of an orderly glob is orderly.
 use Rattle.std.proofs.Common.{Bool, None, Option, Some, false, refl, subst, suc, true, zero, ℕ}
 use Rattle.wax_token.specs.Syntax.{Tree, Trees, alternation, class, concatenation, leaf, literal, more, none}
-use Rattle.wax_token.specs.Syntax.{one, repetition, separator, tree, zero_or_more}
-use Rattle.wax_token.specs.Words.{members}
-use Rattle.wax_facts.specs.Orderly.{IsSome, Orderly, OrderlyEach}
-use Rattle.wax_facts.specs.Prefix.{opened}
+use Rattle.wax_token.specs.{Syntax.{one, repetition, separator, tree, zero_or_more}, Words.members}
+use Rattle.wax_facts.specs.{Orderly.{IsSome, Orderly, OrderlyEach}, Prefix.opened}
 use Rattle.wax_facts.specs.Rest.{after, begins_with_tree, entered, inner_cut, inner_last, or_here, owner}
-use Rattle.wax_facts.specs.Rest.{rest}
-use Rattle.wax_facts.specs.Rest.{unrooted}
-use Rattle.wax_facts.proofs.Owners.{owner_opened}
-use Rattle.wax_facts.proofs.WrittenRest.{not_none}
+use Rattle.wax_facts.specs.Rest.{rest, unrooted}
+use Rattle.wax_facts.proofs.{Owners.owner_opened, WrittenRest.not_none}
 
 abbrev OrderlyOwner : {A : Type 0} → Option (Tree A × ℕ) → Type 0
 OrderlyOwner None = Unit {0}

@@ -1,10 +1,7 @@
 -- The rest of a glob by one step into its last sub-glob.
 use Rattle.std.proofs.Common.{◌≡◌, ℕ, List, length, drop, min, Some, None, sym, ◌∙◌, ap}
-use Rattle.wax_token.specs.Reads.{Span}
-use Rattle.wax_token.specs.Syntax.{Tree, Trees}
-use Rattle.wax_token.specs.Words.{annotation_of, members, trees}
-use Rattle.wax_facts.specs.Rest.{after, owner}
-use Rattle.wax_facts.specs.Orderly.{Flat}
+use Rattle.wax_token.specs.{Reads.Span, Syntax.{Tree, Trees}, Words.{annotation_of, members, trees}}
+use Rattle.wax_facts.specs.{Rest.{after, owner}, Orderly.Flat}
 use Rattle.wax_facts.specs.inner.Bodies.{IsInside, AreRestTokens, inside, last_body}
 use Rattle.wax_facts.proofs.Insides.{after_drop, drop_min, inside_body, last_flat, owner_of, owner_step}
 

@@ -1,11 +1,10 @@
 -- Where the root is sure, each text that is meant begins with `/`.
 use Rattle.std.proofs.Common.{Bool, List, [], ap, arith, false, inl, inr, suc, true, zero, ℕ, ◌++◌, ◌∙◌, ◌≡◌}
 use Rattle.std.proofs.Common.{◌≤◌}
-use Rattle.wax_query.specs.Components.{BeginsWithSlash}
+use Rattle.wax_query.specs.{Components.BeginsWithSlash, declared.query.when.When.TheVariants.Always}
 use Rattle.wax_token.specs.Meaning.{Copies, LeafMeans, Means, MeansEach, MeansSome}
 use Rattle.wax_token.specs.Syntax.{Leaf, Tree, Trees, alternation, class, concatenation, leaf, literal, more}
 use Rattle.wax_token.specs.Syntax.{none, one, repetition, separator, tree, zero_or_more}
-use Rattle.wax_query.specs.declared.query.when.When.TheVariants.{Always}
 use Rattle.wax_facts.specs.Root.{leaf_root, root, root_first, root_some}
 use Rattle.wax_facts.proofs.Whens.{certain, never_always, optional_never}
 

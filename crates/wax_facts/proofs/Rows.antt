@@ -1,7 +1,6 @@
 -- Worked examples: the trees that expressions spell, and their alternatives.
 use Rattle.std.proofs.Common.{◌≡◌, ℕ, false, List, [], ◌∷◌, None, Option, Some, refl, codes}
-use Rattle.wax_token.specs.Syntax.{Tree, leaf, alternation, concatenation, repetition, literal}
-use Rattle.wax_token.specs.Words.{trees}
+use Rattle.wax_token.specs.{Syntax.{Tree, leaf, alternation, concatenation, repetition, literal}, Words.trees}
 use Rattle.wax_facts.specs.Alternatives.{alternatives}
 
 -- tokens, without what the parser knows of them

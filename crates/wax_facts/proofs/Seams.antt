@@ -2,19 +2,12 @@
 use Rattle.std.proofs.Common.{Bool, List, None, Option, Some, [], ap, append-nil, false, inl, inr, refl}
 use Rattle.std.proofs.Common.{subst, suc, sym, true, zero, ℕ, ◌++◌, ◌∙◌, ◌≡◌, ◌⊎◌}
 use Rattle.wax_query.specs.Components.{BeginsWithSlash, EndsWithSlash}
-use Rattle.wax_token.specs.Meaning.{Means, MeansEach}
-use Rattle.wax_token.specs.Syntax.{Tree, Trees, leaf, more, none, tree}
-use Rattle.wax_facts.specs.Joined.{IsSeam}
-use Rattle.wax_facts.specs.Orderly.{IsSome}
+use Rattle.wax_token.specs.{Meaning.{Means, MeansEach}, Syntax.{Tree, Trees, leaf, more, none, tree}}
+use Rattle.wax_facts.specs.{Joined.{IsSeam, Front}, Orderly.IsSome}
 use Rattle.wax_facts.specs.Prefix.{Cut, Prefix, PrefixOf, opened, or_nothing}
 use Rattle.wax_facts.specs.Rest.{after, begins_with_tree}
-use Rattle.wax_facts.proofs.CutEnds.{ends_at}
-use Rattle.wax_facts.proofs.Fronts.{FrontText, cut_text, take_to}
-use Rattle.wax_facts.proofs.Lists.{same_nil}
-use Rattle.wax_facts.proofs.OpenedMeans.{opened_meant}
-use Rattle.wax_facts.specs.Joined.{Front}
-use Rattle.wax_facts.proofs.PrefixSound.{prefix_sound}
-use Rattle.wax_facts.proofs.TextSound.{text_sound}
+use Rattle.wax_facts.proofs.{CutEnds.ends_at, Fronts.{FrontText, cut_text, take_to}, Lists.same_nil}
+use Rattle.wax_facts.proofs.{OpenedMeans.opened_meant, PrefixSound.prefix_sound, TextSound.text_sound}
 use Rattle.wax_facts.proofs.Trees.{BeginsWithTree, begins_so}
 
 abbrev pub Seam : List ℕ → List ℕ → Type 0

@@ -2,15 +2,10 @@
 use Rattle.std.proofs.Common.{Bool, List, [], ap, append-nil, false, inl, inr, refl, rules, subst, sym, true}
 use Rattle.std.proofs.Common.{ℕ, ◌++◌, ◌==◌, ◌↔◌, ◌∙◌, ◌∷◌, ◌≡◌, ◌≢◌, ◌⊎◌}
 use Rattle.wax_query.specs.Components.{EndsWithSlash}
-use Rattle.wax_token.specs.Meaning.{Means, MeansEach}
-use Rattle.wax_token.specs.Syntax.{Tree}
-use Rattle.wax_facts.specs.Joined.{IsSeam, begins_with_leaf, path}
-use Rattle.wax_facts.specs.Orderly.{IsSome, Orderly}
-use Rattle.wax_facts.specs.Prefix.{IsRooted, Prefix, opened}
-use Rattle.wax_facts.specs.Rest.{after, rest}
-use Rattle.wax_facts.proofs.CutFree.{orderly_free}
-use Rattle.wax_facts.proofs.Paths.{path_bare, path_ends}
-use Rattle.wax_facts.proofs.Seams.{Seam, prefix_seam}
+use Rattle.wax_token.specs.{Meaning.{Means, MeansEach}, Syntax.Tree}
+use Rattle.wax_facts.specs.{Joined.{IsSeam, begins_with_leaf, path}, Orderly.{IsSome, Orderly}}
+use Rattle.wax_facts.specs.{Prefix.{IsRooted, Prefix, opened}, Rest.{after, rest}}
+use Rattle.wax_facts.proofs.{CutFree.orderly_free, Paths.{path_bare, path_ends}, Seams.{Seam, prefix_seam}}
 use Rattle.wax_facts.proofs.WrittenRest.{rest_means}
 
 abbrev Kind : List ℕ → Type 0

@@ -6,13 +6,11 @@ use Rattle.wax_query.specs.Components.{EndsWithSlash}
 use Rattle.wax_token.specs.Reads.{is_one_of}
 use Rattle.wax_token.specs.Syntax.{Leaf, Tree, Trees, alternation, class, concatenation, leaf, literal, more}
 use Rattle.wax_token.specs.Syntax.{none, one, repetition, separator, tree, zero_or_more}
-use Rattle.wax_facts.specs.Rules.{are_incompatible}
-use Rattle.wax_facts.specs.Situated.{ends_in, last_ends_in}
 use Rattle.wax_token.specs.Kinds.{is_boundary_leaf}
+use Rattle.wax_facts.specs.{Rules.are_incompatible, Situated.{ends_in, last_ends_in}}
 use Rattle.wax_facts.specs.InvariantText.{LeafText, Text, TextOfEach, times}
 use Rattle.wax_facts.specs.Orderly.{Apart, ApartEach, Full, FullEach, IsSome, Worded, WordedEach, WordedLeaf}
-use Rattle.wax_facts.proofs.Endings.{ends_back, nil_ends, one_ends}
-use Rattle.wax_facts.proofs.Lists.{cons_nil, nil_left}
+use Rattle.wax_facts.proofs.{Endings.{ends_back, nil_ends, one_ends}, Lists.{cons_nil, nil_left}}
 use Rattle.wax_facts.proofs.Truths.{or_right, true_false, true_or}
 
 word_ends : (t u : List ℕ) → t ≡ u ++ 47 ∷ [] → list_any (is_one_of (47 ∷ 92 ∷ [])) t ≡ false → ⊥

@@ -3,8 +3,8 @@ use Rattle.std.proofs.Common.{Bool, List, [], ap, append-nil, arith, false, inl,
 use Rattle.std.proofs.Common.{subst, suc, sym, true, zero, ℕ, ◌&&◌, ◌++◌, ◌==◌, ◌∙◌, ◌∷◌, ◌≡◌, ◌≢◌}
 use Rattle.std.specs.List.{list_all, list_any}
 use Rattle.wax_query.specs.Ranges.{AtMost}
-use Rattle.wax_token.specs.Meaning.{Copies, LeafMeans, Means, MeansEach, SameFold, SameText}
-use Rattle.wax_token.specs.Meaning.{in_archetype, in_class, is_forward}
+use Rattle.wax_token.specs.Meaning.{Copies, LeafMeans, Means, MeansEach, SameFold, SameText, in_archetype}
+use Rattle.wax_token.specs.Meaning.{in_class, is_forward}
 use Rattle.wax_token.specs.Syntax.{Leaf, Tree, Trees, alternation, class, concatenation, leaf, literal, more}
 use Rattle.wax_token.specs.Syntax.{none, one, repetition, separator, tree, zero_or_more}
 use Rattle.wax_token.specs.declared.token.Archetype.{Archetype}

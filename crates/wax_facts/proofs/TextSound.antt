@@ -3,14 +3,13 @@ use Rattle.std.proofs.Common.{Bool, List, Some, [], ap, append-nil, arith, false
 use Rattle.std.proofs.Common.{rules, subst, suc, sym, true, zero, ℕ, ◌&&◌, ◌++◌, ◌==◌, ◌∙◌, ◌∷◌, ◌≡◌, ◌≤◌}
 use Rattle.std.specs.List.{list_all, list_any}
 use Rattle.wax_query.specs.Ranges.{AtMost}
-use Rattle.wax_token.specs.Meaning.{Copies, LeafMeans, Means, MeansEach, MeansSome, SameText}
-use Rattle.wax_token.specs.Meaning.{in_archetype, in_class, is_forward}
+use Rattle.wax_token.specs.Meaning.{Copies, LeafMeans, Means, MeansEach, MeansSome, SameText, in_archetype}
+use Rattle.wax_token.specs.Meaning.{in_class, is_forward}
 use Rattle.wax_token.specs.Syntax.{Leaf, Tree, Trees, alternation, class, concatenation, leaf, literal, more}
 use Rattle.wax_token.specs.Syntax.{none, one, repetition, separator, tree, zero_or_more}
 use Rattle.wax_token.specs.declared.token.Archetype.{Archetype}
 use Rattle.wax_token.specs.declared.token.Archetype.TheVariants.{Character, Range}
-use Rattle.wax_facts.specs.InvariantText.{AllFoldAlone, is_only, LeafText, Text, TextOfAll}
-use Rattle.wax_facts.specs.InvariantText.{TextOfEach, times}
+use Rattle.wax_facts.specs.InvariantText.{AllFoldAlone, is_only, LeafText, Text, TextOfAll, TextOfEach, times}
 use Rattle.wax_facts.proofs.Truths.{and_parts, false_true, or_parts}
 
 same_plain : (t u : List ℕ) → SameText false t u → u ≡ t

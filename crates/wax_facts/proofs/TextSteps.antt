@@ -1,20 +1,14 @@
 -- The texts of branches and of tokens one after another, token by token.
 use Rattle.std.proofs.Common.{◌≡◌, ℕ, zero, suc, ◌+◌, ◌<◌, ◌≤◌, List, [], ◌∷◌, ◌++◌, length, take, drop}
-use Rattle.std.proofs.Common.{get_or, refl, sym, ◌∙◌, ap, subst}
-use Rattle.std.proofs.Common.{arith, append-nil, drop-cons, chars, IsUtf8, Option, Some, None, IfSome, false}
-use Rattle.std.proofs.Common.{encode_utf8, encode_utf8_all}
-use Rattle.std.proofs.Common.{String, string_bytes}
-use Rattle.std.proofs.lemmas.List.{drop_all}
+use Rattle.std.proofs.Common.{get_or, refl, sym, ◌∙◌, ap, subst, arith, append-nil, drop-cons, chars, IsUtf8}
+use Rattle.std.proofs.Common.{Option, Some, None, IfSome, false, encode_utf8, encode_utf8_all, String}
+use Rattle.std.proofs.{Common.string_bytes, lemmas.List.drop_all}
 use Rattle.std.proofs.lemmas.Str.{chars-append, chars-nil, chars_past_char, encodes-chars}
 use Rattle.std.proofs.lemmas.Str.{IsUtf8-string_bytes}
-use Rattle.std.specs.List.{repeat}
-use Rattle.std.specs.Option.{MatchOption}
-use Rattle.wax_token.specs.Meaning.{Means}
-use Rattle.wax_token.specs.Syntax.{Tree, Trees, none, more}
-use Rattle.wax_token.specs.Words.{trees}
+use Rattle.std.specs.{List.repeat, Option.MatchOption}
+use Rattle.wax_token.specs.{Meaning.Means, Syntax.{Tree, Trees, none, more}, Words.trees}
 use Rattle.wax_facts.specs.InvariantText.{times, Text, TextOfAll, TextOfEach, Variant}
-use Rattle.wax_facts.proofs.TextSound.{text_sound}
-use Rattle.wax_facts.proofs.TextUnique.{text_unique}
+use Rattle.wax_facts.proofs.{TextSound.text_sound, TextUnique.text_unique}
 
 pub drop_here : {A : Type 0} (ts : List A) (i : ℕ) (t : A) → i < length ts → t ≡ get_or ts i t
     → drop i ts ≡ t ∷ drop (i + 1) ts

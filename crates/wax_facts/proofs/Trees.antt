@@ -4,10 +4,8 @@ use Rattle.wax_query.specs.Components.{BeginsWithSlash, EndsWithSlash}
 use Rattle.wax_token.specs.Meaning.{MeansEach, TreeMeans}
 use Rattle.wax_token.specs.Syntax.{Trees, alternation, class, concatenation, leaf, literal, more, none, one}
 use Rattle.wax_token.specs.Syntax.{repetition, separator, tree, zero_or_more}
-use Rattle.wax_facts.specs.Prefix.{IsRooted}
-use Rattle.wax_facts.specs.Rest.{begins_with_tree, unrooted}
-use Rattle.wax_facts.proofs.Endings.{cons_ends, ends_cons}
-use Rattle.wax_facts.proofs.Truths.{true_false}
+use Rattle.wax_facts.specs.{Prefix.IsRooted, Rest.{begins_with_tree, unrooted}}
+use Rattle.wax_facts.proofs.{Endings.{cons_ends, ends_cons}, Truths.true_false}
 
 -- where something is before it, or it is rooted
 abbrev Roots : Bool → Bool → Type 0

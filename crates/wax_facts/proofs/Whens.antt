@@ -1,7 +1,6 @@
 -- Answers that are sure.
 use Rattle.std.proofs.Common.{refl, ◌≡◌}
-use Rattle.wax_query.specs.Whens.{certainty}
-use Rattle.wax_query.specs.declared.query.when.When.{When}
+use Rattle.wax_query.specs.{Whens.certainty, declared.query.when.When.When}
 use Rattle.wax_query.specs.declared.query.when.When.TheVariants.{Always, Never, Sometimes}
 use Rattle.wax_facts.specs.Optional.{optional}
 

@@ -1,20 +1,15 @@
 -- The rest as it is written means what the glob means after the prefix.
 use Rattle.std.proofs.Common.{Bool, List, false, refl, subst, sym, true, ℕ, ◌↔◌, ◌∙◌, ◌≡◌}
-use Rattle.wax_token.specs.Meaning.{Means, MeansEach}
-use Rattle.wax_token.specs.Syntax.{Tree, Trees, leaf, more, none, tree}
+use Rattle.wax_token.specs.{Meaning.{Means, MeansEach}, Syntax.{Tree, Trees, leaf, more, none, tree}}
 use Rattle.wax_token.specs.Words.{members}
-use Rattle.wax_facts.specs.Joined.{begins_with_leaf, path}
-use Rattle.wax_facts.specs.Orderly.{Flat, Full, FullEach, IsSome}
+use Rattle.wax_facts.specs.{Joined.{begins_with_leaf, path}, Orderly.{Flat, Full, FullEach, IsSome}}
 use Rattle.wax_facts.specs.Prefix.{IsRooted, Prefix, opened, opened_last}
 use Rattle.wax_facts.specs.Rest.{after, begins_with_tree, inner_cut, owner, rest, unrooted}
 use Rattle.wax_facts.specs.inner.Cuts.{IsFree}
-use Rattle.wax_facts.proofs.OpenedMeans.{last_from, last_to}
-use Rattle.wax_facts.proofs.OpenedRest.{rest_exact}
+use Rattle.wax_facts.proofs.{OpenedMeans.{last_from, last_to}, OpenedRest.rest_exact}
 use Rattle.wax_facts.proofs.OwnerBegins.{Tells, inner_settles, settled}
-use Rattle.wax_facts.proofs.OwnerFull.{after_full, full_here, inner_full, members_full}
-use Rattle.wax_facts.proofs.Owners.{owner_opened}
-use Rattle.wax_facts.proofs.Trees.{BeginsWithTree, begins_so, unrooted_plain}
-use Rattle.wax_facts.proofs.Truths.{false_true}
+use Rattle.wax_facts.proofs.{OwnerFull.{after_full, full_here, inner_full, members_full}, Owners.owner_opened}
+use Rattle.wax_facts.proofs.{Trees.{BeginsWithTree, begins_so, unrooted_plain}, Truths.false_true}
 
 pub not_none : {A : Type 0} (xs : Trees A) → IsSome (opened_last xs) → IsSome xs
 not_none none h = h

@@ -2,8 +2,7 @@
 use Rattle.wax_token.specs.Syntax.{Leaf, literal, class, separator, one, zero_or_more, tree, Tree, leaf}
 use Rattle.wax_token.specs.Syntax.{alternation, concatenation, repetition, Trees, none, more}
 use Rattle.wax_query.specs.declared.query.when.When.{When}
-use Rattle.wax_query.specs.declared.query.when.When.TheVariants.{Never, Always}
-use Rattle.wax_query.specs.Whens.{certainty}
+use Rattle.wax_query.specs.{declared.query.when.When.TheVariants.{Never, Always}, Whens.certainty}
 use Rattle.wax_facts.specs.Optional.{optional}
 
 abbrev pub leaf_exhaustive : Leaf → When

@@ -1,7 +1,6 @@
 -- Which row of a table of rules decides.
 use Rattle.std.specs.Prelude.{◌≡◌, true, false, List, ◌∷◌, ◌++◌, All, MatchOption}
-use Rattle.wax_facts.specs.Rules.{first_that_holds}
-use Rattle.wax_facts.specs.declared.rules.Row.{Row}
+use Rattle.wax_facts.specs.{Rules.first_that_holds, declared.rules.Row.Row}
 
 -- the row is the first of the table whose rule is broken
 pub record IsFirstBroken (rows : List Row) (row : Row) : Type 0 where

@@ -1,12 +1,8 @@
 -- Which prefixes a glob could have, and that its prefix is the longest of them.
 use Rattle.std.specs.Prelude.{◌≡◌, ◌≤◌, ◌⊎◌, ℕ, Bool, true, false, ⊤, List, [], ◌∷◌, ◌++◌, length}
-use Rattle.wax_token.specs.Kinds.{is_separator, is_tree_wildcard}
-use Rattle.wax_token.specs.Reads.{Span}
-use Rattle.wax_token.specs.Syntax.{Tree, Trees}
+use Rattle.wax_token.specs.{Kinds.{is_separator, is_tree_wildcard}, Reads.Span, Syntax.{Tree, Trees}}
 use Rattle.wax_token.specs.Words.{listed, trees}
-use Rattle.wax_facts.specs.InvariantText.{TextOfEach}
-use Rattle.wax_facts.specs.Joined.{Front}
-use Rattle.wax_facts.specs.Prefix.{IsRooted, Prefix, opened}
+use Rattle.wax_facts.specs.{InvariantText.TextOfEach, Joined.Front, Prefix.{IsRooted, Prefix, opened}}
 
 -- the last of these tokens is a `/`
 abbrev pub ends_with_separator : {A : Type 0} → List (Tree A) → Bool

@@ -2,10 +2,8 @@
 use Rattle.std.specs.Prelude.{◌≡◌, Bool, true, false, ⊤}
 use Rattle.wax_token.specs.Syntax.{Leaf, literal, class, separator, one, zero_or_more, tree, Tree, leaf}
 use Rattle.wax_token.specs.Syntax.{alternation, concatenation, repetition, Trees, none, more}
-use Rattle.wax_token.specs.Reads.{IsLiteralText}
-use Rattle.wax_facts.specs.Situated.{first_starts_in, ends_in}
-use Rattle.wax_token.specs.Kinds.{is_boundary_leaf}
-use Rattle.wax_facts.specs.Rules.{are_incompatible}
+use Rattle.wax_token.specs.{Reads.IsLiteralText, Kinds.is_boundary_leaf}
+use Rattle.wax_facts.specs.{Situated.{first_starts_in, ends_in}, Rules.are_incompatible}
 
 abbrev pub IsSome : {A : Type 0} → Trees A → Type 0
 IsSome none = ⊥

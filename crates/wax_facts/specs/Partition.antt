@@ -1,13 +1,8 @@
 -- A glob in two parts: its prefix, and the rest.
 use Rattle.std.specs.Prelude.{◌≡◌, ◌⊎◌, ◌↔◌, ℕ, ◌-◌, true, false, List, Option, Some, None}
-use Rattle.wax_token.specs.Meaning.{Means}
-use Rattle.wax_token.specs.Reads.{Span}
-use Rattle.wax_token.specs.Spelled.{span_end}
-use Rattle.wax_token.specs.Syntax.{Tree, concatenation, Trees, none, more}
-use Rattle.wax_token.specs.Words.{annotation_of}
-use Rattle.wax_facts.specs.Joined.{begins_with_leaf, path}
-use Rattle.wax_facts.specs.Orderly.{Flat}
-use Rattle.wax_facts.specs.Prefix.{IsRooted, Prefix, opened}
+use Rattle.wax_token.specs.{Meaning.Means, Reads.Span, Spelled.span_end}
+use Rattle.wax_token.specs.{Syntax.{Tree, concatenation, Trees, none, more}, Words.annotation_of}
+use Rattle.wax_facts.specs.{Joined.{begins_with_leaf, path}, Orderly.Flat, Prefix.{IsRooted, Prefix, opened}}
 use Rattle.wax_facts.specs.Rest.{left, owner, rest}
 
 -- the tokens as a glob, with a span from the first one up to the byte `end`

@@ -1,11 +1,10 @@
 -- The prefix of a glob: the text before the first token that isn't invariant, cut back to a `/`.
-use Rattle.std.specs.Prelude.{◌≡◌, ℕ, zero, suc, Bool, true, false, ◌⊎◌}
-use Rattle.std.specs.Prelude.{List, [], ◌∷◌, ◌++◌, Option, Some, None}
+use Rattle.std.specs.Prelude.{◌≡◌, ℕ, zero, suc, Bool, true, false, ◌⊎◌, List, [], ◌∷◌, ◌++◌, Option, Some}
+use Rattle.std.specs.Prelude.{None}
 use Rattle.wax_token.specs.Kinds.{is_separator, is_tree_wildcard}
 use Rattle.wax_token.specs.Syntax.{Tree, leaf, alternation, concatenation, repetition, Trees, none, more}
 use Rattle.wax_query.specs.declared.query.when.When.TheVariants.{Always}
-use Rattle.wax_facts.specs.Root.{root}
-use Rattle.wax_facts.specs.InvariantText.{Text, Variant}
+use Rattle.wax_facts.specs.{Root.root, InvariantText.{Text, Variant}}
 
 -- the opened list of a glob: its tokens, but if the last one is an alternation of one branch or a repetition
 -- of exactly one copy, the tokens in it take its place

@@ -1,9 +1,7 @@
 -- The rest of a glob after its prefix.
 use Rattle.std.specs.Prelude.{ℕ, zero, suc, Bool, true, false, Option, Some, None}
-use Rattle.wax_token.specs.Syntax.{tree, Tree, leaf, alternation, concatenation, repetition}
-use Rattle.wax_token.specs.Syntax.{Trees, none, more}
-use Rattle.wax_token.specs.Words.{members}
-use Rattle.wax_token.specs.Kinds.{is_tree_wildcard}
+use Rattle.wax_token.specs.Syntax.{tree, Tree, leaf, alternation, concatenation, repetition, Trees, none}
+use Rattle.wax_token.specs.{Syntax.more, Words.members, Kinds.is_tree_wildcard}
 use Rattle.wax_facts.specs.Prefix.{opened}
 
 abbrev pub begins_with_tree : {A : Type 0} → Trees A → Bool

@@ -1,29 +1,21 @@
 -- The breaks of the rules, in order.
 use Rattle.std.specs.Prelude.{ℕ, Bool, true, false, ◌&&◌, ◌||◌, not, nat_lt, ◌==◌, List, [], ◌∷◌, ◌++◌}
-use Rattle.std.specs.Prelude.{if◌then◌else◌, Option, Some, None, codes}
-use Rattle.std.specs.List.{flat_map}
-use Rattle.std.specs.Option.{is_none}
-use Rattle.wax_query.specs.Spans.{span_union}
-use Rattle.wax_query.specs.declared.diagnostics.located.CorrelatedSpan.{CorrelatedSpan}
+use Rattle.std.specs.{Prelude.{if◌then◌else◌, Option, Some, None, codes}, List.flat_map, Option.is_none}
+use Rattle.wax_query.specs.{Spans.span_union, declared.diagnostics.located.CorrelatedSpan.CorrelatedSpan}
 use Rattle.wax_query.specs.declared.diagnostics.located.CorrelatedSpan.TheVariants.{Contiguous, Split}
-use Rattle.wax_facts.specs.declared.rules.Break.{Break}
-use Rattle.wax_facts.specs.declared.rules.RuleErrorKind.{RuleErrorKind}
+use Rattle.wax_facts.specs.{declared.rules.Break.Break, declared.rules.RuleErrorKind.RuleErrorKind}
 use Rattle.wax_facts.specs.declared.rules.RuleErrorKind.TheVariants.{AdjacentBoundary, IncompatibleBounds}
 use Rattle.wax_facts.specs.declared.rules.RuleErrorKind.TheVariants.{SingularTree, AdjacentZeroOrMore}
 use Rattle.wax_facts.specs.declared.rules.RuleErrorKind.TheVariants.{RootedSubGlob, SingularZeroOrMore}
 use Rattle.wax_facts.specs.declared.rules.RuleErrorKind.TheVariants.{OversizedInvariant}
-use Rattle.wax_facts.specs.declared.rules.Row.{Row}
-use Rattle.wax_facts.specs.declared.rules.Terminal.{Terminal}
-use Rattle.wax_facts.specs.declared.rules.Sort.{Sort}
-use Rattle.wax_facts.specs.declared.rules.Sort.TheVariants as sort
-use Rattle.wax_facts.specs.declared.rules.Side.{Side}
-use Rattle.wax_facts.specs.Sizes.{is_oversized}
+use Rattle.wax_facts.specs.{declared.rules.Row.Row, declared.rules.Terminal.Terminal}
+use Rattle.wax_facts.specs.{declared.rules.Sort.Sort, declared.rules.Side.Side, Sizes.is_oversized}
 use Rattle.wax_facts.specs.Situated.{Situated, breadth_first}
 use Rattle.wax_token.specs.Kinds.{is_such, is_separator_leaf, is_zero_or_more_leaf, is_tree_leaf}
-use Rattle.wax_token.specs.Kinds.{is_boundary_leaf, is_rooting_leaf}
-use Rattle.wax_token.specs.Reads.{Span}
+use Rattle.wax_token.specs.{Kinds.{is_boundary_leaf, is_rooting_leaf}, Reads.Span}
 use Rattle.wax_token.specs.Syntax.{Tree, leaf, alternation, concatenation, repetition, Trees, none, more}
 use Rattle.wax_token.specs.Words.{annotation_of, members}
+use Rattle.wax_facts.specs.declared.rules.Sort.TheVariants as sort
 
 -- a break at one place
 abbrev pub break_here : RuleErrorKind → Span → Break

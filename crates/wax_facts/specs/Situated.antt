@@ -1,13 +1,9 @@
 -- The tokens of a tree, breadth first, each with what stands beside it.
-use Rattle.std.specs.Prelude.{Bool, false, ◌||◌, List, [], ◌∷◌, Option, Some, None}
-use Rattle.std.specs.List.{flat_map}
-use Rattle.wax_facts.specs.Alternatives.{beside}
-use Rattle.wax_facts.specs.declared.rules.Side.{Side}
-use Rattle.wax_token.specs.Kinds.{is_zero_or_more_leaf, is_boundary_leaf}
-use Rattle.wax_token.specs.Reads.{Span}
+use Rattle.std.specs.{Prelude.{Bool, false, ◌||◌, List, [], ◌∷◌, Option, Some, None}, List.flat_map}
+use Rattle.wax_facts.specs.{Alternatives.beside, declared.rules.Side.Side}
+use Rattle.wax_token.specs.{Kinds.{is_zero_or_more_leaf, is_boundary_leaf}, Reads.Span}
 use Rattle.wax_token.specs.Syntax.{Leaf, Tree, leaf, alternation, concatenation, repetition, Trees, none}
-use Rattle.wax_token.specs.Syntax.{more}
-use Rattle.wax_token.specs.Words.{annotation_of}
+use Rattle.wax_token.specs.{Syntax.more, Words.annotation_of}
 
 -- such a leaf is reached through first tokens of concatenations, bodies of repetitions and all branches of
 -- alternations

@@ -1,10 +1,9 @@
 -- What the fixed size of a token says of the texts that it matches.
 use Rattle.std.specs.Prelude.{◌≡◌, ◌≤◌, ℕ, Bool, true, ◌&&◌, not, List, Some}
 use Rattle.wax_facts.specs.Sizes.{fixed_size}
-use Rattle.wax_token.specs.Meaning.{Means}
-use Rattle.wax_token.specs.Reads.{Span, utf8_len}
-use Rattle.wax_token.specs.Syntax.{Leaf, literal, Tree, leaf}
-use Rattle.wax_token.specs.Syntax.{alternation, concatenation, repetition, Trees, none, more}
+use Rattle.wax_token.specs.{Meaning.Means, Reads.{Span, utf8_len}}
+use Rattle.wax_token.specs.Syntax.{Leaf, literal, Tree, leaf, alternation, concatenation, repetition, Trees}
+use Rattle.wax_token.specs.Syntax.{none, more}
 
 abbrev pub leaf_minds_case : Leaf → Bool
 leaf_minds_case (literal insensitive t) = not insensitive

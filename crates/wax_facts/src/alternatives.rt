@@ -1,7 +1,6 @@
 //! The alternatives of a token, listed level by level.
 ghost use Rattle.std.specs.Prelude.{◌≡◌, ◌+◌, ◌≤◌, ◌++◌, ◌∷◌, [], IfOk, length};
-ghost use Rattle.wax_token.specs.Syntax.{trees_size};
-ghost use Rattle.wax_token.specs.Words.{trees};
+ghost use Rattle.wax_token.specs.{Syntax.trees_size, Words.trees};
 ghost use Rattle.wax_facts.specs.Alternatives.{MeansOneOf, alternatives, joined, levels_each};
 
 use crate::alternatives::opened::{opened, taken_apart};

@@ -1,8 +1,6 @@
 //! Exhaustiveness: whether everything below a match matches, too.
 ghost use Rattle.std.specs.Prelude.{◌≡◌, ◌++◌, ◌∷◌, List, ℕ, false};
-ghost use Rattle.wax_token.specs.Meaning.{Means};
-ghost use Rattle.wax_token.specs.View.{leaf_of};
-ghost use Rattle.wax_token.specs.Words.{trees};
+ghost use Rattle.wax_token.specs.{Meaning.Means, View.leaf_of, Words.trees};
 ghost use Rattle.wax_facts.specs.Exhaustive.{leaf_exhaustive, exhaustive, exhaustive_some, exhaustive_last};
 ghost use Rattle.wax_query.specs.declared.query.when.When.TheVariants.{Always};
 

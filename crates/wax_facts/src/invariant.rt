@@ -1,12 +1,9 @@
 //! The only text that a token matches, if it is written as one.
 ghost use Rattle.std.specs.Prelude.{◌≡◌, ◌∷◌, [], ℕ, IfOk, IfSome, List, MatchOption, None, false, true};
 ghost use Rattle.std.specs.Prelude.{chars, string_bytes};
-ghost use Rattle.wax_token.specs.Meaning.{Means};
-ghost use Rattle.wax_token.specs.Syntax.{class, literal};
-ghost use Rattle.wax_token.specs.View.{leaf_of};
-ghost use Rattle.wax_token.specs.Words.{trees};
-ghost use Rattle.wax_facts.specs.InvariantText.{IsRepeated, LeafText, NoText, Text};
-ghost use Rattle.wax_facts.specs.InvariantText.{TextOfAll, TextOfEach, Variant};
+ghost use Rattle.wax_token.specs.{Meaning.Means, Syntax.{class, literal}, View.leaf_of, Words.trees};
+ghost use Rattle.wax_facts.specs.InvariantText.{IsRepeated, LeafText, NoText, Text, TextOfAll, TextOfEach};
+ghost use Rattle.wax_facts.specs.InvariantText.{Variant};
 
 mod class;
 mod fold;

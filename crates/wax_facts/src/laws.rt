@@ -1,6 +1,5 @@
 //! Laws of tables of rules and of fixed sizes.
-ghost use Rattle.wax_facts.specs.CopySizes.{SizesOfCopies};
-ghost use Rattle.wax_facts.specs.FirstRow.{FirstBrokenDecides};
+ghost use Rattle.wax_facts.specs.{CopySizes.SizesOfCopies, FirstRow.FirstBrokenDecides};
 ghost use Rattle.wax_facts.specs.SizeBounds.{SizesBound};
 
 /// States that the first rule of a table that is broken is the one that is reported.

@@ -1,12 +1,9 @@
 //! Opened lists: the tokens of a glob, where the last token is replaced by those in it if it is an
 //! alternation of one branch or a repetition of exactly one copy, and so on inside it.
 ghost use Rattle.std.specs.Prelude.{◌≡◌, ◌<◌, ◌≤◌, ◌+◌, ℕ, MatchOption, None, Some};
-ghost use Rattle.wax_token.specs.Syntax.{more, none, tree_size, trees_size};
-ghost use Rattle.wax_token.specs.Words.{trees};
-ghost use Rattle.wax_facts.specs.Prefix.{opened, opened_last};
-ghost use Rattle.wax_facts.specs.Rest.{begins_with_tree};
-ghost use Rattle.wax_facts.specs.inner.Bodies.{open_body};
-ghost use Rattle.wax_facts.specs.inner.Opening.{IsOpened};
+ghost use Rattle.wax_token.specs.{Syntax.{more, none, tree_size, trees_size}, Words.trees};
+ghost use Rattle.wax_facts.specs.{Prefix.{opened, opened_last}, Rest.begins_with_tree};
+ghost use Rattle.wax_facts.specs.{inner.Bodies.open_body, inner.Opening.IsOpened};
 
 use wax_token::token::{Annotation, BranchKind, LeafKind, Token, Wildcard};
 

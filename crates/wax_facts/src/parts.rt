@@ -1,17 +1,11 @@
 //! Splitting a glob into its prefix and the rest.
 ghost use Rattle.std.specs.Prelude.{◌≡◌, ◌↔◌, ◌∷◌, [], ℕ, IfOk, IfSome, List, MatchOption, None, false};
 ghost use Rattle.std.specs.Prelude.{chars, string_bytes};
-ghost use Rattle.wax_facts.specs.Rules.{broken};
-ghost use Rattle.wax_token.specs.Meaning.{Means};
-ghost use Rattle.wax_token.specs.Reads.{Reads};
-ghost use Rattle.wax_token.specs.Words.{trees};
-ghost use Rattle.wax_facts.specs.Joined.{begins_with_leaf};
-ghost use Rattle.wax_facts.specs.Orderly.{Flat, Full, Orderly};
-ghost use Rattle.wax_facts.specs.Partition.{BeginsPlainly, IsPartition, IsSplit, MeansAfter};
-ghost use Rattle.wax_facts.specs.Partition.{SplitsAll, glob_up_to};
-ghost use Rattle.wax_facts.specs.Prefix.{IsRooted, opened};
-ghost use Rattle.wax_facts.specs.Rest.{unrooted};
+ghost use Rattle.wax_facts.specs.{Rules.broken, Joined.begins_with_leaf, Orderly.{Flat, Full, Orderly}};
+ghost use Rattle.wax_facts.specs.Partition.{BeginsPlainly, IsPartition, IsSplit, MeansAfter, SplitsAll};
+ghost use Rattle.wax_facts.specs.{Partition.glob_up_to, Prefix.{IsRooted, opened}, Rest.unrooted};
 ghost use Rattle.wax_facts.specs.RootedTrees.{is_rooted_tree};
+ghost use Rattle.wax_token.specs.{Meaning.Means, Reads.Reads, Words.trees};
 
 use crate::prefix::invariant_text_prefix;
 use crate::rest::rest_of;

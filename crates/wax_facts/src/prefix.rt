@@ -1,10 +1,7 @@
 //! The prefix: a text with which all matches of a glob begin, cut back to a `/`.
 ghost use Rattle.std.specs.Prelude.{◌≡◌, ◌↔◌, ℕ, IfOk, IsTrue, List, chars, false, string_bytes};
-ghost use Rattle.wax_token.specs.Meaning.{Means};
-ghost use Rattle.wax_token.specs.Words.{trees};
-ghost use Rattle.wax_facts.specs.Joined.{Front};
-ghost use Rattle.wax_token.specs.Kinds.{is_tree_wildcard};
-ghost use Rattle.wax_facts.specs.Prefix.{CutBefore, IsRooted, Prefix, opened_last};
+ghost use Rattle.wax_token.specs.{Meaning.Means, Words.trees, Kinds.is_tree_wildcard};
+ghost use Rattle.wax_facts.specs.{Joined.Front, Prefix.{CutBefore, IsRooted, Prefix, opened_last}};
 ghost use Rattle.wax_facts.specs.inner.Opening.{IsOpened};
 
 use crate::invariant::text;

@@ -1,11 +1,9 @@
 //! The tokens of a glob after its prefix.
-ghost use Rattle.std.specs.Prelude.{◌+◌, ◌^◌, ◌<◌};
-ghost use Rattle.std.specs.Prelude.{◌≡◌, ◌∷◌, [], ℕ, IfOk, List, MatchOption, None, Some, ◌||◌, nat_lt};
-ghost use Rattle.wax_token.specs.Reads.{Span};
-ghost use Rattle.wax_token.specs.Syntax.{alternation, repetition};
+ghost use Rattle.std.specs.Prelude.{◌+◌, ◌^◌, ◌<◌, ◌≡◌, ◌∷◌, [], ℕ, IfOk, List, MatchOption, None, Some};
+ghost use Rattle.std.specs.Prelude.{◌||◌, nat_lt};
+ghost use Rattle.wax_token.specs.{Reads.Span, Syntax.{alternation, repetition}};
 ghost use Rattle.wax_token.specs.Words.{annotation_of, members, trees};
-ghost use Rattle.wax_facts.specs.Prefix.{opened};
-ghost use Rattle.wax_facts.specs.Rest.{begins_with_tree};
+ghost use Rattle.wax_facts.specs.{Prefix.opened, Rest.begins_with_tree};
 ghost use Rattle.wax_facts.specs.inner.Bodies.{IsInside, AreRestTokens, inside, last_body, open_body};
 
 use crate::opened;

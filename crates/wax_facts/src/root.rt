@@ -1,11 +1,8 @@
 //! Roots: whether all matches begin with `/`.
 ghost use Rattle.std.specs.Prelude.{◌≡◌, ◌++◌, ◌∷◌, List, ℕ, false};
-ghost use Rattle.wax_query.specs.Components.{BeginsWithSlash};
-ghost use Rattle.wax_token.specs.Meaning.{Means};
-ghost use Rattle.wax_token.specs.View.{leaf_of};
-ghost use Rattle.wax_token.specs.Words.{trees};
+ghost use Rattle.wax_query.specs.{Components.BeginsWithSlash, declared.query.when.When.TheVariants.Always};
+ghost use Rattle.wax_token.specs.{Meaning.Means, View.leaf_of, Words.trees};
 ghost use Rattle.wax_facts.specs.Root.{leaf_root, root, root_some, root_first};
-ghost use Rattle.wax_query.specs.declared.query.when.When.TheVariants.{Always};
 
 use crate::optional::optional;
 use wax_query::query::When;

@@ -3,8 +3,7 @@ use Rattle.std.specs.Prelude.{Option, Some, ◌∷◌}
 use Rattle.wax_filter.specs.declared.filter.product.Product.{Product}
 use Rattle.wax_filter.specs.declared.filter.product.kind.ResidueKind.{ResidueKind}
 use Rattle.wax_filter.specs.declared.filter.separation.Separation.{Separation}
-use Rattle.wax_filter.specs.declared.filter.separation.Separation.TheVariants.{Residue}
-use Rattle.wax_filter.specs.Feeding.{NextFiltrate}
+use Rattle.wax_filter.specs.{declared.filter.separation.Separation.TheVariants.Residue, Feeding.NextFiltrate}
 
 -- one more excluded item comes first
 pub passed : {S G F R : Type 0} (feeds : S → Option (Separation G F R) → S → Type 0) (s u : S)

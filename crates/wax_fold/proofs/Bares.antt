@@ -6,9 +6,7 @@ use Rattle.wax_query.specs.Ranges.{AtMost}
 use Rattle.wax_token.specs.Meaning.{Copies, Means, MeansEach, MeansSome}
 use Rattle.wax_token.specs.Syntax.{Tree, leaf, alternation, concatenation, repetition, Trees, none, more}
 use Rattle.wax_token.specs.Words.{trees}
-use Rattle.wax_fold.specs.Bare.{bare, bare_each, baring}
-use Rattle.wax_fold.specs.Branches.{repeated}
-use Rattle.wax_fold.specs.Folded.{listed_term}
+use Rattle.wax_fold.specs.{Bare.{bare, bare_each, baring}, Branches.repeated, Folded.listed_term}
 use Rattle.wax_fold.specs.Mapped.{mapped, mapped_each}
 
 module _ {A : Type 0} where

@@ -2,25 +2,20 @@
 use Rattle.std.proofs.Common.{◌≡◌, ℕ, ◌+◌, ◌<◌, ◌≤◌, List, [], ◌∷◌, ◌++◌, Option, map, refl, sym, ◌∙◌, ap}
 use Rattle.std.proofs.Common.{arith, append-nil}
 use Rattle.std.specs.List.{flat_map}
-use Rattle.wax_token.specs.Syntax.{Tree}
-use Rattle.wax_token.specs.View.{branch_tree, topology_tree}
-use Rattle.wax_token.specs.Words.{trees}
-use Rattle.wax_token.specs.declared.token.BranchKind.{BranchKind}
-use Rattle.wax_token.specs.declared.token.BranchKind.TheVariants as kind
-use Rattle.wax_token.specs.declared.token.LeafKind.{LeafKind}
+use Rattle.wax_token.specs.{Syntax.Tree, View.{branch_tree, topology_tree}, Words.{trees, listed}}
+use Rattle.wax_token.specs.{declared.token.BranchKind.BranchKind, declared.token.LeafKind.LeafKind}
 use Rattle.wax_token.specs.declared.token.Topology.{Topology}
 use Rattle.wax_token.specs.declared.token.Topology.TheVariants.{Branch as BranchOf}
 use Rattle.wax_fold.specs.declared.walk.branch.BranchFold.{BranchFold}
 use Rattle.wax_fold.specs.declared.walk.branch.BranchFold.TheVariants.{Alternation, Concatenation}
 use Rattle.wax_fold.specs.Branches.{Branch, branch_of, picked}
-use Rattle.wax_token.specs.Words.{listed}
 use Rattle.wax_fold.specs.Folded.{Folding, listed_term, branch_term, folded, folded_each}
 use Rattle.wax_fold.specs.inner.BranchFolded.{branch_folded}
 use Rattle.wax_fold.specs.inner.OpenBranches.{OpenBranch, closing, folding, with_term, counting}
 use Rattle.wax_fold.specs.inner.OpenBranches.{branch_visits}
 use Rattle.wax_fold.specs.inner.Opens.{Open, closed, closed_all, results, total, steps_in, steps_left}
-use Rattle.wax_fold.proofs.Opens.{alone, entered, left, steps_entered, steps_back}
-use Rattle.wax_fold.proofs.Picking.{picked_mapped}
+use Rattle.wax_fold.proofs.{Opens.{alone, entered, left, steps_entered, steps_back}, Picking.picked_mapped}
+use Rattle.wax_token.specs.declared.token.BranchKind.TheVariants as kind
 
 pub listed_trees : {A : Type 0} (ts : List (Tree A)) → listed (trees ts) ≡ ts
 listed_trees [] = refl

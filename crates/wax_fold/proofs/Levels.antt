@@ -4,20 +4,17 @@ use Rattle.std.proofs.Common.{refl, sym, ◌∙◌, ap, arith, append_assoc, app
 use Rattle.std.proofs.lemmas.Grind.{flat_map-append}
 use Rattle.std.specs.List.{flat_map}
 use Rattle.wax_token.specs.Syntax.{Tree, leaf, alternation, concatenation, repetition, Trees, none, more}
-use Rattle.wax_token.specs.Syntax.{tree_size, trees_size}
-use Rattle.wax_token.specs.View.{branch_tree, topology_tree}
-use Rattle.wax_token.specs.declared.token.BranchKind.{BranchKind}
-use Rattle.wax_token.specs.declared.token.BranchKind.TheVariants as kind
-use Rattle.wax_token.specs.declared.token.LeafKind.{LeafKind}
+use Rattle.wax_token.specs.{Syntax.{tree_size, trees_size}, View.{branch_tree, topology_tree}}
+use Rattle.wax_token.specs.{declared.token.BranchKind.BranchKind, declared.token.LeafKind.LeafKind}
 use Rattle.wax_token.specs.declared.token.Topology.{Topology}
-use Rattle.wax_token.specs.declared.token.Topology.TheVariants.{Branch as BranchOf}
+use Rattle.wax_token.specs.{declared.token.Topology.TheVariants.Branch as BranchOf, Words.listed}
 use Rattle.wax_fold.specs.declared.walk.entry.Position.{Position}
 use Rattle.wax_fold.specs.declared.walk.branch.BranchFold.TheVariants.{Alternation, Concatenation, Repetition}
 use Rattle.wax_fold.specs.Branches.{Branch, branch_of, picked}
-use Rattle.wax_token.specs.Words.{listed}
 use Rattle.wax_fold.specs.Order.{Entry, root_entry, disjuncts, conjuncts, chosen_in, children_at, children}
 use Rattle.wax_fold.specs.Order.{level, levels_to, height, breadth_first}
 use Rattle.wax_fold.proofs.Folds.{listed_trees}
+use Rattle.wax_token.specs.declared.token.BranchKind.TheVariants as kind
 
 -- ---- what a branch holds is lower than the branch
 tallest : {A : Type 0} → List (Tree A) → ℕ

@@ -1,21 +1,16 @@
 -- A tree that is built anew, and how many steps it takes.
 use Rattle.std.proofs.Common.{◌≡◌, ◌+◌, ◌*◌, ◌<◌, ◌≤◌, List, [], ◌∷◌, ◌++◌, Option, Some, map, refl, sym, ◌∙◌}
 use Rattle.std.proofs.Common.{ap, arith, append-nil}
-use Rattle.wax_token.specs.Syntax.{Tree, trees_size}
-use Rattle.wax_token.specs.View.{branch_tree, topology_tree}
-use Rattle.wax_token.specs.Words.{trees}
-use Rattle.wax_token.specs.declared.token.BranchKind.{BranchKind}
-use Rattle.wax_token.specs.declared.token.BranchKind.TheVariants as kind
-use Rattle.wax_token.specs.declared.token.LeafKind.{LeafKind}
+use Rattle.wax_token.specs.{Syntax.{Tree, trees_size}, View.{branch_tree, topology_tree}, Words.trees}
+use Rattle.wax_token.specs.{declared.token.BranchKind.BranchKind, declared.token.LeafKind.LeafKind}
 use Rattle.wax_token.specs.declared.token.Topology.{Topology}
 use Rattle.wax_token.specs.declared.token.Topology.TheVariants.{Branch as BranchOf}
 use Rattle.wax_fold.specs.declared.walk.branch.BranchFold.TheVariants.{Alternation, Concatenation, Repetition}
-use Rattle.wax_fold.specs.Branches.{branch_of}
-use Rattle.wax_fold.specs.Folded.{listed_term}
-use Rattle.wax_fold.specs.Mapped.{Mapping, mapped, mapped_each}
+use Rattle.wax_fold.specs.{Branches.branch_of, Folded.listed_term, Mapped.{Mapping, mapped, mapped_each}}
 use Rattle.wax_fold.specs.inner.OpenTokens.{OpenToken, NextToken, mapping, tree_visits, with_token}
 use Rattle.wax_fold.specs.inner.Opens.{Open, closed, closed_all, results, total, steps_in, steps_left}
 use Rattle.wax_fold.proofs.Opens.{alone, entered, left, steps_entered, steps_back}
+use Rattle.wax_token.specs.declared.token.BranchKind.TheVariants as kind
 
 module _ {A X : Type 0} (f : Mapping A X) where
   mapped_trees : (ts : List (Tree A)) → results (mapped f) ts ≡ mapped_each f (trees ts)

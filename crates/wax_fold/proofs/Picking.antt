@@ -1,12 +1,9 @@
 -- Items that are taken from a list one by one, or picked by their places.
 use Rattle.std.proofs.Common.{◌≡◌, ℕ, ◌+◌, List, [], ◌∷◌, ◌++◌, map, drop, take, get_or, slice_get, length}
 use Rattle.std.proofs.Common.{◌<◌, arith, zero, suc, refl, sym, ◌∙◌, ap, reverse}
-use Rattle.std.proofs.lemmas.List.{map-append, reverse-append}
-use Rattle.std.proofs.lemmas.Grind.{flat_map-append}
+use Rattle.std.proofs.{lemmas.List.{map-append, reverse-append}, lemmas.Grind.flat_map-append}
 use Rattle.std.specs.List.{flat_map}
-use Rattle.wax_fold.specs.Branches.{picked}
-use Rattle.wax_fold.specs.Folded.{listed_term}
-use Rattle.wax_fold.specs.Sequences.{places}
+use Rattle.wax_fold.specs.{Branches.picked, Folded.listed_term, Sequences.places}
 
 -- the item at an index, and those after it
 pub next_given : {X Y : Type 0} (f : X → Y) (xs : List X) (i : ℕ) (x : X) → i < length xs

@@ -5,8 +5,7 @@ use Rattle.std.proofs.lemmas.List.Sorted.{IsPermutation-refl, IsPermutation-appe
 use Rattle.std.proofs.lemmas.List.Sorted.{IsPermutation-append_left, IsPermutation-append_right}
 use Rattle.std.proofs.lemmas.List.Sorted.{IsPermutation-trans}
 use Rattle.std.specs.List.Sorted.{IsPermutation}
-use Rattle.wax_fold.specs.Branches.{Branch}
-use Rattle.wax_fold.specs.Order.{Entry, level, levels_to, height, breadth_first}
+use Rattle.wax_fold.specs.{Branches.Branch, Order.{Entry, level, levels_to, height, breadth_first}}
 use Rattle.wax_fold.specs.Walking.{Walking, below_current, to_come, cancelled}
 use Rattle.wax_fold.proofs.Levels.{height-append, level-append, settled}
 

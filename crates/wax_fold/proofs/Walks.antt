@@ -1,9 +1,7 @@
 -- Each token that a walk gives is the first of those that were to come.
 use Rattle.std.proofs.Common.{◌≡◌, ℕ, ◌<◌, List, ◌∷◌, ◌++◌, Option, Some, None, IsSome, length, sym, ◌∙◌, ap}
 use Rattle.std.proofs.Common.{arith}
-use Rattle.wax_fold.specs.Branches.{Branch}
-use Rattle.wax_fold.specs.Folded.{listed_term}
-use Rattle.wax_fold.specs.Order.{Entry, breadth_first}
+use Rattle.wax_fold.specs.{Branches.Branch, Folded.listed_term, Order.{Entry, breadth_first}}
 use Rattle.wax_fold.specs.Walking.{Walking, below_current, roots, to_come, items_left}
 use Rattle.wax_fold.specs.inner.WalkSteps.{StepsToEnd}
 use Rattle.wax_fold.proofs.Levels.{next_first}

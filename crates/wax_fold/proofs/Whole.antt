@@ -1,22 +1,17 @@
 -- A walk forward gives each token of a tree once.
 use Rattle.std.proofs.Common.{◌≡◌, ℕ, ◌+◌, zero, suc, List, [], ◌∷◌, ◌++◌, map, length, refl, sym, ◌∙◌, ap}
-use Rattle.std.proofs.Common.{subst, arith, append-nil}
-use Rattle.std.proofs.lemmas.Grind.{flat_map-append}
+use Rattle.std.proofs.{Common.{subst, arith, append-nil}, lemmas.Grind.flat_map-append}
 use Rattle.std.proofs.lemmas.List.{length-append}
 use Rattle.std.proofs.lemmas.List.Sorted.{IsPermutation-refl, IsPermutation-cons, IsPermutation-trans}
 use Rattle.std.proofs.lemmas.List.Sorted.{IsPermutation-append_comm}
-use Rattle.std.specs.List.{flat_map}
-use Rattle.std.specs.List.Sorted.{IsPermutation}
+use Rattle.std.specs.{List.flat_map, List.Sorted.IsPermutation}
 use Rattle.wax_token.specs.Syntax.{Tree, leaf, alternation, concatenation, repetition, Trees, none, more}
-use Rattle.wax_fold.specs.declared.walk.entry.Position.{Position}
-use Rattle.wax_fold.specs.Branches.{picked}
 use Rattle.wax_token.specs.Words.{listed}
+use Rattle.wax_fold.specs.{declared.walk.entry.Position.Position, Branches.picked}
 use Rattle.wax_fold.specs.Order.{Entry, root_entry, disjuncts, conjuncts, children_at, children}
-use Rattle.wax_fold.specs.Order.{breadth_first}
-use Rattle.wax_fold.specs.Sequences.{forward_chosen, places}
+use Rattle.wax_fold.specs.{Order.breadth_first, Sequences.{forward_chosen, places}}
 use Rattle.wax_fold.specs.Subtrees.{subtrees, subtrees_each}
-use Rattle.wax_fold.proofs.Levels.{next_first}
-use Rattle.wax_fold.proofs.Picking.{all_picked}
+use Rattle.wax_fold.proofs.{Levels.next_first, Picking.all_picked}
 
 -- all tokens of some trees
 abbrev below : {A : Type 0} → List (Entry A) → List (Tree A)

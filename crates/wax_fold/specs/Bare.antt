@@ -1,8 +1,7 @@
 -- Tokens without their annotations.
 use Rattle.std.specs.Prelude.{⊤}
 use Rattle.wax_token.specs.Syntax.{Tree, leaf, alternation, concatenation, repetition, Trees, none, more}
-use Rattle.wax_fold.specs.Branches.{composed}
-use Rattle.wax_fold.specs.Mapped.{Mapping}
+use Rattle.wax_fold.specs.{Branches.composed, Mapped.Mapping}
 
 abbrev mutual
   pub bare : {A : Type 0} → Tree A → Tree ⊤

@@ -1,12 +1,10 @@
 -- A branch without its annotation, and tokens that are picked from a list.
-use Rattle.std.specs.Prelude.{ℕ, ◌-◌, List, [], ◌∷◌, Option, Some, None, take, drop, length}
-use Rattle.std.specs.List.{flat_map}
-use Rattle.wax_token.specs.Syntax.{Tree, alternation, concatenation, repetition}
-use Rattle.wax_token.specs.Words.{trees}
+use Rattle.std.specs.{Prelude.{ℕ, ◌-◌, List, [], ◌∷◌, Option, Some, None, take, drop, length}, List.flat_map}
+use Rattle.wax_token.specs.{Syntax.{Tree, alternation, concatenation, repetition}, Words.trees}
 use Rattle.wax_token.specs.declared.token.BranchKind.{BranchKind}
-use Rattle.wax_token.specs.declared.token.BranchKind.TheVariants as kind
 use Rattle.wax_fold.specs.declared.walk.branch.BranchFold.{BranchFold}
 use Rattle.wax_fold.specs.declared.walk.branch.BranchFold.TheVariants.{Alternation, Concatenation, Repetition}
+use Rattle.wax_token.specs.declared.token.BranchKind.TheVariants as kind
 
 -- what it is, and its tokens from left to right
 pub record Branch (A : Type 0) : Type 0 where

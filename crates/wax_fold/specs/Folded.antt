@@ -1,10 +1,7 @@
 -- The fold of a token tree.
-use Rattle.std.specs.Prelude.{ℕ, List, [], ◌∷◌, ◌++◌, Option, Some, None}
-use Rattle.std.specs.Option.{option_map}
-use Rattle.std.specs.List.{flat_map}
-use Rattle.wax_token.specs.Syntax.{Leaf, Tree, leaf, alternation, concatenation, repetition}
-use Rattle.wax_token.specs.Syntax.{Trees, none, more}
-use Rattle.wax_token.specs.Words.{listed}
+use Rattle.std.specs.{Prelude.{ℕ, List, [], ◌∷◌, ◌++◌, Option, Some, None}, Option.option_map, List.flat_map}
+use Rattle.wax_token.specs.Syntax.{Leaf, Tree, leaf, alternation, concatenation, repetition, Trees, none}
+use Rattle.wax_token.specs.{Syntax.more, Words.listed}
 use Rattle.wax_fold.specs.declared.walk.branch.BranchFold.TheVariants.{Alternation, Concatenation, Repetition}
 use Rattle.wax_fold.specs.Branches.{Branch, picked}
 

@@ -1,7 +1,7 @@
 -- A token tree that is built anew from the leaves up.
 use Rattle.std.specs.Prelude.{List, [], ◌++◌, Option, Some}
-use Rattle.wax_token.specs.Syntax.{Leaf, Tree, leaf, alternation, concatenation, repetition}
-use Rattle.wax_token.specs.Syntax.{Trees, none, more}
+use Rattle.wax_token.specs.Syntax.{Leaf, Tree, leaf, alternation, concatenation, repetition, Trees, none}
+use Rattle.wax_token.specs.Syntax.{more}
 use Rattle.wax_fold.specs.declared.walk.branch.BranchFold.{BranchFold}
 use Rattle.wax_fold.specs.declared.walk.branch.BranchFold.TheVariants.{Alternation, Concatenation, Repetition}
 use Rattle.wax_fold.specs.Folded.{listed_term}

@@ -1,12 +1,10 @@
 -- The tokens of trees breadth first: level after level, where each level is the children of the one before.
-use Rattle.std.specs.Prelude.{ℕ, ◌+◌, zero, suc, max, List, [], ◌∷◌, ◌++◌, map}
-use Rattle.std.specs.List.{flat_map}
+use Rattle.std.specs.{Prelude.{ℕ, ◌+◌, zero, suc, max, List, [], ◌∷◌, ◌++◌, map}, List.flat_map}
 use Rattle.wax_token.specs.Syntax.{Tree, leaf, alternation, concatenation, repetition, tree_size}
+use Rattle.wax_token.specs.Words.{listed}
 use Rattle.wax_fold.specs.declared.walk.branch.BranchFold.{BranchFold}
 use Rattle.wax_fold.specs.declared.walk.branch.BranchFold.TheVariants.{Alternation, Concatenation, Repetition}
-use Rattle.wax_fold.specs.declared.walk.entry.Position.{Position}
-use Rattle.wax_fold.specs.Branches.{Branch, picked}
-use Rattle.wax_token.specs.Words.{listed}
+use Rattle.wax_fold.specs.{declared.walk.entry.Position.Position, Branches.{Branch, picked}}
 use Rattle.wax_fold.specs.Positions.{origin, conjunction, disjunction}
 
 -- a token, and where it stands

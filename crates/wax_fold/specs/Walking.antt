@@ -1,14 +1,11 @@
 -- A walk on its way.
 use denote.Ref.{Bor}
-use Rattle.std.specs.Prelude.{◌≡◌, ℕ, ◌+◌, ◌*◌, List, [], ◌∷◌, ◌++◌, length, map}
-use Rattle.std.specs.Prelude.{Option, Some, None, Result, Ok, Err}
-use Rattle.std.specs.Option.{option_map}
+use Rattle.std.specs.Prelude.{◌≡◌, ℕ, ◌+◌, ◌*◌, List, [], ◌∷◌, ◌++◌, length, map, Option, Some, None, Result}
+use Rattle.std.specs.{Prelude.{Ok, Err}, Option.option_map}
 use Rattle.wax_query.specs.declared.diagnostics.NoMemory.{NoMemory}
 use Rattle.wax_token.specs.Syntax.{Tree}
-use Rattle.wax_fold.specs.declared.walk.entry.WalkEntry.{WalkEntry}
-use Rattle.wax_fold.specs.declared.walk.iterator.Walk.{Walk}
-use Rattle.wax_fold.specs.Branches.{Branch}
-use Rattle.wax_fold.specs.Folded.{listed_term}
+use Rattle.wax_fold.specs.{declared.walk.entry.WalkEntry.WalkEntry, declared.walk.iterator.Walk.Walk}
+use Rattle.wax_fold.specs.{Branches.Branch, Folded.listed_term}
 use Rattle.wax_fold.specs.Order.{Entry, root_entry, children, breadth_first}
 
 -- the tokens that are to come with all below them, and the token given last, unless what is below it was

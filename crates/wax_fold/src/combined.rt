@@ -1,12 +1,8 @@
 //! Combining tokens into one.
 ghost use Rattle.std.specs.Prelude.{◌≡◌, ◌↔◌, ℕ, Bool, IfOk, List, map, ⊤};
-ghost use Rattle.wax_token.specs.Meaning.{Means, MeansSome};
-ghost use Rattle.wax_token.specs.Syntax.{Tree, alternation};
-ghost use Rattle.wax_token.specs.View.{leaf_of};
+ghost use Rattle.wax_token.specs.{Meaning.{Means, MeansSome}, Syntax.{Tree, alternation}, View.leaf_of};
 ghost use Rattle.wax_token.specs.Words.{trees};
-ghost use Rattle.wax_fold.specs.Bare.{bare, baring};
-ghost use Rattle.wax_fold.specs.Branches.{composed};
-ghost use Rattle.wax_fold.specs.Mapped.{Mapping};
+ghost use Rattle.wax_fold.specs.{Bare.{bare, baring}, Branches.composed, Mapped.Mapping};
 
 use crate::walk::{BranchFold, FoldMap, fold_map};
 use std::alloc::Global;

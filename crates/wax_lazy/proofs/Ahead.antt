@@ -1,24 +1,17 @@
 -- Whether a text below another is accepted.
-use Rattle.std.proofs.Common.{◌≡◌, ◌≢◌, ◌↔◌, ◌⊎◌, ℕ, Bool, IsTrue, true, false, List, [], ◌∷◌, ◌++◌}
-use Rattle.std.proofs.Common.{Option, if◌then◌else◌, inl, inr, refl, sym, ◌∙◌, ap, subst, true≢false, arith}
-use Rattle.std.proofs.lemmas.Bool.{cases_eq}
-use Rattle.std.proofs.lemmas.List.{append-nil, append_assoc}
+use Rattle.std.proofs.Common.{◌≡◌, ◌≢◌, ◌↔◌, ◌⊎◌, ℕ, Bool, IsTrue, true, false, List, [], ◌∷◌, ◌++◌, Option}
+use Rattle.std.proofs.Common.{if◌then◌else◌, inl, inr, refl, sym, ◌∙◌, ap, subst, true≢false, arith}
+use Rattle.std.proofs.{lemmas.Bool.cases_eq, lemmas.List.{append-nil, append_assoc}}
 use Rattle.std.specs.Str.{all_scalars}
-use Rattle.wax_lazy.specs.Verdict.{AcceptsBelow}
-use Rattle.wax_lazy.specs.inner.Cached.{AcceptsAhead, AnyAhead, IsAheadVerdict}
+use Rattle.wax_lazy.specs.{Verdict.AcceptsBelow, inner.Cached.{AcceptsAhead, AnyAhead, IsAheadVerdict}}
 use Rattle.wax_program.specs.declared.instruction.Instruction.{Instruction}
 use Rattle.wax_program.specs.declared.onward.Ahead.TheVariants.{Rest, Path, Below}
-use Rattle.wax_program.specs.declared.onward.Ahead.{Ahead}
-use Rattle.wax_program.specs.Last.{IsLastName, ReadsLast}
-use Rattle.wax_program.specs.Machine.{Accepts}
-use Rattle.wax_program.specs.Onward.{AreFlagsOf, PlaceFlags, GoesOn, IsAhead}
-use Rattle.wax_program.specs.Threads.{AnyAmong}
+use Rattle.wax_program.specs.{declared.onward.Ahead.Ahead, Last.{IsLastName, ReadsLast}, Machine.Accepts}
+use Rattle.wax_program.specs.{Onward.{AreFlagsOf, PlaceFlags, GoesOn, IsAhead}, Threads.AnyAmong}
 use Rattle.wax_program.proofs.Opens.{folder_scalars, last_open, path_closed}
 use Rattle.wax_program.proofs.Scalars.{scalar_rest, scalars_after, scalars_append}
-use Rattle.wax_query.proofs.Below.{allows_one, one_name, path_goes_on}
-use Rattle.wax_query.specs.Below.{IsPathWithin, folder_text, ends_open}
-use Rattle.wax_query.proofs.Ends.{closed_name}
-use Rattle.wax_query.specs.Components.{HasNoSlash}
+use Rattle.wax_query.proofs.{Below.{allows_one, one_name, path_goes_on}, Ends.closed_name}
+use Rattle.wax_query.specs.{Below.{IsPathWithin, folder_text, ends_open}, Components.HasNoSlash}
 use Rattle.wax_query.specs.Ranges.{AtMost}
 
 -- a name

@@ -1,26 +1,22 @@
 -- Caches whose states change.
-use Rattle.std.proofs.Common.{◌≡◌, ◌≤◌, ◌<◌, ◌↔◌, ℕ, Bool, IsTrue, ◌+◌, ◌*◌, slice_get, set, List, []}
-use Rattle.std.proofs.Common.{◌∷◌, ◌++◌, ◌⊎◌, inl, inr, Option, Some, None, IfSome, Result, Ok, Err, IfOk}
-use Rattle.std.proofs.Common.{OnErr, length, sym, ◌∙◌, ap, subst, arith, length-append, replicate}
+use Rattle.std.proofs.Common.{◌≡◌, ◌≤◌, ◌<◌, ◌↔◌, ℕ, Bool, IsTrue, ◌+◌, ◌*◌, slice_get, set, List, [], ◌∷◌}
+use Rattle.std.proofs.Common.{◌++◌, ◌⊎◌, inl, inr, Option, Some, None, IfSome, Result, Ok, Err, IfOk, OnErr}
+use Rattle.std.proofs.Common.{length, sym, ◌∙◌, ap, subst, arith, length-append, replicate}
 use Rattle.std.proofs.lemmas.List.{length-replicate}
-use Rattle.wax_lazy.specs.Cost.{most_kept}
-use Rattle.wax_lazy.specs.declared.cache.Cache.{Cache}
-use Rattle.wax_states.specs.declared.table.State.{State}
-use Rattle.std.specs.Global.{Vec}
+use Rattle.wax_lazy.specs.{Cost.most_kept, declared.cache.Cache.Cache}
 use Rattle.wax_lazy.specs.inner.Cached.{AreParted, GrowsBy, IsAdded, IsCacheOf, IsCleared, IsInterned}
-use Rattle.wax_lazy.specs.inner.Cached.{IsRestarted, IsSameMaker, KeepsCache}
-use Rattle.wax_lazy.specs.inner.Rows.{AreRows}
+use Rattle.wax_lazy.specs.{inner.Cached.{IsRestarted, IsSameMaker, KeepsCache}, inner.Rows.AreRows}
 use Rattle.wax_lazy.specs.inner.Table.{AreNumbersOf, BeginsTexts, IsFailureState, IsState, IsTable}
 use Rattle.wax_lazy.specs.inner.Table.{AreWideCells, KeepsStates}
-use Rattle.wax_states.specs.Alike.{AreLettersOf}
+use Rattle.wax_states.specs.{declared.table.State.State, Alike.AreLettersOf}
 use Rattle.wax_states.specs.States.{IsSettled, HasState, IsTransition, IsWrittenWide, AreEmpty, places_at}
 use Rattle.wax_states.specs.States.{places_in}
+use Rattle.std.specs.Global.{Vec}
 use Rattle.wax_lazy.proofs.RowCells.{rows_empty, rows_keep}
 use Rattle.wax_lazy.proofs.Tables.{begins_keeps, keeps_append, keeps_more, settled_keeps, slice_get_end}
 use Rattle.wax_lazy.proofs.Tables.{table_empty, table_filled, table_push, table_settled, wide_empty}
 use Rattle.wax_lazy.proofs.Tables.{wide_keeps, wide_written}
-use Rattle.wax_program.specs.declared.instruction.Instruction.{Instruction}
-use Rattle.wax_program.specs.Threads.{AnyAmong}
+use Rattle.wax_program.specs.{declared.instruction.Instruction.Instruction, Threads.AnyAmong}
 
 pub first_keeps : (code : List Instruction) (old new : List State) (start : ℕ) (first : Option ℕ)
     → KeepsStates old new

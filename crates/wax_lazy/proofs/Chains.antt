@@ -5,20 +5,17 @@ use Rattle.std.proofs.Common.{slice_get, refl, sym, ◌∙◌, ap, subst, true�
 use Rattle.std.proofs.lemmas.List.Elements.{Contains-append_left, Contains-push, Contains-push_cases}
 use Rattle.std.proofs.lemmas.List.Sorted.{Contains-permutation, IsPermutation-sym}
 use Rattle.std.proofs.lemmas.Option.{slice_get_within}
-use Rattle.wax_lazy.specs.declared.cache.Chain.{Chain}
+use Rattle.wax_lazy.specs.{declared.cache.chains.Chain.Chain, inner.Cached.{DecidesLeft, IsChain}}
+use Rattle.wax_lazy.specs.inner.Table.{IsFailureState, IsTable, IsJoinOf, own_at}
 use Rattle.wax_states.specs.declared.table.Next.{Next}
 use Rattle.wax_states.specs.declared.table.Next.TheVariants.{To, Nothing, Everything}
 use Rattle.wax_states.specs.declared.table.State.{State}
-use Rattle.wax_lazy.specs.inner.Cached.{DecidesLeft, IsChain}
-use Rattle.wax_lazy.specs.inner.Table.{IsFailureState, IsTable, IsJoinOf, own_at}
 use Rattle.wax_states.specs.States.{HasState, LeadsNext, TakesAll, state_of, places_at, places_in}
 use Rattle.wax_states.specs.States.{places_or_none}
 use Rattle.wax_lazy.proofs.Tables.{one_place, failure_at}
-use Rattle.wax_program.specs.Checks.{IsCheckAt}
-use Rattle.wax_program.specs.declared.instruction.Instruction.{Instruction}
+use Rattle.wax_program.specs.{Checks.IsCheckAt, declared.instruction.Instruction.Instruction}
 use Rattle.wax_program.specs.declared.instruction.Instruction.TheVariants.{Check}
-use Rattle.wax_program.specs.Machine.{Accepts, AcceptsIn, Moves}
-use Rattle.wax_program.specs.Threads.{AnyAmong}
+use Rattle.wax_program.specs.{Machine.{Accepts, AcceptsIn, Moves}, Threads.AnyAmong}
 
 -- ---- checks
 same_instruction : {i j : Instruction} → Some i ≡ Some j → i ≡ j

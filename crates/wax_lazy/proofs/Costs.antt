@@ -1,18 +1,15 @@
 -- Visits, counted for each character.
-use Rattle.std.proofs.Common.{◌≡◌, ◌≤◌, ◌+◌, ◌*◌, ◌∷◌, ℕ, List, arith, inl}
-use Rattle.std.proofs.Common.{inr, drop, length, take, ap, subst, sym, ◌∙◌, length-append}
-use Rattle.std.proofs.Common.{◌<◌, None, Option, Some, cond, nat_lt, refl}
+use Rattle.std.proofs.Common.{◌≡◌, ◌≤◌, ◌+◌, ◌*◌, ◌∷◌, ℕ, List, arith, inl, inr, drop, length, take, ap}
+use Rattle.std.proofs.Common.{subst, sym, ◌∙◌, length-append, ◌<◌, None, Option, Some, cond, nat_lt, refl}
 use Rattle.std.proofs.Math.Nat.{mul-le-mul_left, mul-le-mul_right}
 use Rattle.std.proofs.lemmas.Bool.{cases_lt, cond_above, cond_below}
 use Rattle.std.proofs.lemmas.Str.{IsCharBoundary-from_drop, IsUtf8-take, chars-append}
 use Rattle.std.proofs.lemmas.List.{take-append-drop}
 use Rattle.std.specs.Str.{IsUtf8, chars}
-use Rattle.wax_lazy.specs.Cost.{char_visits, end_visits, fill_visits, list_visits, match_visits}
-use Rattle.wax_lazy.specs.Cost.{first_visits, letters_visits, numbers_visits, path_visits}
-use Rattle.wax_lazy.specs.Cost.{step_visits, text_visits}
+use Rattle.wax_lazy.specs.Cost.{char_visits, end_visits, fill_visits, list_visits, match_visits, first_visits}
+use Rattle.wax_lazy.specs.Cost.{letters_visits, numbers_visits, path_visits, step_visits, text_visits}
 use Rattle.wax_program.specs.Visits.{flags_visits, onward_visits}
-use Rattle.wax_program.specs.declared.instruction.Instruction.{Instruction}
-use Rattle.wax_program.specs.Last.{IsLastName}
+use Rattle.wax_program.specs.{declared.instruction.Instruction.Instruction, Last.IsLastName}
 
 -- from i to j, x visits were taken for each, and then at most as many for the next one
 pub spent_one : (x i j old mid new k : ℕ) → mid + x * i ≤ old + x * j → new ≤ mid + k → k ≤ x
@@ -172,6 +169,14 @@ module _ (code : List Instruction) where
       let a : (length code + 1) * (m + 1) ≤ char_visits code * (m + 1) =
       mul-le-mul_right (m + 1) (let e : length code + 1 ≤ char_visits code = char_any in e) in
       omega (arith, a, h)
+
+  -- a text that is followed without states, and the numbers of its end
+  pub listed_once : (m old new : ℕ) → new ≤ old + length code * m + (2 * length code + 1)
+      → new ≤ old + list_visits code m
+  listed_once m old new h =
+      let a : length code * m ≤ char_visits code * m =
+      mul-le-mul_right m (let e : length code ≤ char_visits code = omega (arith, char_any) in e) in
+      omega (arith, a, h, char_any)
 
 -- ---- the same by the length of a program
 module _ (code : List Instruction) (len : ℕ) (longer : length code < len) where

@@ -1,25 +1,17 @@
 -- The numbers of a state, by those of its own places and those of its failure state.
 use Rattle.std.proofs.Common.{IsPermutation, ◌≡◌, ◌<◌, ◌⊎◌, ◌↔◌, ◌++◌, ◌∷◌, [], inl, inr, ℕ, List, Contains}
-use Rattle.std.proofs.Common.{ap, arith, length, subst, sym}
-use Rattle.std.proofs.Math.Dec.{eqb}
+use Rattle.std.proofs.{Common.{ap, arith, length, subst, sym}, Math.Dec.eqb}
 use Rattle.std.proofs.lemmas.List.Elements.{Contains-append_cases, Contains-append_left}
-use Rattle.std.proofs.lemmas.List.Elements.{Contains-append_right}
-use Rattle.std.proofs.lemmas.List.Filters.{dedup_is}
+use Rattle.std.proofs.{lemmas.List.Elements.Contains-append_right, lemmas.List.Filters.dedup_is}
 use Rattle.std.proofs.lemmas.List.Kept.{Contains-dedup_nat, Contains-from_dedup}
 use Rattle.std.proofs.lemmas.List.Sorted.{Contains-permutation, IsPermutation-sym}
 use Rattle.std.proofs.lemmas.Map.Keys.{IsStrictlyIncreasing-dedup}
-use Rattle.std.specs.List.{dedup}
-use Rattle.std.specs.List.Retain.{DiffersFromLast, IsFiltered}
-use Rattle.std.specs.List.Sorted.{IsSorted, IsStrictlyIncreasing}
-use Rattle.std.specs.Ordering.{nat_cmp}
+use Rattle.std.specs.{List.dedup, List.Retain.{DiffersFromLast, IsFiltered}}
+use Rattle.std.specs.{List.Sorted.{IsSorted, IsStrictlyIncreasing}, Ordering.nat_cmp}
 use Rattle.wax_lazy.specs.inner.Table.{AreJoined, AreNumbersOf, IsFailureState, KeepsStates}
 use Rattle.wax_lazy.proofs.Tables.{places_keep}
-use Rattle.wax_program.specs.declared.instruction.Instruction.{Instruction}
-use Rattle.wax_program.specs.Machine.{mark}
-use Rattle.wax_program.specs.Threads.{AnyAmong}
-use Rattle.wax_states.specs.declared.table.State.{State}
-use Rattle.wax_states.specs.Reached.{AreEndsMarked}
-use Rattle.wax_states.specs.States.{HasState, places_at}
+use Rattle.wax_program.specs.{declared.instruction.Instruction.Instruction, Machine.mark, Threads.AnyAmong}
+use Rattle.wax_states.specs.{declared.table.State.State, Reached.AreEndsMarked, States.{HasState, places_at}}
 
 -- these are the numbers of both lists
 abbrev pub AreEither : List ℕ → List ℕ → List ℕ → Type 0

@@ -5,19 +5,13 @@ use Rattle.std.proofs.Common.{◌∷◌, ◌++◌, length, inl, inr, ◌∙◌, 
 use Rattle.std.proofs.lemmas.List.{get_or_default}
 use Rattle.std.proofs.lemmas.Option.{get_or_from_slice_get, slice_get-get_or, slice_get_within}
 use Rattle.std.specs.List.Sorted.{IsStrictlyIncreasing}
-use Rattle.wax_lazy.specs.inner.Cached.{IsFollowed}
-use Rattle.wax_lazy.specs.inner.Table.{AreNumbersOf}
+use Rattle.wax_lazy.specs.{inner.Cached.IsFollowed, inner.Table.AreNumbersOf}
 use Rattle.wax_lazy.specs.Numbers.{AreNumbersFrom, IsLastWhere}
-use Rattle.wax_program.proofs.LastNames.{name_decides}
-use Rattle.wax_program.proofs.Marks.{never_plain}
-use Rattle.wax_program.specs.Closed.{IsClosed}
-use Rattle.wax_program.specs.declared.instruction.Instruction.{Instruction}
-use Rattle.wax_program.specs.Last.{IsLastName, ReadsLast}
-use Rattle.wax_program.specs.Machine.{Accepts, mark}
-use Rattle.wax_program.specs.Threads.{AnyAmong}
+use Rattle.wax_program.proofs.{LastNames.name_decides, Marks.never_plain}
+use Rattle.wax_program.specs.{Closed.IsClosed, declared.instruction.Instruction.Instruction}
+use Rattle.wax_program.specs.{Last.{IsLastName, ReadsLast}, Machine.{Accepts, mark}, Threads.AnyAmong}
 use Rattle.wax_lazy.proofs.Tables.{no_place}
-use Rattle.wax_states.specs.States.{IsDead, LeadOn}
-use Rattle.wax_states.specs.Reached.{AreReached, taken_if}
+use Rattle.wax_states.specs.{States.{IsDead, LeadOn}, Reached.{AreReached, taken_if}}
 use Rattle.wax_token.specs.Meaning.{HasNoSlash}
 
 module _ (code : List Instruction) (start : ℕ) (text : List ℕ) where

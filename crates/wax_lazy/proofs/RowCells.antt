@@ -1,27 +1,22 @@
 -- Rows that are added, and their cells that are filled.
-use Rattle.std.proofs.Common.{◌≡◌, ℕ, suc, ◌+◌, ◌-◌, ◌*◌, ◌<◌, ◌≤◌, ◌⊎◌, ◌↔◌, inl, inr, List, [], ◌∷◌}
-use Rattle.std.proofs.Common.{◌++◌, Some, None, length, get_or, set, replicate, take, take-suc, take_all}
-use Rattle.std.proofs.Common.{drop, refl, sym, ◌∙◌, ap, subst, arith, slice_get, length-append, length-set}
+use Rattle.std.proofs.Common.{◌≡◌, ℕ, suc, ◌+◌, ◌-◌, ◌*◌, ◌<◌, ◌≤◌, ◌⊎◌, ◌↔◌, inl, inr, List, [], ◌∷◌, ◌++◌}
+use Rattle.std.proofs.Common.{Some, None, length, get_or, set, replicate, take, take-suc, take_all, drop}
+use Rattle.std.proofs.Common.{refl, sym, ◌∙◌, ap, subst, arith, slice_get, length-append, length-set}
 use Rattle.std.proofs.Common.{append_assoc, get_or-set_same, get_or-set_other}
 use Rattle.std.proofs.lemmas.Bool.{cases_eq, cases_lt}
 use Rattle.std.proofs.lemmas.List.{get_or_append_left, get_or-append_right, get_or-replicate}
-use Rattle.std.proofs.lemmas.List.{length-replicate}
-use Rattle.std.proofs.lemmas.Option.{slice_get_within}
+use Rattle.std.proofs.{lemmas.List.length-replicate, lemmas.Option.slice_get_within}
 use Rattle.std.proofs.lemmas.Str.{IsUtf8-past_char, chars_past_char}
-use Rattle.std.specs.Char.{encode_utf8}
-use Rattle.std.specs.Str.{IsUtf8, chars}
-use Rattle.wax_lazy.specs.declared.rows.RowKey.{RowKey}
-use Rattle.wax_lazy.specs.inner.Cached.{DecidesLeft}
+use Rattle.std.specs.{Char.encode_utf8, Str.{IsUtf8, chars}}
+use Rattle.wax_lazy.specs.{declared.rows.RowKey.RowKey, inner.Cached.DecidesLeft}
 use Rattle.wax_lazy.specs.inner.Rows.{AreRows, EndsChar, HasRow, IsCellTo, IsRowCell, LeadsRow, begun_bytes}
 use Rattle.wax_lazy.specs.inner.Table.{KeepsStates}
 use Rattle.wax_lazy.proofs.Tables.{leads_to_keeps, placed_keeps, places_keep, slice_get_append, slice_get_end}
 use Rattle.wax_lazy.proofs.Walking.{next_of}
-use Rattle.wax_states.specs.declared.table.Next.{Next}
-use Rattle.wax_states.specs.declared.table.Next.TheVariants.{To}
+use Rattle.wax_states.specs.{declared.table.Next.Next, declared.table.Next.TheVariants.To}
 use Rattle.wax_states.specs.declared.table.State.{State}
 use Rattle.wax_states.specs.States.{IsDead, HasState, LeadsNext, LeadsTo, TakesAll, places_at}
-use Rattle.wax_program.specs.declared.instruction.Instruction.{Instruction}
-use Rattle.wax_program.specs.Threads.{AnyAmong}
+use Rattle.wax_program.specs.{declared.instruction.Instruction.Instruction, Threads.AnyAmong}
 
 no_key : {key : RowKey} → None ≡ Some key → ⊥
 no_key e = cc

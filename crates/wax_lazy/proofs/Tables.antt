@@ -1,28 +1,24 @@
 -- States that are added, and cells that are filled.
-use Rattle.std.proofs.Common.{◌≡◌, ℕ, zero, suc, ◌+◌, ◌-◌, ◌*◌, ◌<◌, ◌≤◌, ◌⊎◌, ◌↔◌, ◌≢◌, inl, inr}
-use Rattle.std.proofs.Common.{Bool, true, false, List, [], ◌∷◌, ◌++◌, Option, Some, None, IfSome, IsTrue}
-use Rattle.std.proofs.Common.{is_some, true≢false, Contains, length, get_or, set, replicate, refl, sym, ◌∙◌}
-use Rattle.std.proofs.Common.{ap, subst, arith, slice_get, length-append, length-set, get_or-set_same}
-use Rattle.std.proofs.Common.{get_or-set_other}
+use Rattle.std.proofs.Common.{◌≡◌, ℕ, zero, suc, ◌+◌, ◌-◌, ◌*◌, ◌<◌, ◌≤◌, ◌⊎◌, ◌↔◌, ◌≢◌, inl, inr, Bool, true}
+use Rattle.std.proofs.Common.{false, List, [], ◌∷◌, ◌++◌, Option, Some, None, IfSome, IsTrue, is_some}
+use Rattle.std.proofs.Common.{true≢false, Contains, length, get_or, set, replicate, refl, sym, ◌∙◌, ap, subst}
+use Rattle.std.proofs.Common.{arith, slice_get, length-append, length-set, get_or-set_same, get_or-set_other}
 use Rattle.std.proofs.lemmas.Bool.{cases_eq, cases_lt}
 use Rattle.std.proofs.lemmas.List.{get_or_append_left, get_or-append_right, get_or-replicate}
-use Rattle.std.proofs.lemmas.List.{length-replicate}
-use Rattle.std.proofs.lemmas.Option.{slice_get_cases, slice_get_within}
+use Rattle.std.proofs.{lemmas.List.length-replicate, lemmas.Option.{slice_get_cases, slice_get_within}}
 use Rattle.std.specs.Global.{Vec}
-use Rattle.wax_states.specs.declared.table.State.{State}
-use Rattle.wax_states.specs.declared.table.WideCell.{WideCell}
+use Rattle.wax_states.specs.{declared.table.State.State, declared.table.WideCell.WideCell}
 use Rattle.wax_states.specs.declared.table.Next.{Next}
 use Rattle.wax_states.specs.declared.table.Next.TheVariants.{To, Nothing, Everything}
+use Rattle.wax_states.specs.States.{AreEmpty, HasWide, IsWrittenWide, cell_of_next, IsDead, IsSettled}
+use Rattle.wax_states.specs.States.{HasState, IsTransition, LeadOn, LeadsNext, LeadsTo, TakesAll, state_of}
+use Rattle.wax_states.specs.States.{places_at, places_in, places_or_none, with_said}
+use Rattle.wax_states.specs.Reached.{AreReached, taken_if}
 use Rattle.wax_lazy.specs.Cost.{most_kept}
 use Rattle.wax_lazy.specs.inner.Table.{AreNumbersOf, AreWideCells, BeginsTexts, IsFailureState, IsState}
 use Rattle.wax_lazy.specs.inner.Table.{IsTable, IsJoinOf, KeepsStates, Leads, known_numbers, numbers_in}
 use Rattle.wax_lazy.specs.inner.Table.{own_at, own_in}
-use Rattle.wax_states.specs.States.{AreEmpty, HasWide, IsWrittenWide, cell_of_next, IsDead, IsSettled}
-use Rattle.wax_states.specs.States.{HasState, IsTransition, LeadOn, LeadsNext, LeadsTo, TakesAll, state_of}
-use Rattle.wax_states.specs.States.{places_at, places_in, places_or_none, with_said}
-use Rattle.wax_program.specs.declared.instruction.Instruction.{Instruction}
-use Rattle.wax_program.specs.Machine.{Accepts}
-use Rattle.wax_states.specs.Reached.{AreReached, taken_if}
+use Rattle.wax_program.specs.{declared.instruction.Instruction.Instruction, Machine.Accepts}
 use Rattle.wax_program.specs.Threads.{AnyAmong, AreParts}
 
 -- ---- lists

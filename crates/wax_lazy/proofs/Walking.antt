@@ -1,14 +1,11 @@
 -- A text that is followed from state to state.
-use Rattle.std.proofs.Common.{◌≡◌, ℕ, suc, ◌+◌, ◌<◌, ◌↔◌, Bool, IsTrue, List, [], ◌∷◌, ◌++◌, length}
-use Rattle.std.proofs.Common.{get_or, drop, refl, sym, ◌∙◌, ap, subst, arith, drop-cons}
+use Rattle.std.proofs.Common.{◌≡◌, ℕ, suc, ◌+◌, ◌<◌, ◌↔◌, Bool, IsTrue, List, [], ◌∷◌, ◌++◌, length, get_or}
+use Rattle.std.proofs.Common.{drop, refl, sym, ◌∙◌, ap, subst, arith, drop-cons}
 use Rattle.wax_lazy.specs.inner.Cached.{DecidesLeft, LeadsFor}
 use Rattle.wax_states.specs.declared.table.Next.{Next}
 use Rattle.wax_states.specs.declared.table.Next.TheVariants.{To, Nothing, Everything}
-use Rattle.wax_states.specs.declared.table.State.{State}
-use Rattle.wax_states.specs.States.{HasState, LeadOn, places_at}
-use Rattle.wax_program.specs.declared.instruction.Instruction.{Instruction}
-use Rattle.wax_program.specs.Machine.{Accepts}
-use Rattle.wax_program.specs.Threads.{AnyAmong}
+use Rattle.wax_states.specs.{declared.table.State.State, States.{HasState, LeadOn, places_at}}
+use Rattle.wax_program.specs.{declared.instruction.Instruction.Instruction, Machine.Accepts, Threads.AnyAmong}
 
 -- a character that is left leads on
 pub stays_on : (code : List Instruction) (start : ℕ) (text left places rest others : List ℕ) (c : ℕ)

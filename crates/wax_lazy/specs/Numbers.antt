@@ -1,8 +1,7 @@
 -- The numbers of the patterns that match a text.
 use Rattle.std.specs.Prelude.{◌↔◌, ◌≤◌, ◌++◌, ◌∷◌, [], Contains, List, None, Option, Some, ℕ}
 use Rattle.std.specs.List.Sorted.{IsStrictlyIncreasing}
-use Rattle.wax_program.specs.declared.instruction.Instruction.{Instruction}
-use Rattle.wax_program.specs.Machine.{Accepts, mark}
+use Rattle.wax_program.specs.{declared.instruction.Instruction.Instruction, Machine.{Accepts, mark}}
 
 -- these are the numbers whose marks are accepted after the text, from a place on, ascending
 abbrev pub AreNumbersFrom : List Instruction → ℕ → List ℕ → List ℕ → Type 0

@@ -1,10 +1,7 @@
 -- Whether a text is accepted, and whether one below it is.
-use Rattle.std.specs.Prelude.{◌≡◌, ◌↔◌, IsTrue, List, Option, ℕ, true}
-use Rattle.std.specs.Str.{all_scalars}
-use Rattle.wax_program.specs.declared.instruction.Instruction.{Instruction}
-use Rattle.wax_program.specs.Machine.{Accepts}
-use Rattle.wax_query.specs.Below.{IsBelowWithin}
-use Rattle.wax_query.specs.declared.query.verdict.Verdict.{Verdict}
+use Rattle.std.specs.{Prelude.{◌≡◌, ◌↔◌, IsTrue, List, Option, ℕ, true}, Str.all_scalars}
+use Rattle.wax_program.specs.{declared.instruction.Instruction.Instruction, Machine.Accepts}
+use Rattle.wax_query.specs.{Below.IsBelowWithin, declared.query.verdict.Verdict.Verdict}
 
 -- some text of something at most so many names below the folder with this text is accepted, one that consists
 -- of characters

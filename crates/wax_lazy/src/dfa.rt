@@ -1,16 +1,11 @@
 //! Deciding many texts by one program.
-ghost use Rattle.std.specs.Prelude.{◌≡◌, ◌+◌, ◌*◌, ◌≤◌, ◌↔◌, IfOk, IsFalse, IsTrue, List, None, Some};
-ghost use Rattle.std.specs.Prelude.{chars, is_some, length};
-ghost use Rattle.wax_lazy.specs.Cost.{list_visits, match_visits, most_kept};
-ghost use Rattle.wax_lazy.specs.Dfa.{IsDfaOf, KnowsAhead};
-ghost use Rattle.wax_lazy.specs.Numbers.{AreNumbers};
-ghost use Rattle.wax_lazy.specs.Verdict.{IsVerdict};
+ghost use Rattle.std.specs.Prelude.{◌≡◌, ◌+◌, ◌*◌, ◌≤◌, ◌↔◌, IfOk, IsFalse, IsTrue, List, None, Some, chars};
+ghost use Rattle.std.specs.Prelude.{is_some, length};
+ghost use Rattle.wax_lazy.specs.{Cost.{list_visits, match_visits, most_kept}, Dfa.{IsDfaOf, KnowsAhead}};
+ghost use Rattle.wax_lazy.specs.{Numbers.AreNumbers, Verdict.IsVerdict};
 ghost use Rattle.wax_lazy.specs.inner.Cached.{IsFollowed, IsKeptFor, numbers_known};
-ghost use Rattle.wax_program.specs.Closed.{IsClosed};
-ghost use Rattle.wax_program.specs.Last.{ReadsLast};
-ghost use Rattle.wax_program.specs.Machine.{Accepts};
-ghost use Rattle.wax_program.specs.Onward.{AreFlagsOf, AreLevelsOf, HasLevel};
-ghost use Rattle.wax_program.specs.Visits.{onward_visits};
+ghost use Rattle.wax_program.specs.{Closed.IsClosed, Last.ReadsLast, Machine.Accepts};
+ghost use Rattle.wax_program.specs.{Onward.{AreFlagsOf, AreLevelsOf, HasLevel}, Visits.onward_visits};
 ghost use Rattle.wax_program.specs.declared.instruction.Instruction.{Instruction};
 
 use crate::cache::Cache;
@@ -31,7 +26,7 @@ const MOST_BYTES: usize = 2_097_152;
 const BYTES_PER_INSTRUCTION: usize = 512;
 
 /// How many they may take, about, however large the program is.
-const MOST_BYTES_OF_ALL: usize = 16_777_216;
+const MOST_BYTES_EVER: usize = 16_777_216;
 
 /// What is known of a program, and the states that earlier texts led to. It is apart from the program,
 /// so that a struct can hold both by value; each call takes the program. `Matcher` holds both together.
@@ -58,7 +53,7 @@ impl LazyDfa {
         ensures { IsDfaOf program.now.0 result }
     {
         let most_bytes = program.size().saturating_mul(BYTES_PER_INSTRUCTION);
-        let most_bytes = most_bytes.max(MOST_BYTES).min(MOST_BYTES_OF_ALL);
+        let most_bytes = most_bytes.max(MOST_BYTES).min(MOST_BYTES_EVER);
         LazyDfa::new(program, most_bytes)
     }
 

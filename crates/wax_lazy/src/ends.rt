@@ -4,11 +4,8 @@ ghost use Rattle.std.specs.Prelude.{length};
 ghost use Rattle.wax_states.specs.States.{HasState, state_of};
 ghost use Rattle.wax_lazy.specs.Cost.{end_visits, numbers_visits, text_visits};
 ghost use Rattle.wax_lazy.specs.inner.Cached.{AnyAhead, IsAheadVerdict, IsCacheOf, KeepsCache, LeadsText};
-ghost use Rattle.wax_lazy.specs.inner.Cached.{numbers_at};
-ghost use Rattle.wax_lazy.specs.Numbers.{AreNumbersFrom};
-ghost use Rattle.wax_program.specs.Closed.{IsClosed};
-ghost use Rattle.wax_program.specs.Machine.{Accepts};
-ghost use Rattle.wax_program.specs.Onward.{AreFlagsOf, IsAhead};
+ghost use Rattle.wax_lazy.specs.{inner.Cached.numbers_at, Numbers.AreNumbersFrom};
+ghost use Rattle.wax_program.specs.{Closed.IsClosed, Machine.Accepts, Onward.{AreFlagsOf, IsAhead}};
 ghost use Rattle.wax_query.specs.Ranges.{AtMost};
 
 use crate::cache::Cache;

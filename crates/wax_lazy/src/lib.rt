@@ -13,4 +13,4 @@ mod rows;
 
 pub use dfa::LazyDfa;
 pub use matcher::{HasProgram, Matcher};
-pub use once::{last_number, list_numbers};
+pub use once::{last_number, last_number_metered, list_numbers, list_numbers_metered};

@@ -1,11 +1,8 @@
 //! Matchers of many texts.
 ghost use Rattle.std.specs.Prelude.{◌≡◌, ◌+◌, ◌≤◌, ◌↔◌, IfOk, IsTrue, List, chars, length};
 ghost use Rattle.wax_lazy.specs.Cost.{list_visits, match_visits, most_kept};
-ghost use Rattle.wax_lazy.specs.Numbers.{AreNumbers, IsLastNumber};
-ghost use Rattle.wax_lazy.specs.Verdict.{IsVerdict};
-ghost use Rattle.wax_program.specs.Closed.{IsClosed};
-ghost use Rattle.wax_program.specs.Machine.{Accepts};
-ghost use Rattle.wax_program.specs.Visits.{onward_visits};
+ghost use Rattle.wax_lazy.specs.{Numbers.{AreNumbers, IsLastNumber}, Verdict.IsVerdict};
+ghost use Rattle.wax_program.specs.{Closed.IsClosed, Machine.Accepts, Visits.onward_visits};
 ghost use Rattle.wax_program.specs.declared.instruction.Instruction.{Instruction};
 
 use crate::dfa::LazyDfa;
@@ -76,11 +73,10 @@ impl<P: HasProgram + Drop> Drop for Matcher<P> {
 }
 
 impl<P: HasProgram> Model for Matcher<P> {
-    ghost use Rattle.std.specs.Prelude.{List};
-    ghost use Rattle.std.specs.Coded.{coded_list};
+    ghost use Rattle.std.specs.{Prelude.List, Coded.coded_list};
     ghost use Rattle.wax_program.specs.declared.instruction.Instruction.{Instruction};
-    ghost use Rattle.wax_program.specs.contracts.instruction.Instruction as instruction;
     ghost use Rattle.wax_lazy.specs.Dfa.{IsDfaOf};
+    ghost use Rattle.wax_program.specs.contracts.instruction.Instruction as instruction;
 
     ghost Value = { List Instruction };
 

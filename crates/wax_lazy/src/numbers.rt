@@ -1,6 +1,5 @@
 //! Ascending lists of numbers.
-ghost use Rattle.std.specs.Prelude.{◌↔◌, ◌⊎◌, ℕ, Contains, IfOk};
-ghost use Rattle.std.specs.List.Sorted.{IsStrictlyIncreasing};
+ghost use Rattle.std.specs.{Prelude.{◌↔◌, ◌⊎◌, ℕ, Contains, IfOk}, List.Sorted.IsStrictlyIncreasing};
 
 use std::alloc::AllocError;
 

@@ -1,7 +1,7 @@
 //! Rows of cells, which lead on by the bytes of a text, so that no character is decoded.
 ghost use Rattle.std.specs.Char.{encode_utf8};
-ghost use Rattle.std.specs.Prelude.{◌≡◌, ◌+◌, ◌-◌, ◌*◌, ◌/◌, ◌<◌, ◌≤◌, ◌⊎◌, ◌↔◌, ◌∷◌, ◌++◌, ℕ, []};
-ghost use Rattle.std.specs.Prelude.{IfOk, IfSome, IsTrue, OnErr, Some, length, replicate, take};
+ghost use Rattle.std.specs.Prelude.{◌≡◌, ◌+◌, ◌-◌, ◌*◌, ◌/◌, ◌<◌, ◌≤◌, ◌⊎◌, ◌↔◌, ◌∷◌, ◌++◌, ℕ, [], IfOk};
+ghost use Rattle.std.specs.Prelude.{IfSome, IsTrue, OnErr, Some, length, replicate, take};
 ghost use Rattle.wax_lazy.specs.inner.Rows.{AreRows, HasRow, IsCellTo, IsRowCell, begun_bytes};
 ghost use Rattle.wax_states.specs.States.{HasState, LeadsNext, places_at};
 
@@ -30,30 +30,30 @@ const MOST_ROWS: usize = 65_000;
 
 /// The bytes of a character that were read, if it has more.
 #[derive(Clone, Copy)]
-pub enum Begun {
+pub enum PartialChar {
     Zero,
     One(u8),
     Two(u8, u8),
     Three(u8, u8, u8),
 }
 
-impl Begun {
+impl PartialChar {
     /// Returns the first bytes of a character, of which it has more than `count`.
-    fn of(bytes: &[u8], count: usize) -> Begun
+    fn of(bytes: &[u8], count: usize) -> PartialChar
         requires few { count < 4 }
         requires within { count < length bytes.now }
         ensures { begun_bytes result ≡ take count bytes.now }
     {
         if count == 0 {
-            return Begun::Zero;
+            return PartialChar::Zero;
         }
         if count == 1 {
-            return Begun::One(bytes[0]);
+            return PartialChar::One(bytes[0]);
         }
         if count == 2 {
-            return Begun::Two(bytes[0], bytes[1]);
+            return PartialChar::Two(bytes[0], bytes[1]);
         }
-        Begun::Three(bytes[0], bytes[1], bytes[2])
+        PartialChar::Three(bytes[0], bytes[1], bytes[2])
     }
 
     /// Returns how many bytes were read.
@@ -61,10 +61,10 @@ impl Begun {
         ensures { result ≡ length (begun_bytes self) }
     {
         match self {
-            Begun::Zero => 0,
-            Begun::One(_) => 1,
-            Begun::Two(_, _) => 2,
-            Begun::Three(_, _, _) => 3,
+            PartialChar::Zero => 0,
+            PartialChar::One(_) => 1,
+            PartialChar::Two(_, _) => 2,
+            PartialChar::Three(_, _, _) => 3,
         }
     }
 
@@ -73,7 +73,7 @@ impl Begun {
         ensures { IsTrue result ↔ begun_bytes self ≡ [] }
     {
         match self {
-            Begun::Zero => true,
+            PartialChar::Zero => true,
             _ => false,
         }
     }
@@ -83,7 +83,7 @@ impl Begun {
 #[derive(Clone, Copy)]
 pub struct RowKey {
     pub state: StateId,
-    pub begun: Begun,
+    pub begun: PartialChar,
 }
 
 /// Rows of states that were met often, and of the characters that begin there.
@@ -224,7 +224,7 @@ impl Rows {
         }
         let row = self.push(RowKey {
             state,
-            begun: Begun::Zero,
+            begun: PartialChar::Zero,
         })?;
         self.name(state, row);
         Ok(Some(row))
@@ -309,7 +309,7 @@ impl Rows {
         }
         let made = self.push(RowKey {
             state,
-            begun: Begun::of(bytes, count + 1),
+            begun: PartialChar::of(bytes, count + 1),
         })?;
         self.cells[index] = cell_of_row(made);
         Ok(made)

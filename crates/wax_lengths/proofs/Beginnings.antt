@@ -1,15 +1,11 @@
 -- The beginnings of a text that a program accepts, by the sets that its run reaches.
 use Rattle.std.proofs.Common.{◌≡◌, ℕ, suc, ◌+◌, ◌-◌, ◌<◌, ◌↔◌, Bool, false, IsTrue, List, [], ◌∷◌, ◌++◌}
 use Rattle.std.proofs.Common.{length, get_or, take, drop, refl, sym, ◌∙◌, ap, subst, inl, inr, arith}
-use Rattle.std.proofs.Common.{append_assoc, append-nil, true≢false}
-use Rattle.std.proofs.Math.Seq.{take-add, get_or-append_seam}
-use Rattle.std.proofs.lemmas.Bool.{cases_lt}
-use Rattle.std.proofs.lemmas.List.{get_or_append_left, get_or_past}
-use Rattle.wax_program.specs.declared.instruction.Instruction.{Instruction}
-use Rattle.wax_lengths.specs.Ends.{MarksBeginnings}
-use Rattle.wax_program.specs.Machine.{Accepts}
-use Rattle.wax_program.specs.Places.{IsEmpty}
+use Rattle.std.proofs.{Common.{append_assoc, append-nil, true≢false}, Math.Seq.{take-add, get_or-append_seam}}
+use Rattle.std.proofs.{lemmas.Bool.cases_lt, lemmas.List.{get_or_append_left, get_or_past}}
+use Rattle.wax_program.specs.{declared.instruction.Instruction.Instruction, Machine.Accepts, Places.IsEmpty}
 use Rattle.wax_program.specs.Threads.{IsDone, Position, Inserted, AnyOf, Advances, Stays}
+use Rattle.wax_lengths.specs.Ends.{MarksBeginnings}
 use Rattle.wax_program.proofs.Advancing.{stays_start, stays_done, drop_one}
 
 -- the set accepts what goes on from the front exactly where the program accepts both together

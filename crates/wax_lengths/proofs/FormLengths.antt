@@ -1,20 +1,14 @@
 -- The lengths of the parts that forms take.
 use Rattle.std.proofs.Common.{◌≡◌, ℕ, zero, suc, ◌+◌, ◌<◌, ◌≤◌, ◌↔◌, ◌⊎◌, Bool, true, false, ◌||◌, IsTrue}
-use Rattle.std.proofs.Common.{List, [], ◌∷◌, ◌++◌, length, get_or, take, drop, drop-cons}
-use Rattle.std.proofs.Common.{refl, sym, ◌∙◌, ap, subst, inl, inr, arith, length-drop, length-take}
-use Rattle.std.proofs.Common.{true≢false}
-use Rattle.std.proofs.lemmas.Bool.{cases_eq, cases_lt}
-use Rattle.std.proofs.lemmas.List.{drop_all, get_or_past}
-use Rattle.std.proofs.Math.Seq.{take-suc}
-use Rattle.wax_program.specs.declared.instruction.Test.{Test}
-use Rattle.wax_program.specs.Machine.{PassesTest}
-use Rattle.wax_program.specs.Places.{HoldsPlace}
+use Rattle.std.proofs.Common.{List, [], ◌∷◌, ◌++◌, length, get_or, take, drop, drop-cons, refl, sym, ◌∙◌, ap}
+use Rattle.std.proofs.Common.{subst, inl, inr, arith, length-drop, length-take, true≢false}
+use Rattle.std.proofs.{lemmas.Bool.{cases_eq, cases_lt}, lemmas.List.get_or_past, Math.Seq.take-suc}
+use Rattle.wax_program.specs.{declared.instruction.Test.Test, Machine.PassesTest, Places.HoldsPlace}
 use Rattle.wax_query.specs.Components.{BeginsWithSlash, EndsWithSlash}
 use Rattle.wax_token.specs.Meaning.{HasNoSlash, TreeMeans}
 use Rattle.wax_lengths.specs.Forms.{IsLetter, SpelledBy}
 use Rattle.wax_lengths.specs.inner.Names.{tree_end, tree_low, tree_marks, name_len}
-use Rattle.wax_lengths.specs.Spans.{AreLengths, IsMarked}
-use Rattle.wax_lengths.specs.declared.span.Marks.TheVariants.{All, AfterSlash}
+use Rattle.wax_lengths.specs.{Spans.{AreLengths, IsMarked}, declared.span.Marks.TheVariants.{All, AfterSlash}}
 use Rattle.wax_lengths.specs.declared.span.LengthSpan.{LengthSpan}
 
 abbrev pub between : ℕ → ℕ → LengthSpan

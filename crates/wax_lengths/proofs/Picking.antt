@@ -1,9 +1,7 @@
 -- How the best length of a span is picked.
 use Rattle.std.proofs.Common.{◌≡◌, ◌≢◌, ℕ, zero, suc, ◌+◌, ◌-◌, ◌<◌, ◌≤◌, ◌↔◌, ◌⊎◌, true, false, List, length}
 use Rattle.std.proofs.Common.{get_or, drop, refl, sym, ◌∙◌, ap, subst, inl, inr, arith}
-use Rattle.std.proofs.lemmas.Bool.{cases_lt}
-use Rattle.std.proofs.lemmas.List.{get_or-drop}
-use Rattle.std.proofs.lemmas.Option.{get_or_from_slice_get}
+use Rattle.std.proofs.{lemmas.Bool.cases_lt, lemmas.List.get_or-drop, lemmas.Option.get_or_from_slice_get}
 use Rattle.wax_lengths.proofs.Lists.{slice_read}
 use Rattle.wax_lengths.specs.Spans.{InSpan, IsMarked, IsNarrowed, IsPicked, looks, looks_of}
 use Rattle.wax_lengths.specs.declared.span.Marks.{Marks}

@@ -1,14 +1,10 @@
 -- Runs of characters that pass a test, and how a text begins.
-use Rattle.std.proofs.Common.{◌≡◌, ℕ, zero, suc, ◌+◌, ◌<◌, ◌≤◌, ◌↔◌, Bool, true, false, List, [], ◌∷◌, Option}
-use Rattle.std.proofs.Common.{length, get_or, take, drop}
-use Rattle.std.proofs.Common.{refl, sym, ◌∙◌, ap, subst, inl, inr, arith, length-take}
+use Rattle.std.proofs.Common.{◌≡◌, ℕ, zero, suc, ◌+◌, ◌<◌, ◌≤◌, ◌↔◌, List, [], ◌∷◌, Option, length, get_or}
+use Rattle.std.proofs.Common.{take, drop, refl, sym, ◌∙◌, ap, subst, inl, inr, arith, length-take}
 use Rattle.std.proofs.lemmas.Bool.{cases_lt}
-use Rattle.wax_program.specs.declared.instruction.Test.{Test}
-use Rattle.wax_program.specs.Machine.{PassesTest}
-use Rattle.wax_query.specs.Components.{BeginsWithSlash}
-use Rattle.wax_query.specs.Ranges.{AtMost}
-use Rattle.wax_lengths.specs.Forms.{EachPasses, IsRunOf}
-use Rattle.wax_lengths.specs.Spans.{AreLengths}
+use Rattle.wax_program.specs.{declared.instruction.Test.Test, Machine.PassesTest}
+use Rattle.wax_query.specs.{Components.BeginsWithSlash, Ranges.AtMost}
+use Rattle.wax_lengths.specs.{Forms.{EachPasses, IsRunOf}, Spans.AreLengths}
 use Rattle.wax_lengths.proofs.FormLengths.{between, from_place}
 
 -- ---- runs

@@ -1,7 +1,6 @@
 -- Which beginnings of a text a program accepts, as flags.
 use Rattle.std.specs.Prelude.{ℕ, ◌<◌, ◌↔◌, Bool, List, take}
-use Rattle.wax_program.specs.declared.instruction.Instruction.{Instruction}
-use Rattle.wax_program.specs.Machine.{Accepts}
+use Rattle.wax_program.specs.{declared.instruction.Instruction.Instruction, Machine.Accepts}
 use Rattle.wax_program.specs.Places.{HoldsPlace}
 
 -- of the first `n` beginnings of the text, the empty one first, exactly the accepted ones are flagged

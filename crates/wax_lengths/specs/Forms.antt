@@ -1,8 +1,7 @@
 -- Which texts a form takes, and how often it looks at a character.
 use Rattle.std.specs.Prelude.{◌≡◌, ◌⊎◌, ℕ, ◌-◌, ◌≤◌, max, Bool, true, false, List, [], ◌∷◌, ⊤, length, Option}
 use Rattle.unicode.specs.CaseFolding.{simple_fold}
-use Rattle.wax_program.specs.Machine.{Accepts, PassesTest}
-use Rattle.wax_program.specs.declared.instruction.Instruction.{Instruction}
+use Rattle.wax_program.specs.{Machine.{Accepts, PassesTest}, declared.instruction.Instruction.Instruction}
 use Rattle.wax_program.specs.declared.instruction.Test.{Test}
 use Rattle.wax_query.specs.Ranges.{AtMost}
 use Rattle.wax_token.specs.Meaning.{HasNoSlash, TreeMeans}

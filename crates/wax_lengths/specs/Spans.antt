@@ -2,9 +2,7 @@
 use Rattle.std.specs.Prelude.{◌≡◌, ◌↔◌, ◌⊎◌, ℕ, zero, suc, ◌-◌, ◌<◌, ◌≤◌, Bool, List, ⊤, length, take}
 use Rattle.std.specs.Prelude.{slice_index_or}
 use Rattle.wax_program.specs.Places.{HoldsPlace}
-use Rattle.wax_lengths.specs.Prefers.{Prefers}
-use Rattle.wax_lengths.specs.Forms.{TakenBy}
-use Rattle.wax_lengths.specs.declared.form.Form.{Form}
+use Rattle.wax_lengths.specs.{Prefers.Prefers, Forms.TakenBy, declared.form.Form.Form}
 use Rattle.wax_lengths.specs.declared.span.Marks.{Marks}
 use Rattle.wax_lengths.specs.declared.span.Marks.TheVariants.{All, AfterSlash, Flags}
 use Rattle.wax_lengths.specs.declared.span.LengthSpan.{LengthSpan}

@@ -1,13 +1,11 @@
 //! The lengths of the parts of a text that a form takes from a place on.
-ghost use Rattle.std.specs.Prelude.{◌≡◌, ◌⊎◌, ◌||◌, ◌+◌, ◌*◌, ◌^◌, ◌<◌, ◌≤◌, ◌↔◌, ◌∷◌, [], ℕ, List};
-ghost use Rattle.std.specs.Prelude.{IfOk, IsFalse, IsTrue, false, length, take, drop};
+ghost use Rattle.std.specs.Prelude.{◌≡◌, ◌⊎◌, ◌||◌, ◌+◌, ◌*◌, ◌^◌, ◌<◌, ◌≤◌, ◌↔◌, ◌∷◌, [], ℕ, List, IfOk};
+ghost use Rattle.std.specs.Prelude.{IsFalse, IsTrue, false, length, take, drop};
 ghost use Rattle.wax_program.specs.Machine.{Accepts, PassesTest};
-ghost use Rattle.wax_query.specs.Components.{BeginsWithSlash};
-ghost use Rattle.wax_query.specs.Ranges.{AtMost};
+ghost use Rattle.wax_query.specs.{Components.BeginsWithSlash, Ranges.AtMost};
 ghost use Rattle.wax_token.specs.Meaning.{HasNoSlash, TreeMeans};
-ghost use Rattle.wax_lengths.specs.Forms.{EachPasses, IsLetter, IsRunOf, SpelledBy, TakenBy};
-ghost use Rattle.wax_lengths.specs.Forms.{form_size, program_size};
-ghost use Rattle.wax_lengths.specs.inner.Finding.{FindsLengths};
+ghost use Rattle.wax_lengths.specs.Forms.{EachPasses, IsLetter, IsRunOf, SpelledBy, TakenBy, form_size};
+ghost use Rattle.wax_lengths.specs.{Forms.program_size, inner.Finding.FindsLengths};
 ghost use Rattle.wax_lengths.specs.inner.Names.{tree_end, tree_low, tree_marks, name_len};
 ghost use Rattle.wax_lengths.specs.Spans.{HasLengths, looks};
 

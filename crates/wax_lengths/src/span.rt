@@ -1,7 +1,6 @@
 //! Spans: sets of lengths, from which the best is picked, one after another.
 ghost use Rattle.std.specs.Prelude.{◌≡◌, ◌+◌, ◌-◌, ◌<◌, ◌≤◌, ◌↔◌, ℕ, IsTrue, IfSome, MatchOption, length};
-ghost use Rattle.std.specs.Prelude.{drop};
-ghost use Rattle.std.specs.Prelude.{true, false};
+ghost use Rattle.std.specs.Prelude.{drop, true, false};
 ghost use Rattle.wax_program.specs.Places.{HoldsPlace};
 ghost use Rattle.wax_lengths.specs.Spans.{InSpan, IsMarked, IsNarrowed, IsPicked, looks, looks_of};
 

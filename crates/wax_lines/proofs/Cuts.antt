@@ -1,13 +1,10 @@
 -- How an input falls into lines.
 use Rattle.std.proofs.Common.{◌≡◌, ◌≢◌, ℕ, ◌+◌, false, List, [], ◌∷◌, ◌++◌, ◌==◌, if◌then◌else◌, All, refl}
-use Rattle.std.proofs.Common.{sym, ◌∙◌, ap, inl, inr, append_assoc, append-nil, arith}
-use Rattle.std.proofs.Common.{◌<◌, ◌≤◌, length, get_or, take, drop, length-take, true≢false}
-use Rattle.std.proofs.lemmas.Bool.Decides.{eqb_tells}
-use Rattle.std.proofs.lemmas.List.{get_or-take}
-use Rattle.std.proofs.lemmas.List.Elements.{All-from_get_or}
+use Rattle.std.proofs.Common.{sym, ◌∙◌, ap, inl, inr, append_assoc, append-nil, arith, ◌<◌, ◌≤◌, length}
+use Rattle.std.proofs.{Common.{get_or, take, drop, length-take, true≢false}, lemmas.Bool.Decides.eqb_tells}
+use Rattle.std.proofs.{lemmas.List.get_or-take, lemmas.List.Elements.{All-from_get_or, All-head, All-tail}}
 use Rattle.std.proofs.lemmas.List.Sums.{fails_before_first, split_at_first}
 use Rattle.std.specs.List.{position_or_len, before_first, after_first}
-use Rattle.std.proofs.lemmas.List.Elements.{All-head, All-tail}
 use Rattle.wax_lines.specs.Lines.{onto_lines, lines, onto_whole, whole_lines, Gives, Filters}
 use Rattle.wax_lines.specs.inner.Sifted.{HasNoNewline, is_feed, lines_text}
 use Rattle.wax_lines.proofs.Feeds.{byte_at_feed}

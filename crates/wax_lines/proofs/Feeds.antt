@@ -1,14 +1,12 @@
 -- The first line feed, found in vectors of bytes.
 use Rattle.std.proofs.Common.{◌≡◌, ℕ, ◌+◌, ◌*◌, ◌<◌, ◌≤◌, Bool, true, false, cond, not, List, [], ◌∷◌, map}
-use Rattle.std.proofs.Common.{length, get_or, suc, sym, inl, inr, eqb-true, arith}
-use Rattle.std.proofs.lemmas.Bool.{cases_lt}
+use Rattle.std.proofs.{Common.{length, get_or, suc, sym, inl, inr, eqb-true, arith}, lemmas.Bool.cases_lt}
 use Rattle.std.proofs.lemmas.List.Sums.{position_or_len_is, passes_at_first}
 use Rattle.std.proofs.lemmas.Simd.{length-chunk, trailing_mask_l, run_in_chunk_fails, run_in_chunk_stops}
 use Rattle.std.proofs.lemmas.Simd.{none_from_empty_mask}
 use Rattle.std.specs.List.{position_or_len, prefix_len}
 use Rattle.wax_lines.specs.inner.Sifted.{is_feed}
-use lib.Count.{count_trailing_zeros}
-use lib.Lanes.{chunk, mask_l}
+use lib.{Count.count_trailing_zeros, Lanes.{chunk, mask_l}}
 
 step : (b : Bool) (m n l : ℕ) → 0 < cond b 1 0 + 2 * m → (0 < m → n < l) → cond (not b) (1 + n) 0 < suc l
 step true m n l some shorter = omega arith

@@ -4,8 +4,7 @@ use Rattle.wax_lines.specs.declared.lines.LinesError.{LinesError}
 use Rattle.wax_lines.specs.declared.lines.LinesError.TheVariants.{Read, Write, Memory}
 use Rattle.wax_lines.specs.Lines.{WritesMeant, meant, not_meant, WritesCaptures, captured, not_captured}
 use Rattle.wax_lines.specs.Lines.{Gives, text, no_text, Filters, Filtered, StoppedReading, StoppedWriting}
-use Rattle.wax_lines.specs.Lines.{StoppedShort, Stopped}
-use Rattle.wax_lines.specs.inner.Matching.{IsMatchedBy, IsMatchedByBoth}
+use Rattle.wax_lines.specs.{Lines.{StoppedShort, Stopped}, inner.Matching.{IsMatchedBy, IsMatchedByBoth}}
 
 module _ (V W : List ℕ → List ℕ → Type 0) (alike : (s out : List ℕ) → V s out → W s out) where
   gives_as : (line out : List ℕ) (bad : ℕ) → Gives V line out bad → Gives W line out bad

@@ -2,13 +2,11 @@
 use Rattle.std.proofs.Common.{true≢false, ◌≡◌, ◌≢◌, ℕ, ◌+◌, List, [], ◌∷◌, ◌++◌, refl, sym, ◌∙◌, ap, subst}
 use Rattle.std.proofs.Common.{append_assoc, append-nil, Result, Ok, Err, OnErr, IfErr, IsErrAnd, length, true}
 use Rattle.std.proofs.Common.{false, ◌==◌, eqb-true, IsUtf8, chars, arith}
-use Rattle.std.proofs.lemmas.List.Elements.{All-nil, All-append, All-cons}
-use Rattle.std.proofs.lemmas.List.{nil_from_length}
+use Rattle.std.proofs.{lemmas.List.Elements.{All-nil, All-append, All-cons}, lemmas.List.nil_from_length}
 use Rattle.std.specs.Io.Iter.{u64_saturate}
 use Rattle.wax_lines.specs.Lines.{lines, whole_lines, Gives, text, Filters}
 use Rattle.wax_lines.specs.inner.Sifted.{HasNoNewline, CountsMore, lines_text, Sifted}
-use Rattle.wax_lines.specs.declared.lines.sieve.Sieve.{Sieve}
-use Rattle.wax_lines.specs.inner.Progress.{TakesIn, TakesLast}
+use Rattle.wax_lines.specs.{declared.lines.sieve.Sieve.Sieve, inner.Progress.{TakesIn, TakesLast}}
 use Rattle.wax_lines.proofs.Cuts.{lines_joined, lines_open, whole_lines_joined, lines_text-append}
 use Rattle.wax_lines.proofs.Cuts.{Filters-more}
 

@@ -1,17 +1,14 @@
 -- Whole lines for which nothing is written.
 use Rattle.std.proofs.Common.{◌≡◌, ◌≢◌, ◌<◌, ◌≤◌, ℕ, suc, ◌+◌, ◌-◌, List, [], ◌∷◌, ◌++◌, All, IsUtf8, length}
 use Rattle.std.proofs.Common.{take, drop, get_or, refl, sym, ◌∙◌, ap, subst, inl, inr, append_assoc}
-use Rattle.std.proofs.Common.{append-nil, length-append, arith}
-use Rattle.std.proofs.lemmas.Bool.{cases_lt}
+use Rattle.std.proofs.{Common.{append-nil, length-append, arith}, lemmas.Bool.cases_lt}
 use Rattle.std.proofs.lemmas.Bool.Decides.{eqb_tells}
 use Rattle.std.proofs.lemmas.List.{get_or-take, get_or-append-add, length-take, take-append-le, take_all}
-use Rattle.std.proofs.lemmas.List.{take_more}
-use Rattle.std.proofs.lemmas.List.Elements.{All-nil, All-cons, All-head, All-tail}
+use Rattle.std.proofs.{lemmas.List.take_more, lemmas.List.Elements.{All-nil, All-cons, All-head, All-tail}}
 use Rattle.std.proofs.lemmas.Str.{IsCharBoundary-before_ascii, IsCharBoundary-after_ascii, IsUtf8-take}
 use Rattle.std.proofs.lemmas.Str.{IsUtf8-drop}
 use Rattle.std.specs.Str.{IsCharBoundary}
-use Rattle.wax_lines.specs.Lines.{WritesNothingBefore}
-use Rattle.wax_lines.specs.inner.Progress.{GivesNothing, TakesIn}
+use Rattle.wax_lines.specs.{Lines.WritesNothingBefore, inner.Progress.{GivesNothing, TakesIn}}
 use Rattle.wax_lines.specs.inner.Sifted.{EndsLines, HasNoNewline, IsAfterFeed, lines_text}
 use Rattle.wax_lines.proofs.Sifting.{TakesIn-none, TakesIn-then, TakesIn-text}
 

@@ -1,11 +1,9 @@
 -- Texts with a tab between, one after another.
 use Rattle.std.proofs.Common.{◌≡◌, ◌≤◌, ℕ, zero, suc, ◌+◌, List, [], ◌∷◌, ◌++◌, Some, slice_get, take, map}
 use Rattle.std.proofs.Common.{length, IsUtf8, chars, encode_utf8_all, refl, sym, ◌∙◌, ap, append_assoc}
-use Rattle.std.proofs.Common.{length-append, arith}
+use Rattle.std.proofs.{Common.{length-append, arith}, lemmas.List.{take_more, map-append}}
+use Rattle.std.proofs.{lemmas.Option.{slice_get_within, get_or_from_slice_get}, lemmas.Str.encodes-chars}
 use Rattle.std.specs.List.{join_with_byte}
-use Rattle.std.proofs.lemmas.List.{take_more, map-append}
-use Rattle.std.proofs.lemmas.Option.{slice_get_within, get_or_from_slice_get}
-use Rattle.std.proofs.lemmas.Str.{encodes-chars}
 use Rattle.wax_query.specs.Matched.{MatchedView, texts}
 use Rattle.wax_lines.specs.Lines.{tabbed}
 

@@ -1,6 +1,6 @@
 -- How the calls of a reader or a writer are counted.
-use Rattle.std.specs.Prelude.{ℕ, ◌+◌, ◌-◌, ◌^◌, min, Bool, true, not, ◌&&◌, ◌==◌, if◌then◌else◌}
-use Rattle.std.specs.Prelude.{Result, Ok, Err, List, length}
+use Rattle.std.specs.Prelude.{ℕ, ◌+◌, ◌-◌, ◌^◌, min, Bool, true, not, ◌&&◌, ◌==◌, if◌then◌else◌, Result, Ok}
+use Rattle.std.specs.Prelude.{Err, List, length}
 
 abbrev pub greatest_count : ℕ
 greatest_count = 2 ^ 64 - 1

@@ -1,9 +1,7 @@
 -- The lines of an input, and what a filter of lines writes.
-use Rattle.std.specs.Prelude.{◌≡◌, ◌≤◌, ◌<◌, ℕ, ◌+◌, ◌==◌, Bool, true, false, IsTrue, if◌then◌else◌}
-use Rattle.std.specs.Prelude.{List, [], ◌∷◌, ◌++◌, length, map, Option, IsUtf8, chars, encode_utf8_all}
-use Rattle.std.specs.List.{join_with_byte}
-use Rattle.std.specs.Io.KnownBytes.{Consumes, Appends, IsAtEnd}
-use Rattle.std.specs.Io.Iter.{u64_saturate}
+use Rattle.std.specs.Prelude.{◌≡◌, ◌≤◌, ◌<◌, ℕ, ◌+◌, ◌==◌, Bool, true, false, IsTrue, if◌then◌else◌, List, []}
+use Rattle.std.specs.Prelude.{◌∷◌, ◌++◌, length, map, Option, IsUtf8, chars, encode_utf8_all}
+use Rattle.std.specs.{List.join_with_byte, Io.KnownBytes.{Consumes, Appends, IsAtEnd}, Io.Iter.u64_saturate}
 use Rattle.wax_lines.specs.declared.lines.LinesError.{LinesError}
 use Rattle.wax_lines.specs.declared.lines.LinesError.TheVariants.{Read, Write, Memory}
 

@@ -1,6 +1,5 @@
 -- Bytes of which a prefix was written.
-use Rattle.std.specs.Prelude.{◌≡◌, ℕ, List, ◌++◌, Option}
-use Rattle.std.specs.Io.KnownBytes.{Appends}
+use Rattle.std.specs.{Prelude.{◌≡◌, ℕ, List, ◌++◌, Option}, Io.KnownBytes.Appends}
 
 -- `held` is what the writer holds, before and after
 pub record WritesPart (held held' : Option (List ℕ)) (bytes : List ℕ) : Type 0 where

@@ -1,6 +1,5 @@
 //! A reader or a writer that counts its calls and its failures.
-ghost use Rattle.std.specs.Prelude.{◌≡◌, ◌≤◌, is_err};
-ghost use Rattle.std.specs.Io.{ReadsAtMost, WritesAtMost};
+ghost use Rattle.std.specs.{Prelude.{◌≡◌, ◌≤◌, is_err}, Io.{ReadsAtMost, WritesAtMost}};
 ghost use Rattle.std.specs.Io.KnownBytes.{Keeps, ReadConsumes, WriteAppends};
 ghost use Rattle.wax_lines.specs.Counts.{greatest_count, one_more, one_more_if, is_failed_write};
 ghost use Rattle.wax_lines.specs.Counts.{bytes_passed};

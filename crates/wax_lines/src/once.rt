@@ -1,8 +1,6 @@
 //! Single calls of a reader or a writer, for contracts of what calls them.
-ghost use Rattle.std.specs.Prelude.{ℕ, List, Result, ⊤};
-ghost use Rattle.std.specs.Io.{ReadsAtMost, WritesAtMost};
-ghost use Rattle.std.specs.Io.KnownBytes.{Keeps, ReadConsumes, WriteAppends};
-ghost use Rattle.std.specs.declared.io.Error.{Error};
+ghost use Rattle.std.specs.{Prelude.{ℕ, List, Result, ⊤}, Io.{ReadsAtMost, WritesAtMost}};
+ghost use Rattle.std.specs.{Io.KnownBytes.{Keeps, ReadConsumes, WriteAppends}, declared.io.Error.Error};
 
 use std::io;
 use std::io::{Read, Write};

@@ -1,8 +1,7 @@
 //! Writes of whole lines and of all of some bytes.
 ghost use Rattle.std.specs.Prelude.{◌≡◌, ◌≤◌, ◌<◌, ◌⊎◌, ◌++◌, ◌∷◌, [], IfErr, OnErr, OnOk};
 ghost use Rattle.std.specs.Io.KnownBytes.{Appends};
-ghost use Rattle.wax_lines.specs.Counts.{greatest_count};
-ghost use Rattle.wax_lines.specs.Written.{WritesPart};
+ghost use Rattle.wax_lines.specs.{Counts.greatest_count, Written.WritesPart};
 
 use crate::counted::Counted;
 use crate::lines::LinesError;

@@ -1,19 +1,12 @@
 -- Whether a tree means the text of something at most so many names below a folder, as a decided fact.
-use Rattle.std.proofs.Common.{◌≡◌, ◌∙◌, ℕ, Bool, true, false, List, Option, inr, refl, sym}
-use Rattle.std.proofs.Common.{true≢false}
+use Rattle.std.proofs.Common.{◌≡◌, ◌∙◌, ℕ, Bool, true, false, List, Option, inr, refl, sym, true≢false}
 use Rattle.std.specs.Str.{all_scalars}
 use Rattle.wax_match.specs.inner.Code.{instructions_of}
-use Rattle.wax_match.proofs.Compiled.{compiled}
-use Rattle.wax_match.proofs.Whole.{program_complete, program_sound}
-use Rattle.wax_program.specs.Machine.{Accepts}
-use Rattle.wax_program.specs.Onward.{ahead_of}
-use Rattle.wax_program.proofs.Deciding.{ahead_decided}
-use Rattle.wax_program.proofs.Opens.{ahead_below, below_scalars}
-use Rattle.wax_program.proofs.Tested.{decided_by}
+use Rattle.wax_match.proofs.{Compiled.compiled, Whole.{program_complete, program_sound}}
+use Rattle.wax_program.specs.{Machine.Accepts, Onward.ahead_of}
+use Rattle.wax_program.proofs.{Deciding.ahead_decided, Opens.{ahead_below, below_scalars}, Tested.decided_by}
 use Rattle.wax_query.specs.Below.{IsBelowWithin}
-use Rattle.wax_token.specs.Decided.{Decided}
-use Rattle.wax_token.specs.Meaning.{Means}
-use Rattle.wax_token.specs.Syntax.{Tree}
+use Rattle.wax_token.specs.{Decided.Decided, Meaning.Means, Syntax.Tree}
 
 module _ {A : Type 0} (t : Tree A) (most : Option ℕ) (folder : List ℕ) where
   abbrev Meant : Type 0

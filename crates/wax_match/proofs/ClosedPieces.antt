@@ -5,8 +5,7 @@ use Rattle.std.specs.Prelude.{⊤}
 use Rattle.wax_match.specs.inner.Code.{loop, skip, choose, never, literal_code, wildcard_code}
 use Rattle.wax_match.specs.inner.Code.{leaf_instructions, copies_code, up_to_code, counted_code, many_code}
 use Rattle.wax_match.specs.inner.Code.{copied_code, instructions_of, branches_code, sequence_code}
-use Rattle.wax_program.specs.Closed.{LeadsWithin, IsClosed}
-use Rattle.wax_program.specs.declared.instruction.Instruction.{Instruction}
+use Rattle.wax_program.specs.{Closed.{LeadsWithin, IsClosed}, declared.instruction.Instruction.Instruction}
 use Rattle.wax_program.specs.declared.instruction.Instruction.TheVariants.{Check, Repeat, Components, Fork}
 use Rattle.wax_program.specs.declared.instruction.Instruction.TheVariants.{Jump, Back, End}
 use Rattle.wax_token.specs.Cost.{holds_tree}

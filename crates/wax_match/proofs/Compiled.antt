@@ -8,19 +8,17 @@ use Rattle.wax_program.specs.declared.instruction.Instruction.TheVariants.{Repea
 use Rattle.unicode.specs.CaseFolding.{simple_fold}
 use Rattle.wax_token.specs.Syntax.{Leaf, literal, class, separator, one, zero_or_more, tree, Tree, leaf}
 use Rattle.wax_token.specs.Syntax.{alternation, concatenation, repetition, Trees, none, more}
-use Rattle.wax_query.specs.Ranges.{AtMost}
-use Rattle.wax_query.specs.Components.{BeginsWithSlash, EndsWithSlash}
 use Rattle.wax_token.specs.Meaning.{TreeMeans, HasNoSlash, SameFold, SameText, LeafMeans, Copies, Means}
-use Rattle.wax_token.specs.Meaning.{MeansSome, MeansEach}
-use Rattle.wax_token.specs.Cost.{holds_tree}
+use Rattle.wax_token.specs.{Meaning.{MeansSome, MeansEach}, Cost.holds_tree}
+use Rattle.wax_query.specs.{Ranges.AtMost, Components.{BeginsWithSlash, EndsWithSlash}}
 use Rattle.wax_match.specs.inner.Code.{slash_code, never, skip, choose, literal_code, wildcard_code}
 use Rattle.wax_match.specs.inner.Code.{leaf_instructions, copies_code, up_to_code, counted_code, many_code}
 use Rattle.wax_match.specs.inner.Code.{copied_code, instructions_of, branches_code, sequence_code}
 use Rattle.wax_match.proofs.Fragments.{Spells, OneOf, spells_empty, spells_test, spells_repeat}
 use Rattle.wax_match.proofs.Fragments.{spells_components, spells_append, spells_same, spells_loop}
 use Rattle.wax_match.proofs.Fragments.{spells_skip, spells_choose}
-use Rattle.wax_token.proofs.Copies.{Many, ManyWithin, OneThen, Repeats, TwoMore, open_from, open_to}
-use Rattle.wax_token.proofs.Copies.{many_add, many_split, same_from, same_to, two_more_from, two_more_to}
+use Rattle.wax_token.proofs.Copies.{Many, ManyWithin, OneThen, Repeats, TwoMore, open_from, open_to, many_add}
+use Rattle.wax_token.proofs.Copies.{many_split, same_from, same_to, two_more_from, two_more_to}
 use Rattle.wax_token.proofs.Moved.{means_moved}
 
 pub spells_slash : Spells slash_code (λ s. s ≡ 47 ∷ [])

@@ -3,12 +3,9 @@ use Rattle.std.proofs.Common.{◌≤◌, ◌≡◌, ℕ, zero, suc, ◌+◌, ◌
 use Rattle.std.proofs.Common.{slice_get, refl, sym, ◌∙◌, ap, subst, inl, inr, arith, append_assoc, append-nil}
 use Rattle.std.proofs.Common.{length-append, ◌↔◌}
 use Rattle.wax_match.proofs.Fragments.{Stands-append, Through, Spells, at_instruction}
-use Rattle.wax_match.proofs.ClosedPieces.{IsInside, closed_after}
-use Rattle.wax_match.proofs.Whole.{stands_at}
-use Rattle.wax_match.specs.inner.Ends.{AreWritten, IsEnded, Marked, Stands}
-use Rattle.wax_match.specs.inner.Left.{Joined}
-use Rattle.wax_program.specs.Closed.{IsClosed}
-use Rattle.wax_program.specs.declared.instruction.Instruction.{Instruction}
+use Rattle.wax_match.proofs.{ClosedPieces.{IsInside, closed_after}, Whole.stands_at}
+use Rattle.wax_match.specs.{inner.Ends.{AreWritten, IsEnded, Marked, Stands}, inner.Left.Joined}
+use Rattle.wax_program.specs.{Closed.IsClosed, declared.instruction.Instruction.Instruction}
 use Rattle.wax_program.specs.declared.instruction.Instruction.TheVariants.{End, Fork, Back}
 use Rattle.wax_program.specs.Machine.{Accepts, AcceptsIn, mark}
 use Rattle.wax_program.proofs.Steps.{after_fork}

@@ -1,18 +1,15 @@
 -- Pieces of a program, and which texts lead through them.
 use Rattle.std.proofs.Common.{◌≡◌, ℕ, zero, suc, ◌+◌, ◌-◌, ◌≤◌, ◌⊎◌, List, [], ◌∷◌, ◌++◌, length, Some}
 use Rattle.std.proofs.Common.{slice_get, refl, sym, ◌∙◌, ap, subst, inl, inr, arith, length-append}
-use Rattle.std.proofs.Common.{append_assoc}
-use Rattle.std.proofs.lemmas.Option.{slice_get_within}
+use Rattle.std.proofs.{Common.append_assoc, lemmas.Option.slice_get_within}
 use Rattle.wax_token.proofs.Copies.{AnyNumber, Many, OneThen}
-use Rattle.wax_program.specs.declared.instruction.Test.{Test}
-use Rattle.wax_program.specs.declared.instruction.Instruction.{Instruction}
+use Rattle.wax_program.specs.{declared.instruction.Test.Test, declared.instruction.Instruction.Instruction}
 use Rattle.wax_program.specs.declared.instruction.Instruction.TheVariants.{Check, Repeat, Components, Fork}
 use Rattle.wax_program.specs.declared.instruction.Instruction.TheVariants.{Jump, Back}
 use Rattle.wax_program.specs.Machine.{PassesTest, Moves, AcceptsIn, Accepts}
 use Rattle.wax_program.proofs.Steps.{after_test, after_fork, after_jump, after_back, after_last, after_one}
 use Rattle.wax_program.proofs.Steps.{after_any, after_slash}
-use Rattle.wax_match.specs.inner.Code.{loop, skip, choose}
-use Rattle.wax_match.specs.inner.Ends.{Stands}
+use Rattle.wax_match.specs.{inner.Code.{loop, skip, choose}, inner.Ends.Stands}
 use Rattle.wax_query.specs.Components.{EndsWithSlash}
 
 -- the text has a front of P, and after it is accepted from the end on, in at most n instructions

@@ -1,8 +1,7 @@
 -- What is left of patterns, written one beside another.
 use Rattle.std.proofs.Common.{◌≤◌, ◌<◌, ◌≡◌, ◌+◌, ◌-◌, ◌⊎◌, ℕ, Bool, false, take, All, List, [], ◌∷◌, ◌++◌}
 use Rattle.std.proofs.Common.{chars, get_or, length, refl, sym, ◌∙◌, ap, subst, inl, inr, arith, append_assoc}
-use Rattle.std.proofs.Common.{length-append, sum_by}
-use Rattle.std.proofs.lemmas.Bool.{cases_lt}
+use Rattle.std.proofs.{Common.{length-append, sum_by}, lemmas.Bool.cases_lt}
 use Rattle.std.proofs.lemmas.List.{get_or_default, take_all, take_more}
 use Rattle.std.proofs.lemmas.List.Elements.{Contains-append_left, Contains-push, Contains-push_cases}
 use Rattle.std.proofs.lemmas.List.Sorted.{Contains-permutation, IsPermutation-sym}
@@ -11,26 +10,20 @@ use Rattle.std.specs.List.Sorted.{IsPermutation}
 use Rattle.wax_match.proofs.ClosedPieces.{IsInside, inside, inside_append, inside_literal, inside_sequence}
 use Rattle.wax_match.proofs.Compiled.{compiled, compiled_sequence, spells_literal}
 use Rattle.wax_match.proofs.EndPieces.{written_beside, written_coded, written_led, written_none, written_same}
-use Rattle.wax_match.proofs.Fragments.{Spells, spells_append, spells_same}
-use Rattle.wax_match.proofs.LeftCosts.{one_more}
+use Rattle.wax_match.proofs.{Fragments.{Spells, spells_append, spells_same}, LeftCosts.one_more}
 use Rattle.wax_match.proofs.Lefts.{same_next, text_from, text_to}
 use Rattle.wax_match.proofs.SharedEnds.{ends_stay, inside_gap, spells_gap}
-use Rattle.wax_match.specs.Numbered.{MeansNumbered}
-use Rattle.wax_match.specs.declared.encode.ends.Numbered.{Numbered}
+use Rattle.wax_match.specs.{Numbered.MeansNumbered, declared.encode.ends.Numbered.Numbered}
 use Rattle.wax_match.specs.declared.encode.left.Lead.{Lead}
 use Rattle.wax_match.specs.declared.encode.left.Lead.TheVariants.{Letters, Wild, Token}
-use Rattle.wax_match.specs.declared.encode.left.Left.{Left}
-use Rattle.wax_match.specs.declared.encode.shared.WrittenEnd.{WrittenEnd}
-use Rattle.wax_match.specs.inner.Code.{literal_code, sequence_code}
-use Rattle.wax_match.specs.inner.Ends.{AreWritten, IsIn}
+use Rattle.wax_match.specs.{declared.encode.left.Left.Left, declared.encode.shared.WrittenEnd.WrittenEnd}
+use Rattle.wax_match.specs.{inner.Code.{literal_code, sequence_code}, inner.Ends.{AreWritten, IsIn}}
 use Rattle.wax_match.specs.inner.LeadCode.{gap_code, lead_code}
-use Rattle.wax_match.specs.inner.Left.{AreSame, IsAfter, IsAfterAt, IsLed, Joined}
-use Rattle.wax_match.specs.inner.Left.{LeadMeans, LeftMeans, MeansBetween, OneLeftMeans, SomeLeftMeans}
-use Rattle.wax_match.specs.inner.LeftCost.{left_cost}
+use Rattle.wax_match.specs.inner.Left.{AreSame, IsAfter, IsAfterAt, IsLed, Joined, LeadMeans, LeftMeans}
+use Rattle.wax_match.specs.{inner.Left.{MeansBetween, OneLeftMeans, SomeLeftMeans}, inner.LeftCost.left_cost}
 use Rattle.wax_program.specs.declared.instruction.Instruction.{Instruction}
 use Rattle.wax_program.specs.declared.instruction.Instruction.TheVariants.{Back, End, Fork}
-use Rattle.wax_token.specs.Meaning.{Means, MeansEach, SameText}
-use Rattle.wax_token.specs.Reads.{Span}
+use Rattle.wax_token.specs.{Meaning.{Means, MeansEach, SameText}, Reads.Span}
 use Rattle.wax_token.specs.Syntax.{Tree, leaf, alternation, concatenation, repetition}
 use Rattle.wax_token.specs.Words.{members, trees}
 

@@ -1,24 +1,17 @@
 -- What is left of patterns costs no more than they do, and is no shorter than what is written for it.
 use Rattle.std.proofs.Common.{◌≡◌, ◌+◌, ◌-◌, ◌≤◌, ◌<◌, ◌⊎◌, ℕ, false, List, [], ◌∷◌, ◌++◌, chars, length}
 use Rattle.std.proofs.Common.{get_or, sum_by, take, refl, sym, ◌∙◌, ap, subst, inl, inr, arith, length-append}
-use Rattle.std.proofs.lemmas.Bool.{cases_lt}
-use Rattle.std.proofs.lemmas.List.{take_all, take_more}
-use Rattle.std.proofs.lemmas.List.Sums.{sum_by-append}
-use Rattle.std.proofs.lemmas.Str.{chars-nil}
-use Rattle.wax_match.proofs.Lefts.{slash_chars}
-use Rattle.wax_match.proofs.Lengths.{length-sequence, length-literal}
-use Rattle.wax_match.specs.Numbered.{numbered_length}
-use Rattle.wax_match.specs.declared.encode.ends.Numbered.{Numbered}
+use Rattle.std.proofs.{lemmas.Bool.cases_lt, lemmas.List.{take_all, take_more}}
+use Rattle.std.proofs.{lemmas.List.Sums.sum_by-append, lemmas.Str.chars-nil}
+use Rattle.wax_match.proofs.{Lefts.slash_chars, Lengths.{length-sequence, length-literal}}
+use Rattle.wax_match.specs.{Numbered.numbered_length, declared.encode.ends.Numbered.Numbered}
 use Rattle.wax_match.specs.declared.encode.left.Gap.{Gap}
 use Rattle.wax_match.specs.declared.encode.left.Gap.TheVariants.{Nothing, Star, Folders, Below, Anything}
-use Rattle.wax_match.specs.declared.encode.left.Left.{Left}
-use Rattle.wax_match.specs.inner.Code.{literal_code, sequence_code}
-use Rattle.wax_match.specs.inner.LeadCode.{gap_code}
-use Rattle.wax_match.specs.inner.LeftCost.{left_cost}
+use Rattle.wax_match.specs.{declared.encode.left.Left.Left, inner.Code.{literal_code, sequence_code}}
+use Rattle.wax_match.specs.{inner.LeadCode.gap_code, inner.LeftCost.left_cost}
 use Rattle.wax_program.specs.declared.instruction.Instruction.{Instruction}
 use Rattle.wax_program.specs.declared.instruction.Instruction.TheVariants.{Fork}
-use Rattle.wax_token.specs.Cost.{cost, costs}
-use Rattle.wax_token.specs.Reads.{Span}
+use Rattle.wax_token.specs.{Cost.{cost, costs}, Reads.Span}
 use Rattle.wax_token.specs.Syntax.{Tree, leaf, alternation, concatenation, repetition}
 use Rattle.wax_token.specs.Words.{members, trees}
 

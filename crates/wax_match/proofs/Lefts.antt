@@ -2,23 +2,18 @@
 use Rattle.std.proofs.Common.{◌≡◌, ℕ, zero, suc, ◌⊎◌, Bool, true, false, List, [], ◌∷◌, ◌++◌, not, chars}
 use Rattle.std.proofs.Common.{length, nat_eq, get_or, take, drop, ◌≤◌, ◌-◌, Bor, refl, sym, ◌∙◌, ap, subst}
 use Rattle.std.proofs.Common.{◌+◌, inl, inr, arith, append_assoc, append-nil, length-append}
-use Rattle.std.proofs.lemmas.List.{take_all}
-use Rattle.std.proofs.lemmas.Bool.{ne_eqb}
+use Rattle.std.proofs.{lemmas.List.take_all, lemmas.Bool.ne_eqb}
 use Rattle.std.proofs.lemmas.Str.{chars-append, chars-encodes, chars-nil, encodes-IsAscii}
 use Rattle.std.specs.Str.{IsAscii, IsUtf8}
-use Rattle.wax_match.proofs.Compiled.{both_from, both_to}
-use Rattle.wax_match.proofs.Lengths.{length-literal, length-tree}
+use Rattle.wax_match.proofs.{Compiled.{both_from, both_to}, Lengths.{length-literal, length-tree}}
 use Rattle.wax_match.specs.declared.encode.left.Gap.{Gap}
 use Rattle.wax_match.specs.declared.encode.left.Gap.TheVariants.{Nothing, Folders, Below, Anything}
 use Rattle.wax_match.specs.declared.encode.left.Lead.TheVariants.{Letters, Wild, Token}
 use Rattle.wax_match.specs.declared.encode.left.Left.{Left}
 use Rattle.wax_match.specs.inner.Left.{AreSame, GapMeans, IsAfter, Joined, LeftMeans, SpeltMeans}
 use Rattle.wax_match.specs.inner.LeftCost.{left_cost}
-use Rattle.wax_token.specs.declared.token.sides.Sides.{Sides}
-use Rattle.wax_token.specs.Cost.{costs}
-use Rattle.wax_token.specs.Meaning.{Means, MeansEach, SameText, TreeMeans}
-use Rattle.wax_token.specs.Reads.{Span}
-use Rattle.wax_token.specs.Syntax.{Tree}
+use Rattle.wax_token.specs.{declared.token.sides.Sides.Sides, Cost.costs}
+use Rattle.wax_token.specs.{Meaning.{Means, MeansEach, SameText, TreeMeans}, Reads.Span, Syntax.Tree}
 use Rattle.wax_token.specs.Words.{trees}
 
 pub slash_chars : chars (47 ∷ []) ≡ 47 ∷ []

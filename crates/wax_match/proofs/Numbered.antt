@@ -1,7 +1,6 @@
 -- Patterns that get numbers, one after another.
 use Rattle.std.proofs.Common.{◌≡◌, ◌↔◌, ◌⊎◌, ℕ, false, List, [], ◌∷◌, ◌++◌, sym, inl, inr}
-use Rattle.wax_match.specs.Numbered.{MeansNumbered}
-use Rattle.wax_match.specs.declared.encode.ends.Numbered.{Numbered}
+use Rattle.wax_match.specs.{Numbered.MeansNumbered, declared.encode.ends.Numbered.Numbered}
 use Rattle.wax_token.specs.Meaning.{Means}
 
 -- one more

@@ -1,8 +1,7 @@
 -- Worked lengths of programs.
 use Rattle.std.proofs.Common.{◌≡◌, true, false, Some, None, codes, refl}
 use Rattle.wax_token.specs.Syntax.{Leaf, literal, separator, tree, Tree, leaf, alternation, concatenation}
-use Rattle.wax_token.specs.Syntax.{repetition, none, more}
-use Rattle.wax_token.specs.Cost.{program_length}
+use Rattle.wax_token.specs.{Syntax.{repetition, none, more}, Cost.program_length}
 
 abbrev u : Unit {0}
 u = tt

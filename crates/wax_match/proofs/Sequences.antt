@@ -2,14 +2,11 @@
 use Rattle.std.proofs.Common.{◌≡◌, ℕ, zero, suc, ◌-◌, ◌<◌, ◌≤◌, ◌||◌, Bool, true, false, List, [], ◌∷◌, ◌++◌}
 use Rattle.std.proofs.Common.{length, get_or, drop, drop-cons, ltb, nat_le, rules, Option, Some}
 use Rattle.std.proofs.Common.{if◌then◌else◌, refl, sym, ◌∙◌, ap, inl, inr, arith, append-nil, append_assoc}
-use Rattle.std.proofs.lemmas.Bool.{cases_lt, lt-ltb, le-ltb}
-use Rattle.std.proofs.lemmas.List.{drop_all}
+use Rattle.std.proofs.{lemmas.Bool.{cases_lt, lt-ltb, le-ltb}, lemmas.List.drop_all}
 use Rattle.wax_program.specs.declared.instruction.Instruction.{Instruction}
 use Rattle.wax_match.specs.inner.Code.{copied_code, copies_code, counted_code, never, repeated_code}
 use Rattle.wax_match.specs.inner.Code.{sequence_code, skip, instructions_of, up_to_code}
-use Rattle.wax_token.specs.Cost.{holds_tree}
-use Rattle.wax_token.specs.Syntax.{Tree}
-use Rattle.wax_token.specs.Words.{trees}
+use Rattle.wax_token.specs.{Cost.holds_tree, Syntax.Tree, Words.trees}
 
 or_true : (b c : Bool) → c ≡ true → (b || c) ≡ true
 or_true true c e = refl

@@ -1,25 +1,20 @@
 -- Ends that were written, and jumps there.
 use Rattle.std.proofs.Common.{◌≤◌, ◌<◌, ◌≡◌, ◌+◌, ◌-◌, ℕ, zero, suc, true, false, All, get_or, List, [], ◌∷◌}
 use Rattle.std.proofs.Common.{◌++◌, length, set, refl, sym, ◌∙◌, ap, subst, arith, append_assoc}
-use Rattle.std.proofs.Common.{length-append}
-use Rattle.std.proofs.lemmas.List.Elements.{All-set, All-weaker}
-use Rattle.wax_match.proofs.ClosedPieces.{IsInside, inside_leaf}
-use Rattle.wax_match.proofs.Compiled.{spells_star, spells_wildcard}
+use Rattle.std.proofs.{Common.length-append, lemmas.List.Elements.{All-set, All-weaker}}
+use Rattle.wax_match.proofs.{ClosedPieces.{IsInside, inside_leaf}, Compiled.{spells_star, spells_wildcard}}
 use Rattle.wax_match.proofs.EndPieces.{written_coded}
 use Rattle.wax_match.proofs.Fragments.{Spells, Stands-append, at_instruction, spells_empty}
 use Rattle.wax_match.specs.declared.encode.left.Gap.{Gap}
 use Rattle.wax_match.specs.declared.encode.left.Gap.TheVariants.{Nothing, Star, Folders, Below, Anything}
 use Rattle.wax_match.specs.declared.encode.shared.WrittenEnd.{WrittenEnd}
 use Rattle.wax_match.specs.inner.Ends.{AreWritten, IsEnded, IsIn, IsTail, Marked, Stands}
-use Rattle.wax_match.specs.inner.LeadCode.{gap_code}
-use Rattle.wax_match.specs.inner.Left.{EndMeans, GapMeans}
+use Rattle.wax_match.specs.{inner.LeadCode.gap_code, inner.Left.{EndMeans, GapMeans}}
 use Rattle.wax_program.proofs.Steps.{after_jump}
-use Rattle.wax_program.specs.Closed.{IsClosed}
-use Rattle.wax_program.specs.declared.instruction.Instruction.{Instruction}
+use Rattle.wax_program.specs.{Closed.IsClosed, declared.instruction.Instruction.Instruction}
 use Rattle.wax_program.specs.declared.instruction.Instruction.TheVariants.{End, Jump}
 use Rattle.wax_program.specs.Machine.{AcceptsIn, mark}
-use Rattle.wax_token.specs.declared.token.Evaluation.TheVariants.{Eager}
-use Rattle.wax_token.specs.Syntax.{tree, zero_or_more}
+use Rattle.wax_token.specs.{declared.token.Evaluation.TheVariants.Eager, Syntax.{tree, zero_or_more}}
 
 -- ---- wildcards
 pub spells_gap : (gap : Gap) → Spells (gap_code gap) (GapMeans gap)

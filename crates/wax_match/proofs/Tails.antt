@@ -1,8 +1,7 @@
 -- Programs that are written from their end on.
 use Rattle.std.proofs.Common.{◌≡◌, ℕ, ◌-◌, ◌<◌, List, [], ◌∷◌, ◌++◌, length, get_or, set, reverse, refl, sym}
 use Rattle.std.proofs.Common.{◌∙◌, ap, inl, inr, arith, ext_get_or, length-set, get_or-set_same}
-use Rattle.std.proofs.Common.{get_or-set_other}
-use Rattle.std.proofs.lemmas.Bool.{cases_eq}
+use Rattle.std.proofs.{Common.get_or-set_other, lemmas.Bool.cases_eq}
 use Rattle.std.proofs.lemmas.List.{length-reverse, get_or-reverse}
 
 pub reverse-set : {X : Type 0} (d : X) (xs : List X) (i : ℕ) (x : X) → i < length xs

@@ -2,8 +2,7 @@
 use Rattle.std.proofs.Common.{◌≡◌, ℕ, zero, suc, ◌+◌, List, [], ◌∷◌, ◌++◌, length, Some, slice_get, refl, sym}
 use Rattle.std.proofs.Common.{◌∙◌, ap, subst, inl, inr, arith, append_assoc, append-nil, length-append}
 use Rattle.std.proofs.lemmas.Option.{slice_get_within}
-use Rattle.wax_program.specs.declared.instruction.Instruction.{Instruction}
-use Rattle.wax_program.specs.Machine.{AcceptsIn, Accepts}
+use Rattle.wax_program.specs.{declared.instruction.Instruction.Instruction, Machine.{AcceptsIn, Accepts}}
 use Rattle.wax_match.specs.inner.Ends.{Stands}
 use Rattle.wax_match.proofs.Fragments.{Through, Spells}
 

@@ -1,8 +1,7 @@
 -- Patterns that have numbers, several of them perhaps the same one.
 use Rattle.std.specs.Prelude.{◌≡◌, ℕ, ◌+◌, ◌⊎◌, false, List, [], ◌∷◌, sum_by}
 use Rattle.wax_match.specs.declared.encode.ends.Numbered.{Numbered}
-use Rattle.wax_token.specs.Cost.{cost}
-use Rattle.wax_token.specs.Meaning.{Means}
+use Rattle.wax_token.specs.{Cost.cost, Meaning.Means}
 
 -- one of the patterns with this number means the text
 abbrev pub MeansNumbered : List Numbered → ℕ → List ℕ → Type 0

@@ -2,8 +2,7 @@
 ghost use Rattle.std.specs.Prelude.{◌≡◌, ◌+◌, ◌*◌, ◌<◌, ◌≤◌, ◌↔◌, ℕ, [], List, IsTrue, IfOk, chars, length};
 ghost use Rattle.std.specs.Prelude.{min};
 ghost use Rattle.wax_query.specs.Outcome.{MatchBuild};
-ghost use Rattle.wax_token.specs.Cost.{cost, costs, program_length};
-ghost use Rattle.wax_token.specs.Meaning.{Means, MeansEach};
+ghost use Rattle.wax_token.specs.{Cost.{cost, costs, program_length}, Meaning.{Means, MeansEach}};
 ghost use Rattle.wax_token.specs.Words.{trees};
 ghost use Rattle.wax_program.specs.Machine.{Accepts};
 

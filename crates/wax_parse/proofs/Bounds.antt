@@ -1,19 +1,17 @@
 -- The bounds of repetitions.
 use Rattle.std.proofs.Common.{true≢false, codes, leb, leb-true, ◌&&◌, append_assoc, inl, inr, ◌≡◌, ℕ, ◌+◌}
-use Rattle.std.proofs.Common.{◌*◌, ◌-◌, ◌^◌, ◌<◌, ◌≤◌, ltb, Bool, true, false, List, [], ◌∷◌, ◌++◌, length}
-use Rattle.std.proofs.Common.{Option, Some, None, if◌then◌else◌, refl, sym, ◌∙◌, ap, subst, arith}
-use Rattle.std.specs.Char.{is_ascii_digit}
-use Rattle.std.specs.List.{list_all}
+use Rattle.std.proofs.Common.{◌*◌, ◌-◌, ◌^◌, ◌<◌, ◌≤◌, ltb, Bool, true, false, List, [], ◌∷◌, ◌++◌, Option}
+use Rattle.std.proofs.Common.{Some, None, if◌then◌else◌, refl, sym, ◌∙◌, ap, subst, arith}
 use Rattle.std.proofs.lemmas.Bool.Decides.{eqb_tells}
+use Rattle.std.specs.{Char.is_ascii_digit, List.list_all}
 use borrow.Author.Tests.{ltb-true, lt-ltb}
 use Rattle.wax_token.specs.Reads.{decimal_from, IsNumber, ReadsBounds, any_number, at_least_one, exactly}
 use Rattle.wax_token.specs.Reads.{at_least, between}
-use Rattle.wax_parse.specs.inner.Parser.{strip, digit_step, digits_run, digits_after, number_run}
-use Rattle.wax_parse.specs.inner.Parser.{with_value, with_lower, upper_end, upper_or, read_upper, upper_after}
+use Rattle.wax_parse.specs.inner.Parser.{strip, digit_step, digits_run, digits_after, number_run, with_value}
+use Rattle.wax_parse.specs.inner.Parser.{with_lower, upper_end, upper_or, read_upper, upper_after}
 use Rattle.wax_parse.specs.inner.Parser.{lower_after, read_numbers, numbers_or, bounds_after, read_bounds}
 use Rattle.wax_parse.specs.inner.Reading.{HasSuffix}
-use Rattle.wax_parse.proofs.Runs.{none_some}
-use Rattle.wax_parse.proofs.Trees.{strip_is}
+use Rattle.wax_parse.proofs.{Runs.none_some, Trees.strip_is}
 
 same_pair : (x y : ℕ × List ℕ) → Some x ≡ Some y → x ≡ y
 same_pair x y e = cc

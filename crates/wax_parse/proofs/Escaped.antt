@@ -1,6 +1,6 @@
 -- Texts whose meta characters are escaped, and what they begin with.
-use Rattle.std.proofs.Common.{true≢false, ◌≡◌, ◌≢◌, ℕ, Bool, true, false, List, [], ◌∷◌, ◌++◌, ◌||◌}
-use Rattle.std.proofs.Common.{◌⊎◌, inl, inr, if◌then◌else◌, refl, sym, ◌∙◌, ap, arith, append_assoc}
+use Rattle.std.proofs.Common.{true≢false, ◌≡◌, ◌≢◌, ℕ, Bool, true, false, List, [], ◌∷◌, ◌++◌, ◌||◌, ◌⊎◌, inl}
+use Rattle.std.proofs.Common.{inr, if◌then◌else◌, refl, sym, ◌∙◌, ap, arith, append_assoc}
 use Rattle.std.specs.List.{list_any}
 use Rattle.wax_token.specs.Reads.{all_spelled, escapable, is_one_of, spelled}
 use Rattle.wax_parse.specs.Backslash.{HasNoBackslash}

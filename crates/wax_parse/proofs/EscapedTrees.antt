@@ -1,7 +1,6 @@
 -- The tree that an escaped text without backslash spells: longest literals and separators.
 use Rattle.std.proofs.Common.{◌≡◌, ℕ, zero, suc, ◌+◌, ◌-◌, ◌≤◌, Bool, true, false, List, [], ◌∷◌, ◌++◌}
-use Rattle.std.proofs.Common.{length}
-use Rattle.std.proofs.Common.{inl, inr, refl, sym, ◌∙◌, ap, subst, arith, length-append}
+use Rattle.std.proofs.Common.{length, inl, inr, refl, sym, ◌∙◌, ap, subst, arith, length-append}
 use Rattle.std.proofs.lemmas.Bool.{cases_eq}
 use Rattle.wax_token.specs.Meaning.{HasNoSlash}
 use Rattle.wax_token.specs.Reads.{IsSpan, NoLiteralFollows, Place, Reads, ReadsToken, ReadsTokens, Span}
@@ -9,8 +8,7 @@ use Rattle.wax_token.specs.Reads.{deepest, no_flags, start, utf8_len, whole}
 use Rattle.wax_token.specs.Syntax.{Leaf, literal, separator, Tree, leaf, concatenation, Trees, none, more}
 use Rattle.wax_parse.specs.Backslash.{HasNoBackslash}
 use Rattle.wax_parse.proofs.Escaped.{escaped, escaped_append}
-use Rattle.wax_parse.proofs.Literals.{backslash_front, backslash_rest, is_literal_text}
-use Rattle.wax_parse.proofs.Meant.{treeless}
+use Rattle.wax_parse.proofs.{Literals.{backslash_front, backslash_rest, is_literal_text}, Meant.treeless}
 
 bytes_append : (s t : List ℕ) → utf8_len (s ++ t) ≡ utf8_len s + utf8_len t
 bytes_append [] t = omega arith

@@ -3,8 +3,7 @@ use Rattle.std.proofs.Common.{true≢false, ◌≡◌, ◌≢◌, ℕ, ◌<◌, 
 use Rattle.std.proofs.Common.{length, Option, Some, None, if◌then◌else◌, ◌==◌, codes, refl, sym, ◌∙◌, ap}
 use Rattle.std.proofs.Common.{subst, inl, inr, arith, append_assoc, eqb-true}
 use Rattle.std.specs.List.{list_any}
-use Rattle.wax_token.specs.declared.token.Archetype.{Archetype}
-use Rattle.wax_token.specs.declared.token.Evaluation.{Evaluation}
+use Rattle.wax_token.specs.{declared.token.Archetype.Archetype, declared.token.Evaluation.Evaluation}
 use Rattle.wax_token.specs.declared.token.Evaluation.TheVariants.{Eager, Lazy}
 use Rattle.wax_token.specs.Syntax.{Leaf, literal, class, separator, one, zero_or_more, tree}
 use Rattle.wax_token.specs.Reads.{is_one_of, starts_with_one_of, escapable, all_spelled, NoLiteralFollows}
@@ -16,8 +15,7 @@ use Rattle.wax_parse.specs.inner.Parser.{inner_leaf, first_leaf, read_leaf, clas
 use Rattle.wax_parse.specs.inner.Reading.{HasProperSuffix}
 use Rattle.wax_parse.proofs.Runs.{none_some, or_false}
 use Rattle.wax_parse.proofs.Classes.{outside, not_member, closing, class_run_complete, class_run_sound}
-use Rattle.wax_parse.proofs.Classes.{GoodRun}
-use Rattle.wax_parse.proofs.Flags.{flags_text}
+use Rattle.wax_parse.proofs.{Classes.GoodRun, Flags.flags_text}
 use Rattle.wax_parse.proofs.Trees.{TreeFrom, TreeIf, tree_sound, tree_complete, follows_sound}
 use Rattle.wax_parse.proofs.Trees.{follows_complete, no_wildcard_sound, no_wildcard_complete}
 

@@ -1,10 +1,8 @@
 -- Texts of literals: they have no `/` and no backslash.
-use Rattle.std.proofs.Common.{true≢false, ◌≡◌, ◌≢◌, ℕ, Bool, false, List, [], ◌∷◌, ◌++◌, ◌||◌, ◌==◌}
-use Rattle.std.proofs.Common.{inl, inr, refl, sym, ◌∙◌}
-use Rattle.std.proofs.lemmas.Bool.Decides.{eqb_tells}
+use Rattle.std.proofs.Common.{true≢false, ◌≡◌, ◌≢◌, ℕ, Bool, false, List, [], ◌∷◌, ◌++◌, ◌||◌, ◌==◌, inl, inr}
+use Rattle.std.proofs.{Common.{refl, sym, ◌∙◌}, lemmas.Bool.Decides.eqb_tells}
 use Rattle.std.specs.List.{list_any}
-use Rattle.wax_token.specs.Meaning.{HasNoSlash}
-use Rattle.wax_token.specs.Reads.{is_one_of}
+use Rattle.wax_token.specs.{Meaning.HasNoSlash, Reads.is_one_of}
 use Rattle.wax_parse.specs.Backslash.{HasNoBackslash}
 use Rattle.wax_parse.proofs.Escaped.{or_false}
 

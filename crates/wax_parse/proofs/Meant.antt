@@ -1,17 +1,16 @@
 -- What an escaped text spells: literals and separators, which mean the text alone.
-use Rattle.std.proofs.Common.{◌≡◌, ℕ, Bool, true, false, List, [], ◌∷◌, ◌++◌, codes, append-nil}
-use Rattle.std.proofs.Common.{refl, sym, ◌∙◌, ap, subst}
+use Rattle.std.proofs.Common.{◌≡◌, ℕ, Bool, true, false, List, [], ◌∷◌, ◌++◌, codes, append-nil, refl, sym}
+use Rattle.std.proofs.Common.{◌∙◌, ap, subst}
 use Rattle.std.specs.Prelude.{◌↔◌}
 use Rattle.wax_token.specs.declared.token.Evaluation.TheVariants.{Eager, Lazy}
 use Rattle.wax_token.specs.Meaning.{Means, MeansEach, SameText}
-use Rattle.wax_token.specs.Reads.{Flags, Past, Place, Reads, ReadsGlob, ReadsLeaf, ReadsToken}
-use Rattle.wax_token.specs.Reads.{ReadsTokens, Span, TreeFollows, group, no_flags, start, utf8_len, whole}
+use Rattle.wax_token.specs.Reads.{Flags, Past, Place, Reads, ReadsGlob, ReadsLeaf, ReadsToken, ReadsTokens}
+use Rattle.wax_token.specs.Reads.{Span, TreeFollows, group, no_flags, start, utf8_len, whole}
 use Rattle.wax_token.specs.Syntax.{Leaf, literal, class, separator, one, zero_or_more, tree, Tree, leaf}
 use Rattle.wax_token.specs.Syntax.{alternation, concatenation, repetition, Trees, none, more}
 use Rattle.wax_parse.specs.Backslash.{HasNoBackslash}
 use Rattle.wax_parse.proofs.Escaped.{BeginsWith, escaped, front, none_escaped, not_meta_first, plain_first}
-use Rattle.wax_parse.proofs.Escaped.{slash_is_no_backslash}
-use Rattle.wax_parse.proofs.Literals.{backslash_append, literal_text}
+use Rattle.wax_parse.proofs.{Escaped.slash_is_no_backslash, Literals.{backslash_append, literal_text}}
 
 -- no flag group stands in an escaped text
 flagless : (p q : Place) (s : List ℕ) → p.rest ≡ escaped s → Flags p q → p ≡ q

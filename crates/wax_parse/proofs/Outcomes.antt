@@ -1,18 +1,14 @@
 -- From what a part of the parser answers to what the whole answers.
 use Rattle.std.proofs.Common.{◌≡◌, ℕ, Bool, List, [], ◌∷◌, ◌++◌, Some, Result, Ok, Err, IsErrAnd, chars, sym}
 use Rattle.std.proofs.Common.{◌∙◌, ap, subst, arith, length-append, append_assoc}
-use Rattle.wax_query.specs.Outcome.{MatchBuild}
-use Rattle.wax_query.specs.declared.diagnostics.Refusal.{Refusal}
+use Rattle.wax_query.specs.{Outcome.MatchBuild, declared.diagnostics.Refusal.Refusal}
 use Rattle.wax_query.specs.declared.diagnostics.Refusal.TheVariants.{Refused, Memory}
-use Rattle.wax_token.specs.Syntax.{Leaf, Tree}
-use Rattle.wax_token.specs.Reads.{Span, Place, Around, in_repetition, utf8_len}
+use Rattle.wax_token.specs.{Syntax.{Leaf, Tree}, Reads.{Span, Place, Around, in_repetition, utf8_len}}
+use Rattle.wax_parse.specs.{Accepted.IsPlace, inner.Parser.{around_of, at, flags_end, read_leaf}}
+use Rattle.wax_parse.specs.inner.Reading.{GlobFrom, IsRefusal, Sole, Unreadable, HasSuffix, HasProperSuffix}
+use Rattle.wax_parse.proofs.{Places.token_takes, Flags.{flags_reached, flags_text}}
 use Rattle.wax_parse.specs.declared.parse.surroundings.Around as code
 use Rattle.wax_parse.specs.declared.parse.surroundings.Around.TheVariants as around
-use Rattle.wax_parse.specs.Accepted.{IsPlace}
-use Rattle.wax_parse.specs.inner.Parser.{around_of, at, flags_end, read_leaf}
-use Rattle.wax_parse.specs.inner.Reading.{GlobFrom, IsRefusal, Sole, Unreadable, HasSuffix, HasProperSuffix}
-use Rattle.wax_parse.proofs.Places.{token_takes}
-use Rattle.wax_parse.proofs.Flags.{flags_reached, flags_text}
 
 -- a refusal is handed on, for a reason that follows from the first
 err_as : {T U E : Type 0} (e : Refusal E) (A : T → Type 0) (B : E → Type 0) (C : U → Type 0) (D : E → Type 0)

@@ -1,10 +1,8 @@
 -- Tokens with their flag groups, between places of the grammar.
 use Rattle.std.proofs.Common.{◌≡◌, ℕ, ◌<◌, Bool, List, ◌++◌, length, Some, sym, ◌∙◌, ap, subst, arith}
 use Rattle.std.proofs.Common.{length-append, append_assoc}
-use Rattle.wax_token.specs.Syntax.{Leaf}
-use Rattle.wax_token.specs.Reads.{Place, Flags, Around, ReadsLeaf}
-use Rattle.wax_parse.specs.inner.Parser.{flags_end, read_leaf}
-use Rattle.wax_parse.specs.inner.Reading.{HasProperSuffix}
+use Rattle.wax_token.specs.{Syntax.Leaf, Reads.{Place, Flags, Around, ReadsLeaf}}
+use Rattle.wax_parse.specs.{inner.Parser.{flags_end, read_leaf}, inner.Reading.HasProperSuffix}
 use Rattle.wax_parse.proofs.Flags.{flags_last, flags_reached, flags_text}
 use Rattle.wax_parse.proofs.Leaves.{Good, leaf_sound, leaf_complete, leaf_takes, leaf_no_flag}
 

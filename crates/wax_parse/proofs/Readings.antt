@@ -1,20 +1,16 @@
 -- What can be read from a place, and that it can be read in one way.
 use Rattle.std.proofs.Common.{true≢false, ◌≡◌, ℕ, ◌+◌, ◌-◌, ◌≤◌, Bool, true, false, List, [], ◌∷◌, ◌++◌}
 use Rattle.std.proofs.Common.{Option, Some, None, codes, refl, sym, ◌∙◌, ap, subst, inl, inr, arith, ◌⊎◌}
-use Rattle.std.proofs.Common.{◌||◌, ◌==◌, if◌then◌else◌}
-use Rattle.std.proofs.lemmas.Bool.Decides.{eqb_tells}
+use Rattle.std.proofs.{Common.{◌||◌, ◌==◌, if◌then◌else◌}, lemmas.Bool.Decides.eqb_tells}
 use Rattle.wax_token.specs.Syntax.{Leaf, Tree, leaf, alternation, concatenation, repetition, Trees}
 use Rattle.wax_token.specs.Reads.{Span, Place, Past, Flags, no_flags, group, Around, whole, in_alternation}
 use Rattle.wax_token.specs.Reads.{in_repetition, starts_with_one_of, utf8_len, ReadsBounds, nesting, deepest}
 use Rattle.wax_token.specs.Reads.{IsSpan, ReadsToken, ReadsGlob, ReadsBranches}
 use Rattle.wax_parse.specs.inner.Parser.{at, strip, is_end, flags_end, read_leaf, read_bounds}
 use Rattle.wax_parse.specs.inner.Reading.{TokenFrom, GlobFrom, BranchesFrom, Sole, Unreadable}
-use Rattle.wax_parse.proofs.Runs.{none_some}
-use Rattle.wax_parse.proofs.Bounds.{bounds_sound, bounds_complete}
-use Rattle.wax_parse.proofs.Flags.{flags_last, flags_reached}
-use Rattle.wax_parse.proofs.Leaves.{leaf_complete, no_leaf}
-use Rattle.wax_parse.proofs.Places.{leaf_read, leaf_reads}
-use Rattle.wax_parse.proofs.Trees.{group_goes_on}
+use Rattle.wax_parse.proofs.{Runs.none_some, Bounds.{bounds_sound, bounds_complete}}
+use Rattle.wax_parse.proofs.{Flags.{flags_last, flags_reached}, Leaves.{leaf_complete, no_leaf}}
+use Rattle.wax_parse.proofs.{Places.{leaf_read, leaf_reads}, Trees.group_goes_on}
 
 -- ---- characters
 pub heads : (c d : ℕ) (s t : List ℕ) → c ∷ s ≡ d ∷ t → c ≡ d

@@ -3,8 +3,7 @@ use Rattle.std.proofs.Common.{true≢false, ◌≡◌, ℕ, zero, suc, ◌<◌, 
 use Rattle.std.proofs.Common.{List, [], ◌∷◌, ◌++◌, length, Option, Some, None, if◌then◌else◌, ◌==◌, refl, sym}
 use Rattle.std.proofs.Common.{◌∙◌, ap, subst, arith, append_assoc, append-nil}
 use Rattle.wax_token.specs.declared.token.Archetype.{Archetype}
-use Rattle.wax_token.specs.declared.token.Archetype.TheVariants.{Character}
-use Rattle.wax_token.specs.Syntax.{literal}
+use Rattle.wax_token.specs.{declared.token.Archetype.TheVariants.Character, Syntax.literal}
 use Rattle.wax_token.specs.Reads.{is_one_of, starts_with_one_of, escapable, class_escapable}
 use Rattle.wax_parse.specs.inner.Parser.{strip, escaped_step, literal_step, put, literal_run, literal_leaf}
 use Rattle.wax_parse.specs.inner.Parser.{is_plain_character, is_plain_text, StopsPlain, class_step, range_to}

@@ -1,22 +1,17 @@
 -- Where the tokens of a spelled tree stand, and that no literal of it holds a `/`.
 use Rattle.std.proofs.Common.{◌≡◌, ℕ, ◌+◌, ◌≤◌, Bool, true, false, List, [], ◌∷◌, ◌++◌, length, chars, codes}
-use Rattle.std.proofs.Common.{◌||◌, ◌==◌}
-use Rattle.std.proofs.Common.{sym, ap, subst, arith}
-use Rattle.std.specs.Str.{IsUtf8}
-use Rattle.std.specs.List.{list_any}
-use Rattle.wax_token.specs.Syntax.{Leaf, literal, class, separator, one, zero_or_more, tree}
-use Rattle.wax_token.specs.Syntax.{Tree, leaf, alternation, concatenation, repetition, Trees, none, more}
-use Rattle.wax_token.specs.Words.{annotation_of}
-use Rattle.wax_token.specs.Meaning.{HasNoSlash}
+use Rattle.std.proofs.Common.{◌||◌, ◌==◌, sym, ap, subst, arith}
+use Rattle.std.specs.{Str.IsUtf8, List.list_any}
+use Rattle.wax_token.specs.Syntax.{Leaf, literal, class, separator, one, zero_or_more, tree, Tree, leaf}
+use Rattle.wax_token.specs.Syntax.{alternation, concatenation, repetition, Trees, none, more}
+use Rattle.wax_token.specs.{Words.annotation_of, Meaning.HasNoSlash}
 use Rattle.wax_token.specs.Reads.{Span, Place, utf8_len, is_one_of, Past, Flags, Around, in_alternation}
-use Rattle.wax_token.specs.Reads.{whole, start}
-use Rattle.wax_token.specs.Reads.{ReadsLeaf, ReadsToken, ReadsTokens, ReadsGlob, ReadsBranches, Reads}
-use Rattle.wax_token.specs.Spelled.{span_end, LiesBetween, LieApart}
-use Rattle.wax_token.specs.Spelled.{LeafHasNoSlash, LiteralsHaveNoSlash, AllHaveNoSlash}
+use Rattle.wax_token.specs.Reads.{whole, start, ReadsLeaf, ReadsToken, ReadsTokens, ReadsGlob, ReadsBranches}
+use Rattle.wax_token.specs.Reads.{Reads}
+use Rattle.wax_token.specs.Spelled.{span_end, LiesBetween, LieApart, LeafHasNoSlash, LiteralsHaveNoSlash}
+use Rattle.wax_token.specs.Spelled.{AllHaveNoSlash}
 use Rattle.wax_token.proofs.Bytes.{bytes_len}
-use Rattle.wax_parse.proofs.Runs.{or_false}
-use Rattle.wax_parse.proofs.Flags.{flags_text}
-use Rattle.wax_parse.proofs.Texts.{end_shorter}
+use Rattle.wax_parse.proofs.{Runs.or_false, Flags.flags_text, Texts.end_shorter}
 
 -- ---- spans
 

@@ -1,15 +1,13 @@
 -- Texts as bytes and as characters.
-use Rattle.std.proofs.Common.{◌≡◌, ◌==◌, Bool, true, false, eqb-true, ℕ, ◌+◌, ◌-◌, ◌≤◌, ◌<◌, List, [], ◌∷◌}
-use Rattle.std.proofs.Common.{◌++◌, length, take, chars, encode_utf8, encode_utf8_all, refl, sym, ◌∙◌, ap}
-use Rattle.std.proofs.Common.{subst, arith, length-append, append_assoc, append-nil}
-use Rattle.std.specs.Str.{IsUtf8, IsCharBoundary}
-use Rattle.std.specs.Char.{IsScalar}
+use Rattle.std.proofs.Common.{◌≡◌, ◌==◌, Bool, true, false, eqb-true, ℕ, ◌+◌, ◌-◌, ◌≤◌, List, [], ◌∷◌, ◌++◌}
+use Rattle.std.proofs.Common.{length, take, chars, encode_utf8, encode_utf8_all, refl, sym, ◌∙◌, ap, subst}
+use Rattle.std.proofs.Common.{arith, length-append, append_assoc, append-nil}
 use Rattle.std.proofs.lemmas.Str.{encodes-chars, encodes-append, encodes_same, chars-append, chars_past_char}
 use Rattle.std.proofs.lemmas.Str.{chars-nil, len_utf8_bounds, IsUtf8-encode, IsCharBoundary-at_seam}
 use Rattle.std.proofs.Math.Seq.{take-append_seam}
+use Rattle.std.specs.{Str.{IsUtf8, IsCharBoundary}, Char.IsScalar}
 use Rattle.wax_token.specs.Reads.{Span, utf8_len}
-use Rattle.wax_parse.specs.Accepted.{IsPlace, first_len}
-use Rattle.wax_parse.specs.inner.Reading.{HasSuffix, HasProperSuffix}
+use Rattle.wax_parse.specs.{Accepted.{IsPlace, first_len}, inner.Reading.{HasSuffix, HasProperSuffix}}
 use Rattle.wax_token.proofs.Bytes.{bytes_len}
 
 -- where the characters of a text end in those of another, so do its bytes

@@ -6,9 +6,7 @@ use Rattle.wax_token.specs.Reads.{in_repetition, IsEnd, starts_with_one_of, NoWi
 use Rattle.wax_token.specs.Reads.{TreeFollows}
 use Rattle.wax_parse.specs.inner.Parser.{at, strip, flags_end, is_end, after_slash, closed_by_slash}
 use Rattle.wax_parse.specs.inner.Parser.{after_stars, after_star, star_after, after_tree}
-use Rattle.wax_parse.proofs.Runs.{none_some}
-use Rattle.wax_parse.proofs.Classes.{outside}
-use Rattle.wax_parse.proofs.Flags.{flags_reached, flags_cases, flags_last}
+use Rattle.wax_parse.proofs.{Runs.none_some, Classes.outside, Flags.{flags_reached, flags_cases, flags_last}}
 
 -- ---- no `*` and no `$`
 pub no_wildcard_sound : (q : Place) → starts_with_one_of (codes "*$") (flags_end q).rest ≡ false

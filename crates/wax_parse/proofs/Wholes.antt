@@ -1,7 +1,6 @@
 -- What a whole expression spells.
 use Rattle.std.proofs.Common.{◌≡◌, ℕ, false, List, [], ◌∷◌, sym, ◌∙◌, ap, subst, refl}
-use Rattle.wax_token.specs.Syntax.{Tree, leaf, literal}
-use Rattle.wax_token.specs.Reads.{Span, Place, whole, start, utf8_len, Reads}
+use Rattle.wax_token.specs.{Syntax.{Tree, leaf, literal}, Reads.{Span, Place, whole, start, utf8_len, Reads}}
 use Rattle.wax_parse.specs.inner.Reading.{GlobFrom, Sole, Unreadable}
 
 pub reads_empty : (e : List ℕ) (t : Tree Span) (s : Span) → e ≡ [] → s ≡ (0, 0)

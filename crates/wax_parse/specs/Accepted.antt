@@ -1,6 +1,5 @@
 -- The places that a refused expression can be refused at.
-use Rattle.std.specs.Prelude.{◌≡◌, ℕ, List, [], ◌∷◌, ◌++◌}
-use Rattle.std.specs.Char.{len_utf8}
+use Rattle.std.specs.{Prelude.{◌≡◌, ℕ, List, [], ◌∷◌, ◌++◌}, Char.len_utf8}
 use Rattle.wax_token.specs.Reads.{Span, utf8_len}
 
 abbrev pub first_len : List ℕ → ℕ

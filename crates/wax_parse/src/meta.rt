@@ -1,7 +1,6 @@
 //! Meta characters, and escaping them.
-ghost use Rattle.std.specs.Prelude.{◌≡◌, ◌++◌, ◌↔◌, ℕ, IfOk, IsOkAnd, List, OnOk, false};
-ghost use Rattle.std.specs.Prelude.{chars, codes, encode_utf8_all, string_bytes};
-ghost use Rattle.std.specs.Cow.{IsBorrowedStr, cow_str_bytes};
+ghost use Rattle.std.specs.Prelude.{◌≡◌, ◌++◌, ◌↔◌, ℕ, IfOk, IsOkAnd, List, OnOk, false, chars, codes};
+ghost use Rattle.std.specs.{Prelude.{encode_utf8_all, string_bytes}, Cow.{IsBorrowedStr, cow_str_bytes}};
 ghost use Rattle.std.specs.List.{list_any};
 ghost use Rattle.wax_token.specs.Meaning.{Means};
 ghost use Rattle.wax_token.specs.Reads.{Reads, Span, all_spelled, escapable, is_one_of, spelled};

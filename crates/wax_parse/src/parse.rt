@@ -1,9 +1,7 @@
 //! Parsing: from an expression to its tokens.
-ghost use Rattle.std.specs.Prelude.{◌≡◌, IfOk, chars, length};
-ghost use Rattle.std.specs.Cow.{cow_str_bytes};
+ghost use Rattle.std.specs.{Prelude.{◌≡◌, IfOk, chars, length}, Cow.cow_str_bytes};
 ghost use Rattle.wax_query.specs.Outcome.{MatchBuild};
-ghost use Rattle.wax_token.specs.Syntax.{Tree};
-ghost use Rattle.wax_token.specs.Reads.{Reads, Span};
+ghost use Rattle.wax_token.specs.{Syntax.Tree, Reads.{Reads, Span}};
 ghost use Rattle.wax_token.specs.Spelled.{LiesBetween, LiteralsHaveNoSlash};
 ghost use Rattle.wax_parse.specs.Accepted.{IsPlace};
 

@@ -2,11 +2,9 @@
 use Rattle.std.proofs.Common.{◌≡◌, ◌≤◌, ◌+◌, ◌*◌, ℕ, zero, suc, Bool, true, false, ◌||◌, Option, Some, None}
 use Rattle.std.proofs.Common.{refl, sym, subst, ap, arith}
 use Rattle.wax_token.specs.Cost.{cost, costs, branches_cost, copies_of, holds_tree, some_holds_tree}
-use Rattle.wax_token.specs.Cost.{program_length}
-use Rattle.wax_token.specs.Reads.{Span}
+use Rattle.wax_token.specs.{Cost.program_length, Reads.Span}
 use Rattle.wax_token.specs.Syntax.{Tree, leaf, alternation, concatenation, repetition, Trees, none, more}
-use Rattle.wax_token.specs.Syntax.{literal, class, separator, one, zero_or_more, tree}
-use Rattle.wax_token.specs.Words.{members}
+use Rattle.wax_token.specs.{Syntax.{literal, class, separator, one, zero_or_more, tree}, Words.members}
 use Rattle.wax_facts.specs.Prefix.{opened}
 use Rattle.wax_facts.specs.Rest.{after, begins_with_tree, entered, inner_cut, inner_last, left, or_here}
 use Rattle.wax_facts.specs.Rest.{owner, rest, unrooted}

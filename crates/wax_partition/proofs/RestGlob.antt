@@ -1,9 +1,7 @@
 -- The rest by its parts.
 use Rattle.std.proofs.Common.{◌≡◌, ℕ, List, [], ◌∷◌, Some, ◌∙◌, ap}
 use Rattle.std.specs.List.{slice_get}
-use Rattle.wax_token.specs.Reads.{Span, utf8_len}
-use Rattle.wax_token.specs.Syntax.{Tree, concatenation, Trees, more}
-use Rattle.wax_token.specs.Words.{trees}
+use Rattle.wax_token.specs.{Reads.{Span, utf8_len}, Syntax.{Tree, concatenation, Trees, more}, Words.trees}
 use Rattle.wax_partition.specs.Partition.{rest_glob, rest_text}
 use Rattle.wax_rule.specs.Shifted.{shifted_rest}
 

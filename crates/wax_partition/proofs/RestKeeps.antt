@@ -2,13 +2,10 @@
 use Rattle.std.proofs.Common.{◌≡◌, ◌&&◌, ℕ, List, Option, Some, None, IfSome, true, ap, chars, subst, sym}
 use Rattle.std.proofs.lemmas.Bool.{and_parts}
 use Rattle.std.specs.Cow.{cow_str_bytes}
-use Rattle.wax_facts.specs.Orderly.{Flat, FlatEach, FlatSome, is_token}
-use Rattle.wax_facts.specs.Partition.{rest_end}
-use Rattle.wax_facts.specs.Rest.{left}
+use Rattle.wax_facts.specs.{Orderly.{Flat, FlatEach, FlatSome, is_token}, Partition.rest_end, Rest.left}
 use Rattle.wax_partition.specs.Partition.{IsPartition, rest_glob, rest_text, spelled_rest}
 use Rattle.wax_partition.specs.inner.Flatness.{branches_are_flat, is_flat, members_are_flat}
-use Rattle.wax_rule.specs.Keeping.{KeepsRules, rest}
-use Rattle.wax_rule.specs.Shifted.{shifted_rest}
+use Rattle.wax_rule.specs.{Keeping.{KeepsRules, rest}, Shifted.shifted_rest}
 use Rattle.wax_token.specs.Reads.{Span, utf8_len}
 use Rattle.wax_token.specs.Syntax.{Tree, leaf, alternation, concatenation, repetition, Trees, none, more}
 use Rattle.wax_token.specs.declared.token.Tokenized.{Tokenized}

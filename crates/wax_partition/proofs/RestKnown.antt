@@ -2,24 +2,18 @@
 use Rattle.std.proofs.Common.{◌≡◌, ◌↔◌, ◌⊎◌, ◌≤◌, ◌+◌, ℕ, false, List, Option, Some, None, IfSome}
 use Rattle.std.proofs.Common.{MatchOption, ap, chars, refl, sym, subst, arith}
 use Rattle.std.specs.Cow.{cow_str_bytes}
-use Rattle.wax_token.specs.Cost.{costs, program_length}
-use Rattle.wax_token.specs.Meaning.{Means}
-use Rattle.wax_token.specs.Reads.{Span, utf8_len}
+use Rattle.wax_token.specs.{Cost.{costs, program_length}, Meaning.Means, Reads.{Span, utf8_len}}
 use Rattle.wax_token.specs.Syntax.{Tree, concatenation, Trees, none, more}
 use Rattle.wax_token.specs.declared.token.Tokenized.{Tokenized}
-use Rattle.wax_facts.specs.Joined.{begins_with_leaf, path}
-use Rattle.wax_facts.specs.Orderly.{Flat, Full, IsSome, Orderly}
+use Rattle.wax_facts.specs.{Joined.{begins_with_leaf, path}, Orderly.{Flat, Full, IsSome, Orderly}}
 use Rattle.wax_facts.specs.Partition.{BeginsPlainly, IsPartition as IsInPlace, MeansAfter, SplitsAll}
 use Rattle.wax_facts.specs.Partition.{glob_up_to, rest_end, rest_glob as rest_in_place}
-use Rattle.wax_facts.specs.Prefix.{IsRooted, opened}
-use Rattle.wax_facts.specs.Rest.{left, rest, unrooted}
+use Rattle.wax_facts.specs.{Prefix.{IsRooted, opened}, Rest.{left, rest, unrooted}}
 use Rattle.wax_facts.proofs.Partitions.{partition_branch, partition_orderly, partition_rest, partition_split}
-use Rattle.wax_facts.proofs.Partitions.{partition_whole}
-use Rattle.wax_facts.proofs.RestOrderly.{unrooted_some}
+use Rattle.wax_facts.proofs.{Partitions.partition_whole, RestOrderly.unrooted_some}
 use Rattle.wax_partition.specs.Partition.{IsPartition, rest_glob, rest_text, spelled_rest}
 use Rattle.wax_rule.specs.Shifted.{shifted_rest}
-use Rattle.wax_partition.proofs.RestCosts.{left_costs, rest_costs}
-use Rattle.wax_partition.proofs.RestMeans.{rest_means, rest_orderly}
+use Rattle.wax_partition.proofs.{RestCosts.{left_costs, rest_costs}, RestMeans.{rest_means, rest_orderly}}
 
 glob_at : (P : Tree Span → Type 0) (end : ℕ) (ts : Trees Span) → IsSome ts → IfSome (glob_up_to end ts) P
     → (s : Span) × P (concatenation s ts)

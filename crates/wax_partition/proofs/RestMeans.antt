@@ -1,14 +1,11 @@
 -- The rest as an expression of its own means what it means in the whole.
 use Rattle.std.proofs.Common.{◌≡◌, ℕ, ◌+◌, ◌-◌, Bool, true, false, List, refl, ◌∙◌}
-use Rattle.wax_token.specs.Meaning.{MeansEach}
-use Rattle.wax_token.specs.Reads.{Span}
-use Rattle.wax_token.specs.Syntax.{Leaf, literal, class, separator, one, zero_or_more, tree}
-use Rattle.wax_token.specs.Syntax.{leaf, alternation, concatenation, repetition, Trees, none, more}
-use Rattle.wax_facts.specs.Orderly.{Orderly}
-use Rattle.wax_facts.specs.Rest.{unrooted}
+use Rattle.wax_token.specs.{Meaning.MeansEach, Reads.Span}
+use Rattle.wax_token.specs.Syntax.{Leaf, literal, class, separator, one, zero_or_more, tree, leaf}
+use Rattle.wax_token.specs.Syntax.{alternation, concatenation, repetition, Trees, none, more}
+use Rattle.wax_facts.specs.{Orderly.Orderly, Rest.unrooted}
 use Rattle.wax_rule.specs.Shifted.{shifted_each, shifted_rest, shifted_span}
-use Rattle.wax_partition.proofs.ShiftedMeans.{each_shifted}
-use Rattle.wax_partition.proofs.ShiftedOrderly.{orderly_each}
+use Rattle.wax_partition.proofs.{ShiftedMeans.each_shifted, ShiftedOrderly.orderly_each}
 
 -- what no span changes holds of the rest in its own expression where it holds in the whole
 module _ (F : Trees Span → Type 0) (each : (k : ℕ) (ts : Trees Span) → F (shifted_each k ts) ≡ F ts)

@@ -2,11 +2,9 @@
 use Rattle.std.proofs.Common.{◌≡◌, ◌∙◌, ◌++◌, ℕ, true, false, List, [], ◌∷◌, Some, None, arith, ap, codes}
 use Rattle.std.proofs.Common.{get_or, inl, inr, refl, sym}
 use Rattle.wax_query.specs.declared.query.when.When.TheVariants.{Never, Always}
-use Rattle.wax_token.specs.declared.token.Evaluation.TheVariants.{Eager}
-use Rattle.wax_token.specs.Reads.{Span}
-use Rattle.wax_token.specs.Syntax.{Tree, leaf, alternation, concatenation, repetition}
-use Rattle.wax_token.specs.Syntax.{literal, separator, zero_or_more, tree}
-use Rattle.wax_token.specs.Words.{trees}
+use Rattle.wax_token.specs.{declared.token.Evaluation.TheVariants.Eager, Reads.Span}
+use Rattle.wax_token.specs.Syntax.{Tree, leaf, alternation, concatenation, repetition, literal, separator}
+use Rattle.wax_token.specs.{Syntax.{zero_or_more, tree}, Words.trees}
 use Rattle.wax_facts.specs.InvariantText.{Text}
 use Rattle.wax_partition.specs.Partition.{IsPartition}
 

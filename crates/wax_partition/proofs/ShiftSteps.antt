@@ -1,10 +1,7 @@
 -- Tokens that are moved, the last one first.
 use Rattle.std.proofs.Common.{◌≡◌, ℕ, ◌+◌, ◌<◌, ◌≤◌, List, [], ◌∷◌, ◌++◌, map, reverse, refl, sym, ◌∙◌, ap}
-use Rattle.std.proofs.Common.{arith}
-use Rattle.std.proofs.lemmas.List.{reverse-append}
-use Rattle.wax_token.specs.Reads.{Span}
-use Rattle.wax_token.specs.Syntax.{Tree, more, tree_size, trees_size}
-use Rattle.wax_token.specs.Words.{trees}
+use Rattle.std.proofs.{Common.arith, lemmas.List.reverse-append}
+use Rattle.wax_token.specs.{Reads.Span, Syntax.{Tree, more, tree_size, trees_size}, Words.trees}
 use Rattle.wax_rule.specs.Shifted.{shifted_tree, shifted_each}
 
 size_pushed : {A : Type 0} (ts : List (Tree A)) (t : Tree A)

@@ -1,8 +1,7 @@
 -- Where bytes before them are gone, trees mean what they meant.
 use Rattle.std.proofs.Common.{◌≡◌, ◌≤◌, ◌⊎◌, ℕ, Bool, true, List, ◌++◌, refl}
 use Rattle.wax_query.specs.Ranges.{AtMost}
-use Rattle.wax_token.specs.Meaning.{Copies, Means, MeansEach, MeansSome}
-use Rattle.wax_token.specs.Reads.{Span}
+use Rattle.wax_token.specs.{Meaning.{Copies, Means, MeansEach, MeansSome}, Reads.Span}
 use Rattle.wax_token.specs.Syntax.{Tree, leaf, alternation, concatenation, repetition, Trees, none, more}
 use Rattle.wax_rule.specs.Shifted.{shifted_tree, shifted_each}
 

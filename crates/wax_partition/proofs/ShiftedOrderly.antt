@@ -2,11 +2,10 @@
 use Rattle.std.proofs.Common.{◌≡◌, ℕ, Bool, true, false, ◌||◌, refl}
 use Rattle.wax_token.specs.Reads.{Span}
 use Rattle.wax_token.specs.Syntax.{Leaf, Tree, leaf, alternation, concatenation, repetition, Trees, none}
-use Rattle.wax_token.specs.Syntax.{more}
+use Rattle.wax_token.specs.{Syntax.more, Kinds.is_boundary_leaf}
 use Rattle.wax_facts.specs.Rules.{are_incompatible}
 use Rattle.wax_facts.specs.Situated.{starts_with_leaf, some_starts_in, first_starts_in, ends_in, some_ends_in}
 use Rattle.wax_facts.specs.Situated.{last_ends_in}
-use Rattle.wax_token.specs.Kinds.{is_boundary_leaf}
 use Rattle.wax_facts.specs.Orderly.{Apart, ApartEach, ApartSome, Flat, FlatEach, FlatSome, Full, FullEach}
 use Rattle.wax_facts.specs.Orderly.{IsSome, Orderly, Worded, WordedEach, is_token}
 use Rattle.wax_rule.specs.Shifted.{shifted_tree, shifted_each}

@@ -1,8 +1,7 @@
 -- A text without its first `/`, character after character.
 use Rattle.std.proofs.Common.{◌≡◌, ℕ, ◌+◌, ◌<◌, ◌≤◌, ◌==◌, ◌||◌, Bool, true, false, not, List, [], ◌∷◌, ◌++◌}
 use Rattle.std.proofs.Common.{length, drop, get_or, if◌then◌else◌, refl, sym, ◌∙◌, ap, append_assoc}
-use Rattle.std.proofs.Common.{append-nil}
-use Rattle.std.proofs.lemmas.List.{drop_all}
+use Rattle.std.proofs.{Common.append-nil, lemmas.List.drop_all}
 use Rattle.wax_facts.proofs.TextSteps.{drop_here}
 use Rattle.wax_partition.specs.Kept.{without_slash}
 

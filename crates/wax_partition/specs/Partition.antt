@@ -1,14 +1,8 @@
 -- A glob in two: its prefix, and the rest as an expression.
-use Rattle.std.specs.Prelude.{◌≡◌, ℕ, List, Option, Some, None, chars, if◌then◌else◌}
-use Rattle.std.specs.Cow.{cow_str_bytes}
-use Rattle.wax_token.specs.Reads.{Span, utf8_len}
-use Rattle.wax_token.specs.Syntax.{Tree, concatenation, Trees, none, more}
-use Rattle.wax_token.specs.Words.{annotation_of}
-use Rattle.wax_token.specs.declared.token.Tokenized.{Tokenized}
-use Rattle.wax_facts.specs.Orderly.{Flat}
-use Rattle.wax_facts.specs.Partition.{rest_end}
-use Rattle.wax_facts.specs.Prefix.{Prefix}
-use Rattle.wax_facts.specs.Rest.{left}
+use Rattle.std.specs.{Prelude.{◌≡◌, ℕ, List, Option, Some, None, chars, if◌then◌else◌}, Cow.cow_str_bytes}
+use Rattle.wax_token.specs.{Reads.{Span, utf8_len}, Syntax.{Tree, concatenation, Trees, none, more}}
+use Rattle.wax_token.specs.{Words.annotation_of, declared.token.Tokenized.Tokenized}
+use Rattle.wax_facts.specs.{Orderly.Flat, Partition.rest_end, Prefix.Prefix, Rest.left}
 use Rattle.wax_facts.specs.RootedTrees.{is_rooted_tree}
 use Rattle.wax_partition.specs.Kept.{between, without_slash}
 use Rattle.wax_rule.specs.Shifted.{shifted_rest}

@@ -1,9 +1,7 @@
 //! Partition of parsed and of checked expressions.
-ghost use Rattle.std.specs.Prelude.{◌≡◌, IfOk, IsTrue, chars, string_bytes};
-ghost use Rattle.std.specs.Cow.{cow_str_bytes};
+ghost use Rattle.std.specs.{Prelude.{◌≡◌, IfOk, IsTrue, chars, string_bytes}, Cow.cow_str_bytes};
 ghost use Rattle.std.specs.Option.{option_map};
-ghost use Rattle.wax_token.specs.Reads.{Span};
-ghost use Rattle.wax_token.specs.declared.token.Tokenized.{Tokenized};
+ghost use Rattle.wax_token.specs.{Reads.Span, declared.token.Tokenized.Tokenized};
 ghost use Rattle.wax_partition.specs.Partition.{IsPartition, spelled_rest};
 ghost use Rattle.wax_rule.specs.Keeping.{KeepsRules};
 

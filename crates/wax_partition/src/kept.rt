@@ -1,6 +1,6 @@
 //! Copying parts of an expression.
-ghost use Rattle.std.specs.Prelude.{◌≡◌, ◌∷◌, ◌++◌, [], ◌&&◌, IfOk, OnOk, chars, string_bytes};
-ghost use Rattle.std.specs.Prelude.{if◌then◌else◌, nat_le, nat_lt};
+ghost use Rattle.std.specs.Prelude.{◌≡◌, ◌∷◌, ◌++◌, [], ◌&&◌, IfOk, OnOk, chars, string_bytes, if◌then◌else◌};
+ghost use Rattle.std.specs.Prelude.{nat_le, nat_lt};
 ghost use Rattle.wax_partition.specs.Kept.{between, without_slash};
 
 use std::alloc::{AllocError, Global};

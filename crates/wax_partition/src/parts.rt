@@ -1,17 +1,12 @@
 //! Partition: the prefix of a glob, and the rest as an expression of its own.
-ghost use Rattle.std.specs.Prelude.{◌≡◌, ◌≤◌, ◌↔◌, ℕ, false, List};
-ghost use Rattle.std.specs.Prelude.{IfOk, IfSome, MatchOption, chars, string_bytes};
-ghost use Rattle.std.specs.Cow.{cow_str_bytes};
-ghost use Rattle.wax_token.specs.Cost.{program_length};
-ghost use Rattle.wax_token.specs.Meaning.{Means};
-ghost use Rattle.wax_token.specs.Words.{trees};
-ghost use Rattle.wax_facts.specs.Joined.{begins_with_leaf};
-ghost use Rattle.wax_facts.specs.Orderly.{Flat, Full, Orderly};
+ghost use Rattle.std.specs.Prelude.{◌≡◌, ◌≤◌, ◌↔◌, ℕ, false, List, IfOk, IfSome, MatchOption, chars};
+ghost use Rattle.std.specs.{Prelude.string_bytes, Cow.cow_str_bytes};
+ghost use Rattle.wax_token.specs.{Cost.program_length, Meaning.Means, Words.trees};
+ghost use Rattle.wax_facts.specs.{Joined.begins_with_leaf, Orderly.{Flat, Full, Orderly}};
 ghost use Rattle.wax_facts.specs.Partition.{BeginsPlainly, MeansAfter, SplitsAll};
 ghost use Rattle.wax_facts.specs.Prefix.{IsRooted, opened};
 ghost use Rattle.wax_partition.specs.Partition.{IsPartition, rest_glob, rest_text, spelled_rest};
-ghost use Rattle.wax_rule.specs.Keeping.{KeepsRules};
-ghost use Rattle.wax_rule.specs.Shifted.{shifted_rest};
+ghost use Rattle.wax_rule.specs.{Keeping.KeepsRules, Shifted.shifted_rest};
 
 use crate::kept::{between, without_slash};
 use crate::shift::shifted_each;

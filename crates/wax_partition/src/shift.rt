@@ -1,8 +1,6 @@
 //! Moving the spans of tokens whose expression has lost its beginning.
 ghost use Rattle.std.specs.Prelude.{◌≡◌, IfOk};
-ghost use Rattle.wax_token.specs.Reads.{Span};
-ghost use Rattle.wax_token.specs.View.{branch_tree};
-ghost use Rattle.wax_token.specs.Words.{trees};
+ghost use Rattle.wax_token.specs.{Reads.Span, View.branch_tree, Words.trees};
 ghost use Rattle.wax_rule.specs.Shifted.{shifted_tree, shifted_each, shifted_span};
 
 use std::alloc::{AllocError, Global};

@@ -1,24 +1,15 @@
 //! What is known of a token and made of it, as methods.
 ghost use Rattle.std.specs.Prelude.{◌≡◌, ◌↔◌, ◌<◌, ◌≤◌, ◌∷◌, ◌++◌, [], ℕ, Bool, List, All, IfOk, IfSome};
 ghost use Rattle.std.specs.Prelude.{IsTrue, MatchOption, chars, false, string_bytes};
-ghost use Rattle.wax_facts.specs.Alternatives.{MeansOneOf, alternatives};
-ghost use Rattle.wax_facts.specs.Sizes.{saturated_size};
+ghost use Rattle.wax_facts.specs.{Alternatives.{MeansOneOf, alternatives}, Sizes.saturated_size};
+ghost use Rattle.wax_facts.specs.{Exhaustive.exhaustive, InvariantText.{NoText, Text, VariesInCase}};
+ghost use Rattle.wax_facts.specs.{Joined.Front, Prefix.Prefix, Root.root};
 ghost use Rattle.wax_components.specs.Bounds.{BoundsComponents, SaturatedBounds};
-ghost use Rattle.wax_components.specs.Depth.{Depth, SaturatedDepth};
-ghost use Rattle.wax_components.specs.Levels.{globs_at, literals};
-ghost use Rattle.wax_components.specs.Parts.{IsComponent, components};
-ghost use Rattle.wax_components.specs.TopLevel.{tokens_of};
-ghost use Rattle.wax_facts.specs.Exhaustive.{exhaustive};
-ghost use Rattle.wax_facts.specs.InvariantText.{NoText, Text, VariesInCase};
-ghost use Rattle.wax_facts.specs.Joined.{Front};
-ghost use Rattle.wax_facts.specs.Prefix.{Prefix};
-ghost use Rattle.wax_facts.specs.Root.{root};
-ghost use Rattle.wax_query.specs.Components.{BeginsWithSlash};
-ghost use Rattle.wax_query.specs.Ranges.{bounds};
+ghost use Rattle.wax_components.specs.{Depth.{Depth, SaturatedDepth}, Levels.{globs_at, literals}};
+ghost use Rattle.wax_components.specs.{Parts.{IsComponent, components}, TopLevel.tokens_of};
+ghost use Rattle.wax_query.specs.{Components.BeginsWithSlash, Ranges.bounds};
 ghost use Rattle.wax_query.specs.declared.query.when.When.TheVariants.{Always};
-ghost use Rattle.wax_token.specs.Cost.{cost};
-ghost use Rattle.wax_token.specs.Meaning.{Means};
-ghost use Rattle.wax_token.specs.Syntax.{Tree, tree_size};
+ghost use Rattle.wax_token.specs.{Cost.cost, Meaning.Means, Syntax.{Tree, tree_size}};
 
 use std::alloc::Global;
 use wax_components::{Component, LiteralSequence};

@@ -1,11 +1,8 @@
 -- ASCII characters whose forms in any case are ASCII characters, too.
-use Rattle.std.proofs.Common.{◌≡◌, ◌≢◌, ℕ, zero, suc, ◌<◌, ◌==◌, ◌&&◌, ◌||◌, not, nat_lt, Bool, true}
-use Rattle.std.proofs.Common.{List, [], ◌∷◌, ◌++◌, length, get_or, refl, sym, ap, subst, inl, inr, arith}
-use Rattle.std.proofs.Common.{rules, Contains, eqb-true, map}
-use Rattle.std.proofs.lemmas.Bool.{and_parts, cases_eq, or_cases}
-use Rattle.std.specs.Str.{IsAscii}
-use Rattle.std.specs.Char.{to_ascii_lowercase}
-use Rattle.std.specs.List.{list_all}
+use Rattle.std.proofs.Common.{◌≡◌, ◌≢◌, ℕ, zero, suc, ◌<◌, ◌==◌, ◌&&◌, ◌||◌, not, nat_lt, Bool, true, List}
+use Rattle.std.proofs.Common.{[], ◌∷◌, ◌++◌, length, get_or, refl, sym, ap, subst, inl, inr, arith, rules}
+use Rattle.std.proofs.{Common.{Contains, eqb-true, map}, lemmas.Bool.{and_parts, cases_eq, or_cases}}
+use Rattle.std.specs.{Str.IsAscii, Char.to_ascii_lowercase, List.list_all}
 use Rattle.unicode.proofs.FoldPairsLemmas.{IsFoldPairs-fold_pairs}
 use Rattle.unicode.specs.CaseFolding.{fold_pairs}
 use Rattle.ucd_case.specs.FoldOtherRows.{fold_other_rows}

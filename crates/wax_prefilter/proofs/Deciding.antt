@@ -3,9 +3,7 @@ use Rattle.std.proofs.Common.{◌↔◌, ◌≤◌, ◌*◌, ◌+◌, ℕ, Bool,
 use Rattle.std.proofs.lemmas.Result.{IfOk-weaker}
 use Rattle.wax_prefilter.specs.Compiled.{Instructions, IsCompiled}
 use Rattle.wax_program.specs.Machine.{Accepts}
-use Rattle.wax_token.specs.Cost.{program_length}
-use Rattle.wax_token.specs.Meaning.{Means}
-use Rattle.wax_token.specs.Syntax.{Tree}
+use Rattle.wax_token.specs.{Cost.program_length, Meaning.Means, Syntax.Tree}
 
 module _ {A E : Type 0} (t : Tree A) (program : Instructions) (is : IsCompiled t program)
     (r : Result (Bool × ℕ) E) (s : List ℕ) where

@@ -4,12 +4,10 @@ use Rattle.std.proofs.Common.{IfSome, length, get_or, take, drop, chars, encode_
 use Rattle.std.proofs.Common.{sym, ◌∙◌, ap, subst, inl, inr, arith, append_assoc, length-append, drop-cons}
 use Rattle.std.proofs.lemmas.Bool.{cases_lt}
 use Rattle.std.proofs.lemmas.List.{get_or-append-add, get_or_append_left, length-take, take-append-le}
-use Rattle.std.proofs.lemmas.List.{take-append-drop}
-use Rattle.std.proofs.Math.Seq.{take-append_seam}
+use Rattle.std.proofs.{lemmas.List.take-append-drop, Math.Seq.take-append_seam}
 use Rattle.std.specs.List.{slice_range}
 use Rattle.wax_prefilter.specs.Facts.{NeedleView, ContainsOne, ContainsAt}
-use Rattle.wax_prefilter.specs.declared.line_end.EndPair.{EndPair}
-use Rattle.wax_prefilter.specs.declared.needle.Anchor.TheVariants.{End}
+use Rattle.wax_prefilter.specs.{declared.line_end.EndPair.EndPair, declared.needle.Anchor.TheVariants.End}
 use Rattle.wax_prefilter.specs.inner.Ends.{ComesBefore, EndsWith, EndsWithOne, IsBeforeEnd, NoneEndsBefore}
 use Rattle.wax_prefilter.specs.inner.Pairs.{PairIsAt, NoPairBefore}
 use Rattle.wax_prefilter.proofs.MeantEdges.{bytes_end, plain_text}

@@ -1,21 +1,17 @@
 -- What pieces of a text hold, the text holds.
 use Rattle.std.proofs.Common.{◌≡◌, ℕ, ◌+◌, ◌-◌, ◌<◌, ◌≤◌, inl, inr, Bool, true, false, List, [], ◌∷◌, ◌++◌}
-use Rattle.std.proofs.Common.{length, get_or, Some, slice_get, chars, IsUtf8}
-use Rattle.std.proofs.Common.{refl, sym, ◌∙◌, ap, subst, arith, append_assoc, append-nil, length-append}
-use Rattle.std.proofs.lemmas.Bool.{cases_lt}
-use Rattle.std.proofs.lemmas.List.Elements.{All-push}
-use Rattle.std.proofs.lemmas.Str.{chars-nil, chars_past_char}
+use Rattle.std.proofs.Common.{length, get_or, Some, slice_get, chars, IsUtf8, refl, sym, ◌∙◌, ap, subst}
+use Rattle.std.proofs.{Common.{arith, append_assoc, append-nil, length-append}, lemmas.Bool.cases_lt}
+use Rattle.std.proofs.{lemmas.List.Elements.All-push, lemmas.Str.{chars-nil, chars_past_char}}
 use Rattle.std.proofs.lemmas.List.{get_or_default, get_or_append_left, get_or-append-add}
 use Rattle.std.specs.List.{Any}
-use Rattle.wax_prefilter.proofs.MeantEdges.{last_meant}
-use Rattle.wax_prefilter.proofs.MeantPieces.{each_meant, regroup}
+use Rattle.wax_prefilter.proofs.{MeantEdges.last_meant, MeantPieces.{each_meant, regroup}}
 use Rattle.wax_prefilter.specs.Facts.{ContainsAt, ContainsOne}
 use Rattle.wax_prefilter.specs.Known.{CanBeAfter, EachContainsOne, FactsOfMatches}
 use Rattle.wax_prefilter.specs.declared.needle.Anchor.{Anchor}
 use Rattle.wax_prefilter.specs.declared.needle.Anchor.TheVariants.{Beginning, End, Anywhere}
 use Rattle.wax_query.specs.Components.{BeginsWithSlash}
-use Rattle.wax_token.specs.Meaning.{Means, MeansEach, SameText, TreeMeans}
-use Rattle.wax_token.specs.Reads.{Span}
+use Rattle.wax_token.specs.{Meaning.{Means, MeansEach, SameText, TreeMeans}, Reads.Span}
 use Rattle.wax_token.specs.Syntax.{Tree, Trees, leaf, alternation, concatenation, repetition}
 use Rattle.wax_token.specs.Words.{members, trees}
 

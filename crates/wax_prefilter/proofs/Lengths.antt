@@ -1,14 +1,11 @@
 -- How long meant texts are.
 use Rattle.std.proofs.Common.{◌≡◌, ℕ, zero, suc, ◌+◌, ◌*◌, ◌<◌, ◌≤◌, Bool, true, false, List, [], ◌∷◌, ◌++◌}
-use Rattle.std.proofs.Common.{length, get_or, drop, chars}
-use Rattle.std.proofs.Common.{refl, sym, ◌∙◌, ap, subst, arith, append-nil, length-append}
-use Rattle.std.proofs.Math.Nat.{mul-le-mul_left}
-use Rattle.std.specs.Str.{IsUtf8}
+use Rattle.std.proofs.Common.{length, get_or, drop, chars, refl, sym, ◌∙◌, ap, subst, arith, append-nil}
+use Rattle.std.proofs.{Common.length-append, Math.Nat.mul-le-mul_left}
 use Rattle.std.proofs.lemmas.Str.{encodes-chars, length-le-encodes}
+use Rattle.std.specs.Str.{IsUtf8}
 use Rattle.wax_prefilter.proofs.MeantEdges.{drop_here}
-use Rattle.wax_token.specs.Meaning.{Means, MeansEach, SameText, Copies}
-use Rattle.wax_token.specs.Reads.{Span}
-use Rattle.wax_token.specs.Syntax.{Tree}
+use Rattle.wax_token.specs.{Meaning.{Means, MeansEach, SameText, Copies}, Reads.Span, Syntax.Tree}
 use Rattle.wax_token.specs.Words.{trees}
 
 pub chars_short : (text : List ℕ) → IsUtf8 text → length (chars text) ≤ length text

@@ -3,10 +3,8 @@ use Rattle.std.proofs.Common.{◌≡◌, ◌∙◌, ℕ, ◌<◌, ◌==◌, Bool
 use Rattle.std.proofs.Common.{take, get_or, cond, bit_or, eqb-true, refl, sym, ap, arith}
 use Rattle.std.proofs.lemmas.List.{drop-map, get_or-map, length-map, map-append, take-map}
 use Rattle.std.proofs.lemmas.List.FromFn.{get_or-range_with_len, length-range_with_len}
-use Rattle.std.specs.Char.{is_ascii_lowercase, to_ascii_lowercase}
-use Rattle.std.specs.List.{list_all, range_with_len}
-use Rattle.wax_prefilter.specs.declared.pair.Pair.{Pair}
-use Rattle.wax_prefilter.specs.inner.Pairs.{ZeroWhere, lowered, lowered_byte}
+use Rattle.std.specs.{Char.{is_ascii_lowercase, to_ascii_lowercase}, List.{list_all, range_with_len}}
+use Rattle.wax_prefilter.specs.{declared.pair.Pair.Pair, inner.Pairs.{ZeroWhere, lowered, lowered_byte}}
 use Rattle.wax_prefilter.proofs.AsciiForms.{all_of}
 use lib.Lanes.{chunk}
 

@@ -1,21 +1,16 @@
 -- Where two bytes stand at a distance, found in vectors of bytes.
 use Rattle.std.proofs.Common.{◌≡◌, ◌⊎◌, ℕ, ◌+◌, ◌-◌, ◌^◌, ◌<◌, ◌≤◌, nat_lt, true, false, true≢false, cond}
 use Rattle.std.proofs.Common.{not, List, map, length, drop, get_or, replicate, w8, sym, ◌∙◌, ap, inl, inr}
-use Rattle.std.proofs.Common.{arith}
-use Rattle.std.proofs.lemmas.Bool.{cases_lt}
-use Rattle.std.proofs.lemmas.Bool.Decides.{nat_tests}
-use Rattle.std.proofs.lemmas.List.{get_or-drop}
-use Rattle.std.proofs.lemmas.List.Sums.{prefix_len-le-length, fails_before_first}
+use Rattle.std.proofs.{Common.arith, lemmas.Bool.cases_lt, lemmas.Bool.Decides.nat_tests}
+use Rattle.std.proofs.{lemmas.List.get_or-drop, lemmas.List.Sums.{prefix_len-le-length, fails_before_first}}
 use Rattle.std.proofs.lemmas.Simd.{tops_compared, length-sel_l, length-zip2, length-replicate, get_or-sel_l}
 use Rattle.std.proofs.lemmas.Simd.{get_or-zip2, get_or-replicate, get_or-chunk, leading_from_mask_l}
 use Rattle.std.proofs.lemmas.Simd.{trailing_mask_l, Each1-get_or}
-use Rattle.std.specs.Char.{to_ascii_lowercase}
-use Rattle.std.specs.List.{position_or_len}
+use Rattle.std.specs.{Char.to_ascii_lowercase, List.position_or_len}
 use Rattle.wax_prefilter.specs.declared.pair.Pair.{Pair}
 use Rattle.wax_prefilter.specs.inner.Pairs.{NoPairBefore, ZeroWhere, is_zero, lowered}
 use Rattle.wax_prefilter.proofs.Lowered.{get_lowered}
-use lib.Bits.{bit_or, bit_xor, xor_self}
-use lib.Count.{count_trailing_zeros}
+use lib.{Bits.{bit_or, bit_xor, xor_self}, Count.count_trailing_zeros}
 use lib.Lanes.{Each1, chunk, mask_l, sel_l, top, zip2}
 use mir.Val.{Fits, bits, hbits}
 

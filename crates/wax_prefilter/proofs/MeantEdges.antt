@@ -2,13 +2,10 @@
 use Rattle.std.proofs.Common.{◌≡◌, ℕ, zero, suc, ◌+◌, ◌-◌, ◌<◌, ◌≤◌, ◌⊎◌, Bool, true, false, List, [], ◌∷◌}
 use Rattle.std.proofs.Common.{◌++◌, length, drop, get_or, Some, None, slice_get, chars, encode_utf8_all, refl}
 use Rattle.std.proofs.Common.{sym, ◌∙◌, ap, subst, arith, append_assoc, append-nil, drop-cons}
-use Rattle.std.proofs.lemmas.List.{drop_all}
+use Rattle.std.proofs.{lemmas.List.drop_all, lemmas.Str.{encodes-chars, encodes-append}}
 use Rattle.std.specs.Str.{IsUtf8}
-use Rattle.std.proofs.lemmas.Str.{encodes-chars, encodes-append}
-use Rattle.wax_token.specs.Meaning.{Means, MeansEach, MeansSome, SameText}
-use Rattle.wax_token.specs.Reads.{Span}
-use Rattle.wax_token.specs.Syntax.{Tree, tree_size, trees_size}
-use Rattle.wax_token.specs.Words.{trees}
+use Rattle.wax_token.specs.{Meaning.{Means, MeansEach, MeansSome, SameText}, Reads.Span}
+use Rattle.wax_token.specs.{Syntax.{Tree, tree_size, trees_size}, Words.trees}
 
 pub same_text : (t s : List ℕ) → SameText false t s → s ≡ t
 same_text [] [] h = refl

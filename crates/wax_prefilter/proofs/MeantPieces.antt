@@ -1,12 +1,9 @@
 -- What meant texts hold within them.
 use Rattle.std.proofs.Common.{◌≡◌, ℕ, zero, suc, ◌<◌, Bool, true, List, [], ◌∷◌, ◌++◌, length, get_or, chars}
 use Rattle.std.proofs.Common.{encode_utf8_all, sym, ◌∙◌, ap, subst, arith, append_assoc, append-nil}
-use Rattle.std.specs.Str.{IsUtf8}
 use Rattle.std.proofs.lemmas.Str.{encodes-chars, encodes-append}
-use Rattle.wax_token.specs.Meaning.{Means, MeansEach}
-use Rattle.wax_token.specs.Reads.{Span}
-use Rattle.wax_token.specs.Syntax.{Tree}
-use Rattle.wax_token.specs.Words.{trees}
+use Rattle.std.specs.Str.{IsUtf8}
+use Rattle.wax_token.specs.{Meaning.{Means, MeansEach}, Reads.Span, Syntax.Tree, Words.trees}
 
 -- where the tokens mean a text, each of them means a piece of it
 pub each_meant : (ts : List (Tree Span)) (i : ℕ) (t : Tree Span) → i < length ts → t ≡ get_or ts i t

@@ -4,12 +4,9 @@ use Rattle.std.proofs.Common.{add-zero, ap, ◌∙◌, arith, length, subst}
 use Rattle.wax_prefilter.specs.Compiled.{Instructions, IsCompiled}
 use Rattle.wax_match.specs.declared.encode.CompileError.{CompileError}
 use Rattle.wax_program.specs.Machine.{Accepts}
-use Rattle.wax_query.specs.Outcome.{MatchBuild}
-use Rattle.wax_query.specs.declared.diagnostics.Refusal.{Refusal}
-use Rattle.wax_token.specs.Cost.{cost, costs, program_length}
-use Rattle.wax_token.specs.Meaning.{Means, MeansEach}
-use Rattle.wax_token.specs.Syntax.{Tree, Trees, leaf, alternation, concatenation, repetition}
-use Rattle.wax_token.specs.Words.{members}
+use Rattle.wax_query.specs.{Outcome.MatchBuild, declared.diagnostics.Refusal.Refusal}
+use Rattle.wax_token.specs.{Cost.{cost, costs, program_length}, Meaning.{Means, MeansEach}}
+use Rattle.wax_token.specs.{Syntax.{Tree, Trees, leaf, alternation, concatenation, repetition}, Words.members}
 
 pub means_members : {A : Type 0} (t : Tree A) (before after : Bool) (s : List ℕ)
     → MeansEach (members t) before after s ↔ Means t before after s

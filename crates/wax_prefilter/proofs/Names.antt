@@ -1,7 +1,6 @@
 -- Programs for which only the last component of a text matters.
 use Rattle.std.proofs.Common.{ℕ, List, inl, inr, subst}
-use Rattle.wax_program.specs.Last.{IsLastName, ReadsLast}
-use Rattle.wax_program.specs.Machine.{Accepts}
+use Rattle.wax_program.specs.{Last.{IsLastName, ReadsLast}, Machine.Accepts}
 use Rattle.wax_program.specs.declared.instruction.Instruction.{Instruction}
 
 -- they accept the last component of each text that they accept

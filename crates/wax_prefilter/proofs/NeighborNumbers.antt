@@ -1,7 +1,6 @@
 -- Numbers of neighboring bytes.
 use Rattle.std.proofs.Common.{◌≡◌, ℕ, ◌+◌, ◌-◌, ◌<◌, ◌≤◌, Bool, true, false, List, ◌++◌, length, get_or, set}
-use Rattle.std.proofs.Common.{slice_index, sym, ◌∙◌, ap, inl, inr, arith}
-use Rattle.std.proofs.lemmas.Bool.{cases_eq}
+use Rattle.std.proofs.{Common.{slice_index, sym, ◌∙◌, ap, inl, inr, arith}, lemmas.Bool.cases_eq}
 use Rattle.std.proofs.lemmas.List.{get_or-set_same, get_or-set_other}
 use Rattle.wax_prefilter.proofs.Pairs.{byte_within, long_within}
 use Rattle.wax_prefilter.specs.inner.Neighbors.{AreNeighbors, neighbors_number}

@@ -1,25 +1,19 @@
 -- Two bytes at a distance in texts that hold others.
-use Rattle.std.proofs.Common.{◌≡◌, ℕ, ◌+◌, ◌-◌, ◌<◌, ◌≤◌, Bool, IsUtf8, List, [], ◌∷◌, ◌++◌, length}
-use Rattle.std.proofs.Common.{chars, get_or, drop, refl, sym, ◌∙◌, ap, subst, inl, inr, append_assoc}
-use Rattle.std.proofs.Common.{append-nil, length-append, arith}
-use Rattle.std.proofs.Common.{encode_utf8_all, true}
-use Rattle.std.proofs.lemmas.Bool.{cases_lt}
+use Rattle.std.proofs.Common.{◌≡◌, ℕ, ◌+◌, ◌-◌, ◌<◌, ◌≤◌, Bool, IsUtf8, List, [], ◌∷◌, ◌++◌, length, chars}
+use Rattle.std.proofs.Common.{get_or, drop, refl, sym, ◌∙◌, ap, subst, inl, inr, append_assoc, append-nil}
+use Rattle.std.proofs.{Common.{length-append, arith, encode_utf8_all, true}, lemmas.Bool.cases_lt}
 use Rattle.std.proofs.lemmas.List.{get_or_append_left, get_or-append-add, get_or_default, get_or-drop}
 use Rattle.std.proofs.lemmas.List.{length-drop, take_all}
 use Rattle.std.proofs.lemmas.Str.{encodes-append, encodes-chars, encodes-IsAscii}
 use Rattle.std.specs.List.{slice_range}
-use Rattle.wax_prefilter.specs.Facts.{NeedleView, ContainsAt}
-use Rattle.wax_prefilter.specs.declared.needle.Anchor.{Anchor}
+use Rattle.wax_prefilter.specs.{Facts.{NeedleView, ContainsAt}, declared.needle.Anchor.Anchor}
 use Rattle.wax_prefilter.specs.declared.needle.Anchor.TheVariants.{Beginning, End, Anywhere}
-use Rattle.wax_prefilter.specs.declared.pair.Pair.{Pair}
-use Rattle.wax_prefilter.specs.inner.Forms.{HasAsciiForms}
-use Rattle.wax_prefilter.specs.inner.Pairs.{ContainsPair, IsPairOf, LineHasOne}
-use Rattle.wax_prefilter.specs.inner.Pairs.{NoPairsBefore, OneIsAt, PairIsAt}
-use Rattle.wax_prefilter.specs.inner.Pairs.{lowered}
+use Rattle.wax_prefilter.specs.{declared.pair.Pair.Pair, inner.Forms.HasAsciiForms}
+use Rattle.wax_prefilter.specs.inner.Pairs.{ContainsPair, IsPairOf, LineHasOne, NoPairsBefore, OneIsAt}
+use Rattle.wax_prefilter.specs.inner.Pairs.{PairIsAt, lowered}
 use Rattle.wax_prefilter.proofs.AsciiForms.{alike}
 use Rattle.wax_prefilter.proofs.Lowered.{length_lowered, lowered_append, lowered_drop, lowered_feed}
-use Rattle.wax_prefilter.proofs.Lowered.{lowered_rest}
-use Rattle.wax_prefilter.proofs.Holding.{any_alone, any_left, any_right}
+use Rattle.wax_prefilter.proofs.{Lowered.lowered_rest, Holding.{any_alone, any_left, any_right}}
 use Rattle.wax_token.specs.Meaning.{SameText}
 
 -- what is at an anchor is somewhere

@@ -2,16 +2,11 @@
 use Rattle.std.proofs.Common.{◌≡◌, ◌↔◌, ◌⊎◌, ℕ, Bool, true, false, List, [], ◌∷◌, ◌++◌, Option, None, Some}
 use Rattle.std.proofs.Common.{IfSome, Bor, IsTrue, IsUtf8, ◌==◌, ◌<◌, ◌≤◌, length, get_or, drop, chars}
 use Rattle.std.proofs.Common.{encode_utf8_all, refl, sym, ◌∙◌, ap, subst, inl, inr, append-nil, eqb-true}
-use Rattle.std.proofs.Common.{true≢false, arith}
-use Rattle.std.proofs.lemmas.Str.{chars-append}
-use Rattle.std.proofs.Math.Seq.{drop-append_seam}
+use Rattle.std.proofs.{Common.{true≢false, arith}, lemmas.Str.chars-append, Math.Seq.drop-append_seam}
 use Rattle.wax_prefilter.specs.Within.{IsInFolder}
-use Rattle.wax_prefilter.proofs.Holding.{chars_slash, slash_text}
-use Rattle.wax_prefilter.proofs.MeantEdges.{bytes_begin, same_text}
+use Rattle.wax_prefilter.proofs.{Holding.{chars_slash, slash_text}, MeantEdges.{bytes_begin, same_text}}
 use Rattle.wax_query.specs.Components.{BeginsWithSlash}
-use Rattle.wax_token.specs.Kinds.{literal_of, is_tree_wildcard}
-use Rattle.wax_token.specs.Meaning.{MeansEach, SameText}
-use Rattle.wax_token.specs.Reads.{Span}
+use Rattle.wax_token.specs.{Kinds.{literal_of, is_tree_wildcard}, Meaning.{MeansEach, SameText}, Reads.Span}
 use Rattle.wax_token.specs.Syntax.{literal, class, separator, one, zero_or_more, tree, Tree, leaf}
 use Rattle.wax_token.specs.Syntax.{alternation, concatenation, repetition, none, more}
 

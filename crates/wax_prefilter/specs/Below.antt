@@ -1,11 +1,8 @@
 -- Whether a tree means the text of something below a folder.
-use Rattle.std.specs.Prelude.{◌≡◌, ◌↔◌, ℕ, Bool, IsTrue, true, false, List, Option}
-use Rattle.std.specs.Str.{all_scalars}
+use Rattle.std.specs.{Prelude.{◌≡◌, ◌↔◌, ℕ, Bool, IsTrue, true, false, List, Option}, Str.all_scalars}
 use Rattle.wax_match.proofs.Below.{below_decided}
 use Rattle.wax_query.specs.Below.{IsBelow, IsBelowWithin}
-use Rattle.wax_token.specs.Decided.{holds, holds_truly}
-use Rattle.wax_token.specs.Meaning.{Means}
-use Rattle.wax_token.specs.Syntax.{Tree}
+use Rattle.wax_token.specs.{Decided.{holds, holds_truly}, Meaning.Means, Syntax.Tree}
 
 -- the tree means the text of something below the folder, one that consists of characters, with nothing around
 -- it

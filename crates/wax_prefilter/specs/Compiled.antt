@@ -1,10 +1,7 @@
 -- What a tree is compiled to.
 use Rattle.std.specs.Prelude.{◌≡◌, ◌↔◌, ◌<◌, ◌≤◌, ℕ, false, List, length}
-use Rattle.wax_program.specs.Machine.{Accepts}
-use Rattle.wax_program.specs.declared.instruction.Instruction.{Instruction}
-use Rattle.wax_token.specs.Cost.{program_length}
-use Rattle.wax_token.specs.Meaning.{Means}
-use Rattle.wax_token.specs.Syntax.{Tree}
+use Rattle.wax_program.specs.{Machine.Accepts, declared.instruction.Instruction.Instruction}
+use Rattle.wax_token.specs.{Cost.program_length, Meaning.Means, Syntax.Tree}
 
 -- the instructions of a program, and its length
 abbrev pub Instructions : Type 0

@@ -1,6 +1,5 @@
 -- What texts hold, and where.
-use Rattle.std.specs.Prelude.{◌≡◌, ◌≤◌, ℕ, Bool, List, ◌++◌, length, All}
-use Rattle.std.specs.List.{Any}
+use Rattle.std.specs.{Prelude.{◌≡◌, ◌≤◌, ℕ, Bool, List, ◌++◌, length, All}, List.Any}
 use Rattle.wax_prefilter.specs.declared.needle.Anchor.{Anchor}
 use Rattle.wax_prefilter.specs.declared.needle.Anchor.TheVariants.{Beginning, End, Anywhere}
 use Rattle.wax_token.specs.Meaning.{SameText}

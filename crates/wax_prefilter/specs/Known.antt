@@ -1,10 +1,8 @@
 -- What is known of all texts that match.
 use Rattle.std.specs.Prelude.{◌≡◌, ◌≤◌, ℕ, Bool, false, List, length, ⊤}
-use Rattle.wax_token.specs.Meaning.{MeansEach}
-use Rattle.wax_token.specs.Syntax.{Trees}
+use Rattle.wax_token.specs.{Meaning.MeansEach, Syntax.Trees}
 use Rattle.wax_prefilter.specs.Facts.{NeedleView, FactView, PrefilterView, ContainsAt, ContainsOne, FactsHold}
-use Rattle.wax_prefilter.specs.Facts.{PassesFacts}
-use Rattle.wax_prefilter.specs.declared.needle.Anchor.{Anchor}
+use Rattle.wax_prefilter.specs.{Facts.PassesFacts, declared.needle.Anchor.Anchor}
 use Rattle.wax_prefilter.specs.declared.needle.Anchor.TheVariants.{Beginning, End, Anywhere}
 
 -- of beginnings something is known only where nothing is written before

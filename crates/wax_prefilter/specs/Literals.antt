@@ -1,7 +1,6 @@
 -- What is known of the literals of many patterns.
 use Rattle.std.specs.Prelude.{ℕ, Bool, IsTrue, List}
-use Rattle.wax_prefilter.specs.Facts.{NeedleView, ContainsOne}
-use Rattle.wax_prefilter.specs.declared.needle.Anchor.TheVariants.{Anywhere}
+use Rattle.wax_prefilter.specs.{Facts.{NeedleView, ContainsOne}, declared.needle.Anchor.TheVariants.Anywhere}
 
 -- whether something is known, and the literals
 abbrev pub LiteralsView : Type 0

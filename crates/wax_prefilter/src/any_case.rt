@@ -1,6 +1,5 @@
 //! Searching texts in any case.
-ghost use Rattle.std.specs.Prelude.{◌≡◌, ◌≤◌, ◌<◌, ℕ, IsTrue, List, ◌++◌};
-ghost use Rattle.std.specs.Prelude.{chars, length, slice_index, true};
+ghost use Rattle.std.specs.Prelude.{◌≡◌, ◌≤◌, ◌<◌, ℕ, IsTrue, List, ◌++◌, chars, length, slice_index, true};
 ghost use Rattle.wax_prefilter.specs.inner.Forms.{HasAsciiForms};
 ghost use Rattle.wax_token.specs.Meaning.{SameText};
 

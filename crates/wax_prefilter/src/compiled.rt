@@ -1,18 +1,11 @@
 //! A program with the facts by which most texts are rejected before it is run.
-ghost use Rattle.std.specs.Prelude.{◌≡◌, ◌+◌, ◌*◌, ◌++◌, ◌∷◌, ◌<◌, ◌≤◌, ◌↔◌, [], ℕ, List, IfOk, IsTrue};
-ghost use Rattle.std.specs.Prelude.{None, chars, false, length, min};
-ghost use Rattle.std.specs.Str.{IsUtf8};
-ghost use Rattle.wax_lazy.specs.Cost.{match_visits};
-ghost use Rattle.wax_lazy.specs.Verdict.{AcceptsBelow, IsVerdict};
-ghost use Rattle.wax_program.specs.Closed.{AcceptsMarked, IsClosed};
-ghost use Rattle.wax_program.specs.Last.{IsLastName};
-ghost use Rattle.wax_program.specs.Machine.{Accepts};
-ghost use Rattle.wax_program.specs.Meter.{most_ticks};
-ghost use Rattle.wax_program.specs.Visits.{onward_visits};
+ghost use Rattle.std.specs.Prelude.{◌≡◌, ◌+◌, ◌*◌, ◌++◌, ◌∷◌, ◌<◌, ◌≤◌, ◌↔◌, [], ℕ, List, IfOk, IsTrue, None};
+ghost use Rattle.std.specs.{Prelude.{chars, false, length, min}, Str.IsUtf8};
+ghost use Rattle.wax_lazy.specs.{Cost.match_visits, Verdict.{AcceptsBelow, IsVerdict}};
+ghost use Rattle.wax_program.specs.{Closed.{AcceptsMarked, IsClosed}, Last.IsLastName, Machine.Accepts};
+ghost use Rattle.wax_program.specs.{Meter.most_ticks, Visits.onward_visits};
 ghost use Rattle.wax_query.specs.Outcome.{MatchBuild};
-ghost use Rattle.wax_token.specs.Cost.{costs, program_length};
-ghost use Rattle.wax_token.specs.Meaning.{MeansEach};
-ghost use Rattle.wax_token.specs.Words.{trees};
+ghost use Rattle.wax_token.specs.{Cost.{costs, program_length}, Meaning.MeansEach, Words.trees};
 ghost use Rattle.wax_prefilter.specs.Compiled.{AcceptsAlike, IsCompiled};
 
 use crate::prefilter::Prefilter;
@@ -49,10 +42,9 @@ impl Drop for CompiledTokens {
 
 impl Model for CompiledTokens {
     ghost use Rattle.std.specs.Coded.{coded×, coded_list, coded_ℕ};
-    ghost use Rattle.wax_program.specs.contracts.instruction.Instruction as instruction;
     ghost use Rattle.wax_lazy.specs.Dfa.{IsDfaOf};
-    ghost use Rattle.wax_prefilter.specs.Compiled.{Instructions};
-    ghost use Rattle.wax_prefilter.specs.inner.Passing.{AllPass};
+    ghost use Rattle.wax_prefilter.specs.{Compiled.Instructions, inner.Passing.AllPass};
+    ghost use Rattle.wax_program.specs.contracts.instruction.Instruction as instruction;
 
     ghost Value = { Instructions };
 

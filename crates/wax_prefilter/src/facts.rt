@@ -1,8 +1,7 @@
 //! Collecting facts from tokens.
 ghost use Rattle.std.specs.Prelude.{◌≡◌, ◌<◌, IfOk, IfSome, OnOk, chars, length};
 ghost use Rattle.wax_token.specs.Meaning.{LeafMeans, Means, MeansEach, MeansSome};
-ghost use Rattle.wax_token.specs.View.{leaf_of, wildcard_leaf};
-ghost use Rattle.wax_token.specs.Words.{trees};
+ghost use Rattle.wax_token.specs.{View.{leaf_of, wildcard_leaf}, Words.trees};
 ghost use Rattle.wax_prefilter.specs.Known.{EachContainsOne, FactsOfMatches, EachContains};
 
 use crate::needle::{Anchor, Needle};

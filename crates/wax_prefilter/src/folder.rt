@@ -1,9 +1,7 @@
 //! Tokens that match a folder and everything below it, such as those of `usr/**`.
 ghost use Rattle.std.specs.Prelude.{◌≡◌, ◌↔◌, IfSome, IsTrue, List, Some, chars, false, ℕ};
 ghost use Rattle.wax_prefilter.specs.Within.{IsInFolder};
-ghost use Rattle.wax_token.specs.Kinds.{literal_of};
-ghost use Rattle.wax_token.specs.Meaning.{MeansEach};
-ghost use Rattle.wax_token.specs.Words.{trees};
+ghost use Rattle.wax_token.specs.{Kinds.literal_of, Meaning.MeansEach, Words.trees};
 
 use wax_token::token::{ExpressionMetadata, Token};
 

@@ -1,7 +1,6 @@
 //! The least length of matching texts.
 ghost use Rattle.std.specs.Prelude.{◌≡◌};
-ghost use Rattle.wax_token.specs.Meaning.{LeafMeans, Means, MeansEach, MeansSome};
-ghost use Rattle.wax_token.specs.View.{leaf_of};
+ghost use Rattle.wax_token.specs.{Meaning.{LeafMeans, Means, MeansEach, MeansSome}, View.leaf_of};
 ghost use Rattle.wax_token.specs.Words.{trees};
 ghost use Rattle.wax_prefilter.specs.Known.{IsLeastLength};
 

@@ -1,10 +1,7 @@
 //! Literals of which each text that one of many patterns matches contains at least one.
 ghost use Rattle.std.specs.Prelude.{ℕ, IfOk, IfSome, IsTrue, List, OnOk, chars, false};
-ghost use Rattle.wax_token.specs.Meaning.{Means, MeansEach};
-ghost use Rattle.wax_token.specs.Words.{trees};
-ghost use Rattle.wax_prefilter.specs.Facts.{ContainsOne};
-ghost use Rattle.wax_prefilter.specs.Known.{EachContainsOne};
-ghost use Rattle.wax_prefilter.specs.Literals.{MayPass};
+ghost use Rattle.wax_token.specs.{Meaning.{Means, MeansEach}, Words.trees};
+ghost use Rattle.wax_prefilter.specs.{Facts.ContainsOne, Known.EachContainsOne, Literals.MayPass};
 ghost use Rattle.wax_prefilter.specs.declared.needle.Anchor.TheVariants.{Anywhere};
 
 use crate::facts::{MOST_NEEDLES, needles_of};

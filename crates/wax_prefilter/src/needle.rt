@@ -2,10 +2,8 @@
 ghost use Rattle.std.specs.Prelude.{◌≡◌, ℕ, IsTrue, IfOk, IfSome, List, [], ◌∷◌, ◌++◌, chars, true, false};
 ghost use Rattle.std.specs.Str.{IsUtf8};
 ghost use Rattle.wax_token.specs.Meaning.{SameText};
-ghost use Rattle.wax_prefilter.specs.Facts.{ContainsAt};
-ghost use Rattle.wax_prefilter.specs.declared.needle.Anchor.{Anchor};
-ghost use Rattle.wax_prefilter.specs.inner.Ends.{ComesBefore, EndsWith};
-ghost use Rattle.wax_prefilter.specs.inner.Neighbors.{AreNeighbors};
+ghost use Rattle.wax_prefilter.specs.{Facts.ContainsAt, declared.needle.Anchor.Anchor};
+ghost use Rattle.wax_prefilter.specs.{inner.Ends.{ComesBefore, EndsWith}, inner.Neighbors.AreNeighbors};
 ghost use Rattle.wax_prefilter.specs.inner.Pairs.{IsPairOf};
 
 use crate::any_case::{ascii_forms_len, begins_in_any_case, contains_in_any_case};

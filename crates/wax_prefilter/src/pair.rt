@@ -1,10 +1,9 @@
 //! Searching bytes for two of them at a distance.
 ghost use Rattle.std.specs.List.{position_or_len};
 ghost use Rattle.std.specs.Prelude.{◌≡◌, ◌<◌, ◌≤◌, ◌+◌, ℕ, All, IfSome, bit_or, length, map, true};
-ghost use Rattle.std.specs.Char.{to_ascii_lowercase};
-ghost use Rattle.std.specs.Simd.Lanes.{mask_l};
-ghost use Rattle.wax_prefilter.specs.inner.Pairs.{NoPairBefore, NoPairsBefore, PairIsAt};
-ghost use Rattle.wax_prefilter.specs.inner.Pairs.{ZeroWhere, is_zero, lowered, lowered_byte};
+ghost use Rattle.std.specs.{Char.to_ascii_lowercase, Simd.Lanes.mask_l};
+ghost use Rattle.wax_prefilter.specs.inner.Pairs.{NoPairBefore, NoPairsBefore, PairIsAt, ZeroWhere, is_zero};
+ghost use Rattle.wax_prefilter.specs.inner.Pairs.{lowered, lowered_byte};
 
 use std::simd::prelude::*;
 

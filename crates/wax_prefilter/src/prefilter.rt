@@ -1,10 +1,8 @@
 //! The test of a text before it is matched.
 ghost use Rattle.std.specs.Prelude.{◌≡◌, ◌≤◌, ℕ, List, [], ◌∷◌, ◌++◌, IsTrue, IfOk, IfSome, OnOk, chars};
-ghost use Rattle.std.specs.Prelude.{length};
-ghost use Rattle.std.specs.Str.{IsUtf8};
+ghost use Rattle.std.specs.{Prelude.length, Str.IsUtf8};
 ghost use Rattle.wax_token.specs.Words.{trees};
-ghost use Rattle.wax_prefilter.specs.Facts.{ContainsOne, PassesFacts};
-ghost use Rattle.wax_prefilter.specs.Known.{MatchesPass};
+ghost use Rattle.wax_prefilter.specs.{Facts.{ContainsOne, PassesFacts}, Known.MatchesPass};
 ghost use Rattle.wax_prefilter.specs.inner.Ends.{ComesBefore, IsOfFirst, NoneEndsBefore};
 ghost use Rattle.wax_prefilter.specs.inner.Pairs.{ArePairsOf, LineHasOne};
 
@@ -201,9 +199,7 @@ pub struct Prefilter {
 
 impl Model for Prefilter {
     ghost use Rattle.std.specs.Prelude.{IfSome};
-    ghost use Rattle.wax_prefilter.specs.Facts.{PrefilterView};
-    ghost use Rattle.wax_prefilter.specs.inner.Ends.{IsOfFirst};
-    ghost use Rattle.wax_prefilter.specs.inner.Pairs.{ArePairsOf};
+    ghost use Rattle.wax_prefilter.specs.{Facts.PrefilterView, inner.Ends.IsOfFirst, inner.Pairs.ArePairsOf};
 
     ghost Value = { PrefilterView };
 

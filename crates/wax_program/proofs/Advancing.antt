@@ -1,13 +1,11 @@
 -- A round over the places that a run has reached.
 use Rattle.std.proofs.Common.{◌≡◌, ℕ, zero, suc, ◌+◌, ◌-◌, ◌*◌, ◌<◌, ◌≤◌, ◌⊎◌, Bool, List, [], ◌∷◌, length}
 use Rattle.std.proofs.Common.{Some, slice_get, get_or, drop, drop-cons, refl, sym, ◌∙◌, ap, subst, inl, inr}
-use Rattle.std.proofs.Common.{arith}
-use Rattle.std.proofs.Common.{IsUtf8, chars, encode_utf8, encode_utf8_all, length-append}
+use Rattle.std.proofs.Common.{arith, IsUtf8, chars, encode_utf8, encode_utf8_all, length-append}
 use Rattle.std.proofs.lemmas.Option.{slice_get_within}
 use Rattle.std.proofs.lemmas.Str.{encodes-chars, len_utf8_bounds, length-encode, length-le-encodes}
 use Rattle.std.proofs.Math.Nat.{mul-le-mul_left, mul-le-mul_right}
-use Rattle.wax_program.specs.declared.instruction.Test.{Test}
-use Rattle.wax_program.specs.declared.instruction.Instruction.{Instruction}
+use Rattle.wax_program.specs.{declared.instruction.Test.Test, declared.instruction.Instruction.Instruction}
 use Rattle.wax_program.specs.declared.instruction.Instruction.TheVariants.{Check, Repeat, Components, Fork}
 use Rattle.wax_program.specs.declared.instruction.Instruction.TheVariants.{Jump, Back, End}
 use Rattle.wax_program.specs.Machine.{PassesTest, Moves, AcceptsIn, Accepts}

@@ -2,16 +2,13 @@
 use Rattle.std.proofs.Common.{◌≡◌, ◌≢◌, ℕ, ◌+◌, ◌*◌, ◌/◌, ◌%◌, ◌^◌, ◌<◌, ◌≤◌, Bool, true, false, eqb, List}
 use Rattle.std.proofs.Common.{length, replicate, get_or, set, sym, ◌∙◌, ap, inl, inr, arith, ext_get_or}
 use Rattle.std.proofs.Common.{length-set, get_or-set_same, get_or-set_other, eq-eqb, eqb-true, ne_eqb, w64}
-use Rattle.std.proofs.Common.{true≢false}
-use Rattle.std.proofs.lemmas.List.{length-replicate, get_or-replicate, get_or_past}
+use Rattle.std.proofs.{Common.true≢false, lemmas.List.{length-replicate, get_or-replicate, get_or_past}}
 use Rattle.std.proofs.lemmas.List.FromFn.{length-map-range_with_len, get_or-map-range_with_len}
 use Rattle.std.proofs.lemmas.Bool.{cases_eq, cases_lt}
 use Rattle.std.proofs.lemmas.Nat.Bits.{bit_at_set_same, bit_at_set_other, bit_at_clear_same}
 use Rattle.std.proofs.lemmas.Nat.Bits.{bit_at_clear_other, bit_at-zero, bit_at-trailing_zeros}
-use Rattle.std.specs.Prelude.{bit_and, bit_or}
-use Rattle.std.specs.Int.{bit_at, bit_not, trailing_zeros}
-use Rattle.wax_program.specs.Bits.{bit_of, bits_of}
-use Rattle.wax_program.specs.Places.{HoldsPlace, IsEmpty}
+use Rattle.std.specs.{Prelude.{bit_and, bit_or}, Int.{bit_at, bit_not, trailing_zeros}}
+use Rattle.wax_program.specs.{Bits.{bit_of, bits_of}, Places.{HoldsPlace, IsEmpty}}
 
 pub length-bits_of : (words : List ℕ) → length (bits_of words) ≡ 64 * length words
 unfolding bits_of

@@ -3,23 +3,18 @@
 use Rattle.std.proofs.Common.{◌≡◌, ◌↔◌, ◌⊎◌, ℕ, zero, suc, ◌+◌, ◌-◌, ◌<◌, ◌≤◌, Bool, true, false, List, []}
 use Rattle.std.proofs.Common.{◌∷◌, ◌++◌, Option, Some, None, length, set, slice_get, slice_index_or, inl, inr}
 use Rattle.std.proofs.Common.{refl, sym, ◌∙◌, ap, subst, true≢false, length-set, arith}
-use Rattle.std.proofs.lemmas.Bool.{cases_eq, cases_lt}
-use Rattle.std.proofs.lemmas.List.{get_or_past}
+use Rattle.std.proofs.{lemmas.Bool.{cases_eq, cases_lt}, lemmas.List.get_or_past}
 use Rattle.std.proofs.lemmas.Option.{slice_get_within}
-use Rattle.wax_program.specs.Places.{HoldsPlace, member_count}
-use Rattle.wax_program.proofs.Members.{added_only, members_set, members_within}
-use Rattle.wax_token.specs.Decided.{Decided, both, either, is_true}
-use Rattle.wax_program.specs.declared.instruction.Instruction.{Instruction}
+use Rattle.wax_program.specs.{Places.{HoldsPlace, member_count}, declared.instruction.Instruction.Instruction}
 use Rattle.wax_program.specs.declared.instruction.Instruction.TheVariants.{Check, Repeat, Components, Fork}
 use Rattle.wax_program.specs.declared.instruction.Instruction.TheVariants.{Jump, Back, End}
-use Rattle.wax_program.specs.declared.instruction.Test.{Test}
-use Rattle.wax_program.specs.declared.onward.Ahead.{Ahead}
+use Rattle.wax_program.specs.{declared.instruction.Test.Test, declared.onward.Ahead.Ahead}
 use Rattle.wax_program.specs.Machine.{PassesTest, Moves, AcceptsIn, Accepts, mark}
 use Rattle.wax_program.specs.Onward.{IsAhead, flags_for}
-use Rattle.wax_program.proofs.Finding.{flags_found}
+use Rattle.wax_program.proofs.{Members.{added_only, members_set, members_within}, Finding.flags_found}
 use Rattle.wax_program.proofs.Steps.{after_test, after_last, after_one, after_any, after_slash, after_fork}
-use Rattle.wax_program.proofs.Steps.{after_jump, after_back}
-use Rattle.wax_program.proofs.Tested.{decided_by, passes_decided}
+use Rattle.wax_program.proofs.{Steps.{after_jump, after_back}, Tested.{decided_by, passes_decided}}
+use Rattle.wax_token.specs.Decided.{Decided, both, either, is_true}
 
 -- ---- sets of places that are closed
 none_of : (n : ℕ) → (s : List Bool) × (length s ≡ n) × ((k : ℕ) → HoldsPlace s k → ⊥)

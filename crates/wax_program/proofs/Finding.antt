@@ -1,20 +1,17 @@
 -- Each program has its flags: they are found by adding those that are missing.
 use Rattle.std.proofs.Common.{◌≡◌, ◌⊎◌, ℕ, zero, suc, ◌+◌, ◌-◌, ◌*◌, ◌<◌, ◌≤◌, Bool, true, false, List, []}
 use Rattle.std.proofs.Common.{◌∷◌, Option, Some, None, length, set, slice_get, slice_index_or, inl, inr, refl}
-use Rattle.std.proofs.Common.{sym, ◌∙◌, ap, subst, true≢false, length-set, arith}
-use Rattle.std.proofs.lemmas.Bool.{cases_eq}
-use Rattle.wax_program.specs.Places.{HoldsPlace}
-use Rattle.wax_token.specs.Decided.{Decided, both, either, is_true}
-use Rattle.wax_program.specs.declared.instruction.Instruction.{Instruction}
+use Rattle.std.proofs.{Common.{sym, ◌∙◌, ap, subst, true≢false, length-set, arith}, lemmas.Bool.cases_eq}
+use Rattle.wax_program.specs.{Places.HoldsPlace, declared.instruction.Instruction.Instruction}
 use Rattle.wax_program.specs.declared.instruction.Instruction.TheVariants.{Check, Repeat, Components, Fork}
 use Rattle.wax_program.specs.declared.instruction.Instruction.TheVariants.{Jump, Back, End}
-use Rattle.wax_program.specs.declared.instruction.Test.{Test}
-use Rattle.wax_program.specs.declared.onward.Ahead.{Ahead}
+use Rattle.wax_program.specs.{declared.instruction.Test.Test, declared.onward.Ahead.Ahead}
 use Rattle.wax_program.specs.declared.onward.Ahead.TheVariants.{Rest, Path, Below}
 use Rattle.wax_program.specs.Onward.{AreFlagsOf, PlaceFlags, flags_for}
 use Rattle.wax_program.specs.inner.Leads.{AreFlagsAfter, AreSoundAfter, HaveRoom, Holds, HoldsAfter}
 use Rattle.wax_program.specs.inner.Leads.{HoldsByOther, IsClosedAt, IsClosedFor, LeadsAt, LeadsBy, LeadsOn}
 use Rattle.wax_program.specs.inner.Leads.{Marks, earlier_flags, flag_count, onward_by_slash}
+use Rattle.wax_token.specs.Decided.{Decided, both, either, is_true}
 use Rattle.wax_program.proofs.Leading.{flags_are}
 use Rattle.wax_program.proofs.Marking.{begins_soundly, few_below, few_path, few_rest, gains_mark, marks_below}
 use Rattle.wax_program.proofs.Marking.{marks_path, marks_rest, still_within}

@@ -1,23 +1,17 @@
 -- Programs that begin with components and stay in one from then on.
 use Rattle.std.proofs.Common.{◌≡◌, ℕ, zero, suc, ◌+◌, ◌-◌, ◌≤◌, ◌<◌, ◌⊎◌, ◌↔◌, List, [], ◌∷◌, ◌++◌, length}
-use Rattle.std.proofs.Common.{Some, slice_get, refl, sym, ◌∙◌, ap, subst, inl, inr, arith}
-use Rattle.std.proofs.Common.{◌*◌, length-append}
-use Rattle.std.proofs.lemmas.Option.{slice_get_within}
-use Rattle.std.proofs.Common.{Bool, IfOk, IsTrue}
-use Rattle.std.proofs.Math.Nat.{mul-le-mul_right}
+use Rattle.std.proofs.Common.{Some, slice_get, refl, sym, ◌∙◌, ap, subst, inl, inr, arith, ◌*◌, length-append}
+use Rattle.std.proofs.{Common.{Bool, IfOk, IsTrue}, lemmas.Option.slice_get_within, Math.Nat.mul-le-mul_right}
 use Rattle.std.proofs.lemmas.Str.{IsUtf8-append, IsUtf8-from_ascii, chars-append, chars_past_char}
-use Rattle.std.proofs.Math.Utf8.{encode}
-use Rattle.std.specs.Prelude.{Result, Ok, Err}
-use Rattle.std.proofs.lemmas.Str.Ascii.{IsAscii-cons, IsAscii-nil}
-use Rattle.std.specs.Str.{IsUtf8, chars}
+use Rattle.std.proofs.{Math.Utf8.encode, lemmas.Str.Ascii.{IsAscii-cons, IsAscii-nil}}
+use Rattle.std.specs.{Prelude.{Result, Ok, Err}, Str.{IsUtf8, chars}}
 use Rattle.wax_program.specs.declared.instruction.Instruction.{Instruction}
 use Rattle.wax_program.specs.declared.instruction.Instruction.TheVariants.{Check, Repeat, Components, Fork}
 use Rattle.wax_program.specs.declared.instruction.Instruction.TheVariants.{Jump, Back, End}
 use Rattle.wax_program.specs.Last.{IsCutBetween, IsLastName, ReadsLast}
 use Rattle.wax_program.specs.Machine.{PassesTest, Moves, AcceptsIn, Accepts}
 use Rattle.wax_program.specs.inner.Names.{StaysInName, StayInName}
-use Rattle.wax_program.proofs.Advancing.{chars_few}
-use Rattle.wax_program.proofs.Steps.{after_any, after_slash, after_fork}
+use Rattle.wax_program.proofs.{Advancing.chars_few, Steps.{after_any, after_slash, after_fork}}
 use Rattle.wax_token.specs.Meaning.{HasNoSlash}
 
 some_same : {i j : Instruction} → Some i ≡ Some j → i ≡ j

@@ -1,16 +1,14 @@
 -- Flags that no instruction adds to are exactly those of the places that lead on.
-use Rattle.std.proofs.Common.{◌≡◌, ◌≢◌, ◌⊎◌, ℕ, zero, suc, ◌+◌, ◌-◌, ◌<◌, List, [], ◌∷◌, Option, Some}
-use Rattle.std.proofs.Common.{None, true, length, slice_get, inl, inr, refl, sym, subst, arith}
-use Rattle.std.specs.Char.{IsScalar}
-use Rattle.std.specs.Str.{all_scalars}
+use Rattle.std.proofs.Common.{◌≡◌, ◌≢◌, ◌⊎◌, ℕ, zero, suc, ◌+◌, ◌-◌, ◌<◌, List, [], ◌∷◌, Option, Some, None}
+use Rattle.std.proofs.Common.{true, length, slice_get, inl, inr, refl, sym, subst, arith}
 use Rattle.std.proofs.lemmas.Option.{slice_get_within}
+use Rattle.std.specs.{Char.IsScalar, Str.all_scalars}
 use Rattle.wax_query.proofs.Below.{Begins, path_begins, path_goes_on}
 use Rattle.wax_query.specs.Below.{IsPathWithin, one_more_name}
 use Rattle.wax_program.specs.declared.instruction.Instruction.{Instruction}
 use Rattle.wax_program.specs.declared.instruction.Instruction.TheVariants.{Check, Repeat, Components, Fork}
 use Rattle.wax_program.specs.declared.instruction.Instruction.TheVariants.{Jump, Back, End}
-use Rattle.wax_program.specs.declared.instruction.Test.{Test}
-use Rattle.wax_program.specs.declared.onward.Ahead.{Ahead}
+use Rattle.wax_program.specs.{declared.instruction.Test.Test, declared.onward.Ahead.Ahead}
 use Rattle.wax_program.specs.declared.onward.Ahead.TheVariants.{Rest, Path, Below}
 use Rattle.wax_program.specs.Machine.{PassesTest, Moves, AcceptsIn, Accepts, mark}
 use Rattle.wax_program.specs.Onward.{AreFlagsOf, PlaceFlags, GoesOn, IsAhead, IsLeft, IsOther}

@@ -1,12 +1,10 @@
 -- Levels: the flags of each limit, found from those for one name fewer.
-use Rattle.std.proofs.Common.{◌≡◌, ◌⊎◌, ℕ, zero, suc, ◌+◌, ◌-◌, ◌≤◌, Bool, IsTrue, List, [], ◌∷◌, ◌++◌}
-use Rattle.std.proofs.Common.{Some, None, length, slice_get, inl, inr, refl, sym, ◌∙◌, ap, subst, arith}
-use Rattle.std.proofs.Common.{length-append}
-use Rattle.std.proofs.lemmas.Bool.{cases_eq}
+use Rattle.std.proofs.Common.{◌≡◌, ◌⊎◌, ℕ, zero, suc, ◌+◌, ◌-◌, ◌≤◌, Bool, IsTrue, List, [], ◌∷◌, ◌++◌, Some}
+use Rattle.std.proofs.Common.{None, length, slice_get, inl, inr, refl, sym, ◌∙◌, ap, subst, arith}
+use Rattle.std.proofs.{Common.length-append, lemmas.Bool.cases_eq}
 use Rattle.std.proofs.lemmas.Option.{slice_get-get_or, slice_get_within}
 use Rattle.wax_query.specs.Below.{IsPathWithin}
-use Rattle.wax_program.specs.declared.instruction.Instruction.{Instruction}
-use Rattle.wax_program.specs.declared.onward.Ahead.{Ahead}
+use Rattle.wax_program.specs.{declared.instruction.Instruction.Instruction, declared.onward.Ahead.Ahead}
 use Rattle.wax_program.specs.declared.onward.Ahead.TheVariants.{Rest}
 use Rattle.wax_program.specs.Onward.{AreFlagsOf, AreLevelsOf, GoesOn, HasLevel, LevelFlags, PlaceFlags}
 use Rattle.wax_program.specs.inner.Leads.{AreFlagsAfter, HoldLast, Holds, IsEarlier, IsNextLevel}

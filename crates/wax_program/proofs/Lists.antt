@@ -1,13 +1,11 @@
 -- Places that are parted, and places from which every text is accepted.
 use Rattle.std.proofs.Common.{◌≡◌, ◌+◌, ◌<◌, ◌⊎◌, [], ◌∷◌, ◌++◌, inl, inr, ℕ, suc, List, Some, length, get_or}
-use Rattle.std.proofs.Common.{slice_get, Contains, refl, sym, ◌∙◌, subst, arith}
-use Rattle.std.proofs.lemmas.Bool.{cases_lt}
+use Rattle.std.proofs.{Common.{slice_get, Contains, refl, sym, ◌∙◌, subst, arith}, lemmas.Bool.cases_lt}
 use Rattle.std.proofs.lemmas.List.{get_or_default}
 use Rattle.std.proofs.lemmas.List.Elements.{Contains-append_left, Contains-push, Contains-push_cases}
 use Rattle.wax_program.specs.declared.instruction.Instruction.{Instruction}
 use Rattle.wax_program.specs.declared.instruction.Instruction.TheVariants.{Repeat}
-use Rattle.wax_program.specs.declared.instruction.Test.TheVariants.{Any}
-use Rattle.wax_program.specs.Machine.{Accepts}
+use Rattle.wax_program.specs.{declared.instruction.Test.TheVariants.Any, Machine.Accepts}
 
 -- the places before an index are in one of the parts, which have no others
 pub record PartedBefore (places part other : List ℕ) (i : ℕ) : Type 0 where

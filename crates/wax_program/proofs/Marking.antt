@@ -2,12 +2,11 @@
 use Rattle.std.proofs.Common.{◌≡◌, ◌⊎◌, ℕ, ◌+◌, ◌*◌, ◌<◌, ◌≤◌, Bool, true, Option, Some, List, [], length}
 use Rattle.std.proofs.Common.{set, slice_get, inl, inr, refl, sym, ◌∙◌, ap, subst, arith}
 use Rattle.wax_program.specs.Places.{HoldsPlace, Within, member_count}
-use Rattle.wax_program.proofs.Members.{added_keeps, added_only, has_added, members_set, members_within}
-use Rattle.wax_program.specs.declared.instruction.Instruction.{Instruction}
-use Rattle.wax_program.specs.declared.onward.Ahead.{Ahead}
+use Rattle.wax_program.specs.{declared.instruction.Instruction.Instruction, declared.onward.Ahead.Ahead}
 use Rattle.wax_program.specs.declared.onward.Ahead.TheVariants.{Rest, Path, Below}
 use Rattle.wax_program.specs.Onward.{PlaceFlags, GoesOn}
 use Rattle.wax_program.specs.inner.Leads.{AreSoundAfter, Gains, HaveRoom, Holds, LeadsOn, Marks, flag_count}
+use Rattle.wax_program.proofs.Members.{added_keeps, added_only, has_added, members_set, members_within}
 use Rattle.wax_program.proofs.Leading.{leads_soundly, rest_ends}
 
 -- ---- one set

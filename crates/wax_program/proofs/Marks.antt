@@ -1,13 +1,10 @@
 -- The ends that a round reads.
 use Rattle.std.proofs.Common.{Contains, ◌++◌, ◌↔◌, get_or, ◌≡◌, ℕ, zero, suc, ◌+◌, ◌-◌, ◌<◌, ◌≤◌, ◌⊎◌, Bool}
 use Rattle.std.proofs.Common.{List, [], ◌∷◌, length, Some, slice_get, refl, sym, ◌∙◌, ap, subst, inl, inr}
-use Rattle.std.proofs.Common.{arith}
-use Rattle.std.proofs.lemmas.Bool.{cases_lt}
-use Rattle.std.proofs.lemmas.List.{get_or_default}
+use Rattle.std.proofs.{Common.arith, lemmas.Bool.cases_lt, lemmas.List.get_or_default}
 use Rattle.std.proofs.lemmas.List.Elements.{Contains-append_left, Contains-push, Contains-push_cases}
 use Rattle.std.proofs.lemmas.Option.{slice_get_within}
-use Rattle.wax_program.specs.Places.{HoldsPlace}
-use Rattle.wax_program.specs.declared.instruction.Instruction.{Instruction}
+use Rattle.wax_program.specs.{Places.HoldsPlace, declared.instruction.Instruction.Instruction}
 use Rattle.wax_program.specs.declared.instruction.Instruction.TheVariants.{Check, Repeat, Components, Fork}
 use Rattle.wax_program.specs.declared.instruction.Instruction.TheVariants.{Jump, Back, End}
 use Rattle.wax_program.specs.Closed.{LeadsWithin, IsClosed, AreEndsAt, IsEndAt, ReadsEnd}

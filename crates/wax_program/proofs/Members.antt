@@ -1,8 +1,7 @@
 -- Sets of places as flags.
 use Rattle.std.proofs.Common.{◌≡◌, ℕ, zero, suc, ◌+◌, ◌<◌, ◌≤◌, ◌⊎◌, inl, inr, Bool, true, false, List, []}
 use Rattle.std.proofs.Common.{◌∷◌, length, set, refl, sym, ◌∙◌, arith, true≢false, get_or-set_same}
-use Rattle.std.proofs.Common.{get_or-set_other, length-set}
-use Rattle.std.proofs.lemmas.Bool.{cases_eq, cases_lt}
+use Rattle.std.proofs.{Common.{get_or-set_other, length-set}, lemmas.Bool.{cases_eq, cases_lt}}
 use Rattle.std.proofs.lemmas.List.{get_or_past}
 use Rattle.wax_program.specs.Places.{HoldsPlace, IsEmpty, Within, member_count}
 

@@ -1,19 +1,14 @@
 -- How a folder's text goes on to the texts of what is below it.
 use Rattle.std.proofs.Common.{◌≡◌, ◌≢◌, ◌↔◌, ℕ, ◌*◌, ◌≤◌, ◌==◌, Bool, true, false, List, [], ◌∷◌, ◌++◌}
 use Rattle.std.proofs.Common.{length, Option, None, if◌then◌else◌, inl, inr, refl, sym, ◌∙◌, ap, subst, arith}
-use Rattle.std.proofs.Common.{append_assoc}
-use Rattle.std.proofs.lemmas.Bool.Decides.{nat_tests}
-use Rattle.std.proofs.lemmas.List.{nil_from_length}
+use Rattle.std.proofs.{Common.append_assoc, lemmas.Bool.Decides.nat_tests, lemmas.List.nil_from_length}
 use Rattle.std.proofs.lemmas.Str.{chars-nil}
 use Rattle.std.specs.Str.{IsUtf8, all_scalars, chars}
-use Rattle.wax_program.specs.declared.onward.Ahead.TheVariants.{Path, Below}
-use Rattle.wax_program.specs.Last.{IsLastName}
+use Rattle.wax_program.specs.{declared.onward.Ahead.TheVariants.{Path, Below}, Last.IsLastName}
 use Rattle.wax_program.specs.Onward.{IsAhead, ahead_of}
-use Rattle.wax_program.proofs.Advancing.{chars_few}
-use Rattle.wax_query.proofs.Below.{Begins, GoesOn, path_begins}
-use Rattle.wax_query.proofs.Ends.{closed_name, not_same, open_append}
+use Rattle.wax_program.proofs.{Advancing.chars_few, Scalars.{scalars_after, scalars_append, scalars_before}}
+use Rattle.wax_query.proofs.{Below.{Begins, GoesOn, path_begins}, Ends.{closed_name, not_same, open_append}}
 use Rattle.wax_query.specs.Below.{IsBelowWithin, IsPathWithin, ends_open, folder_text}
-use Rattle.wax_program.proofs.Scalars.{scalars_after, scalars_append, scalars_before}
 use Rattle.wax_query.specs.Components.{HasNoSlash}
 
 -- ---- how a text ends

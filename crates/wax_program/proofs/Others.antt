@@ -1,16 +1,11 @@
 -- Which tests some character other than `/` passes.
 use Rattle.std.proofs.Common.{◌≡◌, ◌≢◌, ◌↔◌, ◌⊎◌, ℕ, ◌+◌, ◌<◌, ◌≤◌, ◌==◌, ◌&&◌, ◌||◌, not, nat_le, Bool, true}
 use Rattle.std.proofs.Common.{false, List, [], ◌∷◌, IsTrue, length, get_or, zero, suc, inl, inr, refl, sym}
-use Rattle.std.proofs.Common.{subst, take, take_all, true≢false, ◌∙◌, arith}
-use Rattle.std.proofs.lemmas.Bool.{cases_eq}
-use Rattle.std.proofs.lemmas.Bool.Decides.{nat_tests}
-use Rattle.std.proofs.lemmas.List.Elements.{All-head, All-more, All-tail}
+use Rattle.std.proofs.{Common.{subst, take, take_all, true≢false, ◌∙◌, arith}, lemmas.Bool.cases_eq}
+use Rattle.std.proofs.{lemmas.Bool.Decides.nat_tests, lemmas.List.Elements.{All-head, All-more, All-tail}}
 use Rattle.std.proofs.lemmas.List.Folds.{list_any_at}
-use Rattle.std.specs.Char.{IsScalar}
-use Rattle.std.specs.List.{list_any, list_all}
-use Rattle.std.specs.Prelude.{All}
-use Rattle.wax_token.specs.Meaning.{in_archetype, is_forward}
-use Rattle.wax_token.specs.declared.token.Archetype.{Archetype}
+use Rattle.std.specs.{Char.IsScalar, List.{list_any, list_all}, Prelude.All}
+use Rattle.wax_token.specs.{Meaning.{in_archetype, is_forward}, declared.token.Archetype.Archetype}
 use Rattle.wax_token.specs.declared.token.Archetype.TheVariants.{Character, Range}
 use Rattle.wax_program.proofs.Scalars.{and_parts, both_true}
 use Rattle.wax_program.specs.Onward.{HoldsOther, IsOther, LeavesOther, ListsOther}

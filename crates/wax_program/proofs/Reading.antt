@@ -1,13 +1,9 @@
 -- Flags of the places whose test a character other than `/` passes.
-use Rattle.std.proofs.Common.{◌≡◌, ◌↔◌, ℕ, ◌+◌, ◌<◌, ◌≤◌, Bool, true, false, IsTrue, List, Some}
-use Rattle.std.proofs.Common.{length, set, slice_get, inl, inr, subst, sym, ◌∙◌, arith}
-use Rattle.std.proofs.lemmas.Bool.{cases_eq}
+use Rattle.std.proofs.Common.{◌≡◌, ◌↔◌, ℕ, ◌+◌, ◌<◌, ◌≤◌, Bool, true, false, IsTrue, List, Some, length, set}
+use Rattle.std.proofs.{Common.{slice_get, inl, inr, subst, sym, ◌∙◌, arith}, lemmas.Bool.cases_eq}
 use Rattle.std.proofs.lemmas.Option.{slice_get_within}
-use Rattle.wax_program.specs.Onward.{AreOthers, TakesOther}
-use Rattle.wax_program.specs.Places.{HoldsPlace}
-use Rattle.wax_program.specs.Tests.{test_of}
-use Rattle.wax_program.specs.declared.instruction.Instruction.{Instruction}
-use Rattle.wax_program.specs.declared.instruction.Test.{Test}
+use Rattle.wax_program.specs.{Onward.{AreOthers, TakesOther}, Places.HoldsPlace, Tests.test_of}
+use Rattle.wax_program.specs.{declared.instruction.Instruction.Instruction, declared.instruction.Test.Test}
 use Rattle.wax_program.proofs.Members.{added_keeps, added_only, has_added}
 
 -- the flags are right below a place, and none is set from there on

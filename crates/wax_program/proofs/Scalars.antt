@@ -1,9 +1,7 @@
 -- Texts of characters.
 use Rattle.std.proofs.Common.{◌≡◌, ℕ, ◌<◌, ◌&&◌, Bool, true, false, List, [], ◌∷◌, ◌++◌, inl, inr, refl}
-use Rattle.std.proofs.Common.{arith}
-use Rattle.std.proofs.Math.Utf8.{scalar_cases}
-use Rattle.std.specs.Char.{IsScalar}
-use Rattle.std.specs.Str.{all_scalars}
+use Rattle.std.proofs.{Common.arith, Math.Utf8.scalar_cases}
+use Rattle.std.specs.{Char.IsScalar, Str.all_scalars}
 
 pub and_parts : (a b : Bool) → (a && b) ≡ true → (a ≡ true) × (b ≡ true)
 and_parts true b e = (refl, e)

@@ -1,25 +1,20 @@
 -- Flags that spread to the places that lead to them.
 use Rattle.std.proofs.Common.{◌≡◌, ◌⊎◌, ℕ, ◌+◌, ◌-◌, ◌<◌, Option, Some, None, List, [], ◌∷◌, ◌++◌, length}
 use Rattle.std.proofs.Common.{slice_get, Contains, inl, inr, refl, sym, ◌∙◌, subst, arith}
-use Rattle.std.proofs.lemmas.Bool.{cases_eq}
-use Rattle.std.proofs.lemmas.List.{length-append}
+use Rattle.std.proofs.{lemmas.Bool.cases_eq, lemmas.List.length-append}
 use Rattle.std.proofs.lemmas.List.Elements.{Contains-append_left, Contains-push, Contains-push_cases}
 use Rattle.std.proofs.lemmas.Option.{slice_get_within}
-use Rattle.wax_program.specs.Onward.{PlaceFlags}
-use Rattle.wax_program.specs.declared.instruction.Instruction.{Instruction}
+use Rattle.wax_program.specs.{Onward.PlaceFlags, declared.instruction.Instruction.Instruction}
 use Rattle.wax_program.specs.declared.instruction.Instruction.TheVariants.{Check, Repeat, Components, Fork}
 use Rattle.wax_program.specs.declared.instruction.Instruction.TheVariants.{Jump, Back, End}
-use Rattle.wax_program.specs.declared.instruction.Test.{Test}
-use Rattle.wax_program.specs.declared.onward.Ahead.{Ahead}
+use Rattle.wax_program.specs.{declared.instruction.Test.Test, declared.onward.Ahead.Ahead}
 use Rattle.wax_program.specs.declared.onward.Ahead.TheVariants.{Rest, Path, Below}
 use Rattle.wax_program.specs.inner.Jumps.{IsJump, JumpsTo}
 use Rattle.wax_program.specs.inner.Leads.{Gains, Holds, HoldsAfter, HoldsByOther, IsClosedAt, LeadsBy}
-use Rattle.wax_program.specs.inner.Leads.{LeadsOn}
-use Rattle.wax_program.specs.inner.Leads.{earlier_flags, flag_count, onward_by_slash}
+use Rattle.wax_program.specs.inner.Leads.{LeadsOn, earlier_flags, flag_count, onward_by_slash}
 use Rattle.wax_program.specs.inner.Spreads.{AreSpread, AreSpreadFrom, HasFlagOf, HasReached, LeadsNear}
 use Rattle.wax_program.specs.inner.Spreads.{Spreads}
-use Rattle.wax_program.proofs.Jumping.{some_is}
-use Rattle.wax_program.proofs.Marking.{gains_both, gains_none}
+use Rattle.wax_program.proofs.{Jumping.some_is, Marking.{gains_both, gains_none}}
 
 -- ---- more flags lead to more
 module _ (o : Option PlaceFlags) (f g : PlaceFlags)

@@ -2,22 +2,18 @@
 use Rattle.std.proofs.Common.{◌≡◌, ℕ, zero, suc, ◌+◌, ◌-◌, ◌^◌, ◌<◌, ◌≤◌, Bool, true, false, cond, List, []}
 use Rattle.std.proofs.Common.{◌∷◌, ◌++◌, map, length, take, drop, get_or, chars, encode_utf8_all, IsUtf8}
 use Rattle.std.proofs.Common.{refl, sym, ◌∙◌, ap, subst, inl, inr, eqb-true, arith, drop-cons, length-append}
-use Rattle.std.proofs.Common.{pow-suc}
-use Rattle.std.proofs.Math.Utf8.{encode}
-use Rattle.std.proofs.lemmas.Bool.{cases_lt, eqb-false}
+use Rattle.std.proofs.{Common.pow-suc, Math.Utf8.encode, lemmas.Bool.{cases_lt, eqb-false}}
 use Rattle.std.proofs.lemmas.List.{get_or-append-add, get_or-drop, get_or-map, length-drop, length-map}
 use Rattle.std.proofs.lemmas.List.{take-append-drop}
 use Rattle.std.proofs.lemmas.Str.{IsCharBoundary-after_ascii, IsCharBoundary-before_ascii, IsUtf8-drop}
-use Rattle.std.proofs.lemmas.Str.{IsUtf8-take, encodes-chars}
-use Rattle.std.specs.Str.{IsCharBoundary}
-use Rattle.std.proofs.lemmas.Nat.{leading_top}
+use Rattle.std.proofs.{lemmas.Str.{IsUtf8-take, encodes-chars}, lemmas.Nat.leading_top}
 use Rattle.std.proofs.lemmas.Simd.{length-chunk, get_or-chunk, mask_l-lt, none_from_empty_mask}
+use Rattle.std.specs.Str.{IsCharBoundary}
 use Rattle.wax_program.specs.Last.{IsCutBetween, IsLastName}
+use Rattle.wax_program.specs.inner.Slashes.{LastNameAt, NoSlashFrom, is_slash}
 use Rattle.wax_program.proofs.LastNames.{cut_between, cut_chars, not_cut}
 use Rattle.wax_token.specs.Meaning.{HasNoSlash}
-use Rattle.wax_program.specs.inner.Slashes.{LastNameAt, NoSlashFrom, is_slash}
-use lib.Count.{count_leading_zeros}
-use lib.Lanes.{chunk, mask_l}
+use lib.{Count.count_leading_zeros, Lanes.{chunk, mask_l}}
 
 -- ---- the highest bit of a mask
 

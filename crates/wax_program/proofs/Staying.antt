@@ -1,22 +1,17 @@
 -- Sets of places that most characters leave as they are.
 use Rattle.std.proofs.Common.{◌≡◌, ◌≢◌, ◌≤◌, ◌+◌, ◌-◌, ◌⊎◌, ◌↔◌, ℕ, zero, suc, Bool, List, [], ◌∷◌, Option}
 use Rattle.std.proofs.Common.{Some, None, IfSome, IsSomeAnd, IsTrue, length, slice_get, sym, ◌∙◌, subst, inl}
-use Rattle.std.proofs.Common.{inr, arith}
-use Rattle.std.proofs.lemmas.Bool.Decides.{eqb_tells}
-use Rattle.std.proofs.lemmas.Option.{slice_get_within}
+use Rattle.std.proofs.{Common.{inr, arith}, lemmas.Bool.Decides.eqb_tells, lemmas.Option.slice_get_within}
 use Rattle.wax_program.specs.declared.instruction.Test.{Test}
 use Rattle.wax_program.specs.declared.instruction.Test.TheVariants.{NotSlash, Any}
 use Rattle.wax_program.specs.declared.instruction.Instruction.{Instruction}
 use Rattle.wax_program.specs.declared.instruction.Instruction.TheVariants.{Check, Repeat, Components, Fork}
 use Rattle.wax_program.specs.declared.instruction.Instruction.TheVariants.{Jump, Back, End}
-use Rattle.wax_program.specs.declared.steady.Steady.{Steady}
-use Rattle.wax_program.specs.declared.steady.Watched.{Watched}
-use Rattle.wax_program.specs.declared.steady.Watched.TheVariants.{Nothing, CheckAt, Unknown}
-use Rattle.wax_program.specs.Bits.{places_of}
+use Rattle.wax_program.specs.{declared.steady.Steady.Steady, declared.steady.Watched.Watched}
+use Rattle.wax_program.specs.{declared.steady.Watched.TheVariants.{Nothing, CheckAt, Unknown}, Bits.places_of}
 use Rattle.wax_program.specs.Machine.{PassesTest, Moves, AcceptsIn}
 use Rattle.wax_program.specs.Steady.{Alike, LedBack, ActsAlike, IsAbsorbing, IsKnown, MissesWatched, Noted}
-use Rattle.wax_program.specs.Steady.{NotedMiss, NotedRepeat}
-use Rattle.wax_program.specs.Places.{HoldsPlace}
+use Rattle.wax_program.specs.{Steady.{NotedMiss, NotedRepeat}, Places.HoldsPlace}
 use Rattle.wax_program.specs.Threads.{Position, IsDone, IsReached, Taken, Followed, Round, Led, AnyOf}
 use Rattle.wax_program.specs.Threads.{Advances}
 use Rattle.wax_program.proofs.Advancing.{in_range, round_end, was_read}

@@ -1,18 +1,12 @@
 -- Ranges of numbers, the least number outside of them, and what those of a class leave.
-use Rattle.std.proofs.Common.{◌≡◌, ◌≢◌, ℕ, ◌+◌, ◌<◌, ◌≤◌, ◌==◌, ◌&&◌, ◌||◌, nat_le, nat_lt, Bool}
-use Rattle.std.proofs.Common.{true, false, List, [], ◌∷◌, length, get_or, map, max, inl, inr, refl, sym}
-use Rattle.std.proofs.Common.{ap, ap₂, subst, true≢false, ◌∙◌, arith}
-use Rattle.std.proofs.lemmas.Bool.{cases_eq, cases_lt}
-use Rattle.std.proofs.lemmas.Bool.Decides.{nat_tests}
-use Rattle.std.proofs.lemmas.List.Elements.{All-from_get_or}
+use Rattle.std.proofs.Common.{◌≡◌, ◌≢◌, ℕ, ◌+◌, ◌<◌, ◌≤◌, ◌==◌, ◌&&◌, ◌||◌, nat_le, nat_lt, Bool, true, false}
+use Rattle.std.proofs.Common.{List, [], ◌∷◌, length, get_or, map, max, inl, inr, refl, sym, ap, ap₂, subst}
+use Rattle.std.proofs.{Common.{true≢false, ◌∙◌, arith}, lemmas.Bool.{cases_eq, cases_lt}}
+use Rattle.std.proofs.{lemmas.Bool.Decides.nat_tests, lemmas.List.Elements.All-from_get_or}
 use Rattle.std.proofs.lemmas.List.Folds.{list_any_at, list_any_none}
-use Rattle.std.proofs.lemmas.List.Sorted.{list_any-IsPermutation}
-use Rattle.std.proofs.Math.Utf8.{low_scalar}
-use Rattle.std.specs.Char.{IsScalar}
-use Rattle.std.specs.List.{list_any}
-use Rattle.std.specs.List.Sorted.{IsNonDecreasingBy, IsPermutation}
-use Rattle.wax_token.specs.Meaning.{in_archetype}
-use Rattle.wax_token.specs.declared.token.Archetype.{Archetype}
+use Rattle.std.proofs.{lemmas.List.Sorted.list_any-IsPermutation, Math.Utf8.low_scalar}
+use Rattle.std.specs.{Char.IsScalar, List.list_any, List.Sorted.{IsNonDecreasingBy, IsPermutation}}
+use Rattle.wax_token.specs.{Meaning.in_archetype, declared.token.Archetype.Archetype}
 use Rattle.wax_token.specs.declared.token.Archetype.TheVariants.{Character, Range}
 use Rattle.wax_program.proofs.Scalars.{scalar_small}
 use Rattle.wax_program.specs.Onward.{LeavesOther}

@@ -1,9 +1,8 @@
 -- Places that are taken: they were still to be read, and count as read.
 use Rattle.std.proofs.Common.{ℕ, ◌<◌, ◌≤◌, inl, inr, Bool, true, false, List, length, set, refl, arith}
-use Rattle.wax_program.specs.Places.{HoldsPlace, member_count}
+use Rattle.wax_program.specs.{Places.{HoldsPlace, member_count}, Threads.{AreSets, Taken}}
 use Rattle.wax_program.proofs.Members.{added_keeps, added_only, has_added, members_set, members_within}
 use Rattle.wax_program.proofs.Members.{removed_fewer, removed_others}
-use Rattle.wax_program.specs.Threads.{AreSets, Taken}
 
 -- a place that is still to be read counts as read
 module _ (size first : ℕ) (pending read next : List Bool) (sets : AreSets size first pending read next) where

@@ -1,13 +1,10 @@
 -- Which tests a character passes, as decided facts.
-use Rattle.std.proofs.Common.{◌↔◌, ◌<◌, ℕ, zero, suc, inl, inr, subst, arith}
-use Rattle.std.proofs.lemmas.Bool.{cases_eq}
+use Rattle.std.proofs.{Common.{◌↔◌, ◌<◌, ℕ, zero, suc, inl, inr, subst, arith}, lemmas.Bool.cases_eq}
 use Rattle.unicode.specs.CaseFolding.{simple_fold}
-use Rattle.wax_token.specs.Decided.{Decided, both, is_true}
-use Rattle.wax_token.specs.Meaning.{in_class}
+use Rattle.wax_token.specs.{Decided.{Decided, both, is_true}, Meaning.in_class}
 use Rattle.wax_program.specs.declared.instruction.Test.{Test}
 use Rattle.wax_program.specs.declared.instruction.Test.TheVariants.{Char, Folded, Class, NotSlash, Any, Never}
-use Rattle.wax_program.specs.Machine.{PassesTest}
-use Rattle.wax_program.specs.Onward.{IsOther, TakesOther}
+use Rattle.wax_program.specs.{Machine.PassesTest, Onward.{IsOther, TakesOther}}
 use Rattle.wax_program.proofs.Scalars.{scalar_small}
 
 pub decided_by : {P Q : Type 0} → P ↔ Q → Decided P → Decided Q

@@ -1,13 +1,10 @@
 -- Sets of places below 64, in one word.
 use Rattle.std.proofs.Common.{◌≡◌, ℕ, ◌+◌, ◌*◌, ◌/◌, ◌%◌, ◌^◌, ◌<◌, ◌≤◌, true, false, eqb, [], ◌∷◌, length}
 use Rattle.std.proofs.Common.{get_or, set, refl, sym, ◌∙◌, ap, inl, inr, arith, eq-eqb, eqb-true, w64}
-use Rattle.std.proofs.lemmas.Bool.{cases_eq}
-use Rattle.std.proofs.lemmas.Nat.Bits.{bit_at-lt, same_from_bits_below}
-use Rattle.std.specs.Prelude.{bit_and, bit_or}
-use Rattle.std.specs.Int.{bit_at, bit_not, trailing_zeros}
+use Rattle.std.proofs.{lemmas.Bool.cases_eq, lemmas.Nat.Bits.{bit_at-lt, same_from_bits_below}}
+use Rattle.std.specs.{Prelude.{bit_and, bit_or}, Int.{bit_at, bit_not, trailing_zeros}}
 use Rattle.std.specs.Int.Count.{trailing_of_zero}
-use Rattle.wax_program.specs.Bits.{bits_of}
-use Rattle.wax_program.specs.Places.{HoldsPlace, IsEmpty}
+use Rattle.wax_program.specs.{Bits.bits_of, Places.{HoldsPlace, IsEmpty}}
 use Rattle.wax_program.proofs.BitFlags.{length-bits_of, get_or-bits_of, bits_of-insert, bits_of-remove}
 use Rattle.wax_program.proofs.BitFlags.{first_has, first_least, empty_of_replicate}
 

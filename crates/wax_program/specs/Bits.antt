@@ -1,7 +1,6 @@
 -- Words as bits.
 use Rattle.std.specs.Prelude.{ℕ, ◌*◌, ◌/◌, ◌%◌, Bool, List, [], ◌∷◌, length, map, ◌==◌, slice_index}
-use Rattle.std.specs.List.{range_with_len}
-use Rattle.std.specs.Int.{bit_at}
+use Rattle.std.specs.{List.range_with_len, Int.bit_at}
 
 -- bit n of the words, counted from the lowest bit of the first
 abbrev pub bit_of : List ℕ → ℕ → Bool

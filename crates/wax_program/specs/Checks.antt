@@ -2,8 +2,7 @@
 use Rattle.std.specs.Prelude.{◌≡◌, ◌↔◌, ℕ, Bool, IsTrue, List, Some, slice_get}
 use Rattle.wax_program.specs.declared.instruction.Instruction.{Instruction}
 use Rattle.wax_program.specs.declared.instruction.Instruction.TheVariants.{Check}
-use Rattle.wax_program.specs.declared.instruction.Test.{Test}
-use Rattle.wax_program.specs.Machine.{PassesTest}
+use Rattle.wax_program.specs.{declared.instruction.Test.Test, Machine.PassesTest}
 
 -- the instruction takes one character, and the flag says whether it takes this one
 abbrev pub IsCheckOf : Instruction → ℕ → Bool → Type 0

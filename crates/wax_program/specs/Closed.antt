@@ -1,12 +1,10 @@
 -- Programs that have no end but those of their patterns.
 use Rattle.std.specs.Prelude.{◌≡◌, ◌↔◌, ℕ, ◌<◌, ◌≤◌, List, [], ◌++◌, ◌∷◌, Some, Contains, length, slice_get}
 use Rattle.std.specs.Prelude.{⊤}
-use Rattle.wax_program.specs.Places.{HoldsPlace}
-use Rattle.wax_program.specs.declared.instruction.Instruction.{Instruction}
+use Rattle.wax_program.specs.{Places.HoldsPlace, declared.instruction.Instruction.Instruction}
 use Rattle.wax_program.specs.declared.instruction.Instruction.TheVariants.{Check, Repeat, Components, Fork}
 use Rattle.wax_program.specs.declared.instruction.Instruction.TheVariants.{Jump, Back, End}
-use Rattle.wax_program.specs.Machine.{Accepts, mark}
-use Rattle.wax_program.specs.Threads.{Position}
+use Rattle.wax_program.specs.{Machine.{Accepts, mark}, Threads.Position}
 
 -- wherever the instruction leads, there is one, if so many follow it
 abbrev pub LeadsWithin : Instruction → ℕ → Type 0

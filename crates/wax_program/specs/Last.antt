@@ -1,8 +1,6 @@
 -- Programs for which only the last component of a text matters.
-use Rattle.std.specs.Prelude.{◌≡◌, ◌+◌, ◌*◌, ◌≤◌, ◌⊎◌, ◌↔◌, ◌++◌, ◌∷◌, List, ℕ, length}
-use Rattle.std.specs.Str.{chars}
-use Rattle.wax_program.specs.declared.instruction.Instruction.{Instruction}
-use Rattle.wax_program.specs.Machine.{Accepts}
+use Rattle.std.specs.{Prelude.{◌≡◌, ◌+◌, ◌*◌, ◌≤◌, ◌⊎◌, ◌↔◌, ◌++◌, ◌∷◌, List, ℕ, length}, Str.chars}
+use Rattle.wax_program.specs.{declared.instruction.Instruction.Instruction, Machine.Accepts}
 use Rattle.wax_token.specs.Meaning.{HasNoSlash}
 
 -- a text without `/` is accepted exactly where it is from the place 2 on

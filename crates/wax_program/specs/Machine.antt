@@ -3,11 +3,11 @@ use Rattle.std.specs.Prelude.{◌≡◌, ◌≢◌, ℕ, zero, suc, ◌+◌, ◌
 use Rattle.std.specs.Prelude.{slice_get, ⊤}
 use Rattle.wax_program.specs.declared.instruction.Test.{Test}
 use Rattle.wax_program.specs.declared.instruction.Test.TheVariants.{Char, Folded, Class, NotSlash, Any, Never}
-use Rattle.unicode.specs.CaseFolding.{simple_fold}
-use Rattle.wax_token.specs.Meaning.{in_class}
 use Rattle.wax_program.specs.declared.instruction.Instruction.{Instruction}
 use Rattle.wax_program.specs.declared.instruction.Instruction.TheVariants.{Check, Repeat, Components, Fork}
 use Rattle.wax_program.specs.declared.instruction.Instruction.TheVariants.{Jump, Back, End}
+use Rattle.unicode.specs.CaseFolding.{simple_fold}
+use Rattle.wax_token.specs.Meaning.{in_class}
 
 -- the character passes the test
 abbrev pub PassesTest : Test → ℕ → Type 0

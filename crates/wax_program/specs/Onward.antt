@@ -1,20 +1,14 @@
 -- What may follow from a place of a program on.
 use Rattle.std.specs.Prelude.{◌≡◌, ◌≢◌, ◌↔◌, ◌⊎◌, ℕ, ◌+◌, ◌<◌, ◌≤◌, Bool, IsTrue, true, false, List, ◌∷◌}
-use Rattle.std.specs.Prelude.{Option, Some, length, slice_get, if◌then◌else◌}
-use Rattle.std.specs.Char.{IsScalar}
-use Rattle.std.specs.List.{list_any}
+use Rattle.std.specs.{Prelude.{Option, Some, length, slice_get, if◌then◌else◌}, Char.IsScalar, List.list_any}
 use Rattle.std.specs.Str.{all_scalars}
 use Rattle.unicode.specs.CaseFolding.{simple_fold}
-use Rattle.wax_program.specs.Places.{HoldsPlace}
-use Rattle.wax_program.specs.declared.instruction.Instruction.{Instruction}
-use Rattle.wax_program.specs.declared.instruction.Test.{Test}
-use Rattle.wax_program.specs.declared.onward.Ahead.{Ahead}
+use Rattle.wax_program.specs.{Places.HoldsPlace, declared.instruction.Instruction.Instruction}
+use Rattle.wax_program.specs.{declared.instruction.Test.Test, declared.onward.Ahead.Ahead}
 use Rattle.wax_program.specs.declared.onward.Ahead.TheVariants.{Rest, Path, Below}
-use Rattle.wax_program.specs.Machine.{PassesTest, Accepts}
-use Rattle.wax_program.specs.Tests.{test_of}
+use Rattle.wax_program.specs.{Machine.{PassesTest, Accepts}, Tests.test_of}
 use Rattle.wax_query.specs.Below.{IsPathWithin, ends_open, one_more_name}
-use Rattle.wax_token.specs.Meaning.{in_archetype, in_class}
-use Rattle.wax_token.specs.declared.token.Archetype.{Archetype}
+use Rattle.wax_token.specs.{Meaning.{in_archetype, in_class}, declared.token.Archetype.Archetype}
 
 -- a character other than `/`
 abbrev pub IsOther : ℕ → Type 0

@@ -6,12 +6,9 @@ use Rattle.wax_program.specs.declared.instruction.Test.TheVariants.{Char, NotSla
 use Rattle.wax_program.specs.declared.instruction.Instruction.{Instruction}
 use Rattle.wax_program.specs.declared.instruction.Instruction.TheVariants.{Check, Repeat, Components, Fork}
 use Rattle.wax_program.specs.declared.instruction.Instruction.TheVariants.{Jump, Back, End}
-use Rattle.wax_program.specs.declared.steady.Steady.{Steady}
-use Rattle.wax_program.specs.declared.steady.Watched.{Watched}
-use Rattle.wax_program.specs.declared.steady.Watched.TheVariants.{Nothing, CheckAt, Unknown}
-use Rattle.wax_program.specs.Bits.{places_of}
-use Rattle.wax_program.specs.Machine.{PassesTest, mark}
-use Rattle.wax_program.specs.Threads.{Advances}
+use Rattle.wax_program.specs.{declared.steady.Steady.Steady, declared.steady.Watched.Watched}
+use Rattle.wax_program.specs.{declared.steady.Watched.TheVariants.{Nothing, CheckAt, Unknown}, Bits.places_of}
+use Rattle.wax_program.specs.{Machine.{PassesTest, mark}, Threads.Advances}
 
 -- no check at the place takes the character
 abbrev pub Misses : List Instruction → ℕ → ℕ → Type 0

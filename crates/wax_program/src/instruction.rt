@@ -1,8 +1,6 @@
 //! The instructions of a program.
-ghost use Rattle.std.specs.Prelude.{◌≡◌, ◌≢◌, ◌↔◌, ℕ, IfOk, IsTrue, true};
-ghost use Rattle.std.specs.Char.{IsScalar};
+ghost use Rattle.std.specs.{Prelude.{◌≡◌, ◌≢◌, ◌↔◌, ℕ, IfOk, IsTrue, true}, Char.IsScalar, List.list_all};
 ghost use Rattle.unicode.specs.CaseFolding.{simple_fold};
-ghost use Rattle.std.specs.List.{list_all};
 ghost use Rattle.wax_program.specs.Machine.{PassesTest};
 ghost use Rattle.wax_program.specs.Onward.{FoldsOther, HoldsOther, IsOther, ListsOther, TakesOther};
 ghost use Rattle.wax_token.specs.Meaning.{in_archetype, in_class, is_forward};

@@ -1,12 +1,10 @@
 //! Programs that depend only on the last component of a text, such as that of `**/*.rs`.
 ghost use Rattle.std.specs.Prelude.{◌≡◌, ◌+◌, ◌*◌, ◌≤◌, ◌↔◌, IsTrue, IfOk, Some, chars, length, max, min};
-ghost use Rattle.std.specs.Prelude.{map, slice_get};
-ghost use Rattle.std.specs.Simd.Lanes.{mask_l};
+ghost use Rattle.std.specs.{Prelude.{map, slice_get}, Simd.Lanes.mask_l};
 ghost use Rattle.wax_program.specs.declared.instruction.Instruction.TheVariants.{Components, Fork};
 ghost use Rattle.wax_program.specs.inner.Names.{StayInName, StaysInName};
 ghost use Rattle.wax_program.specs.inner.Slashes.{LastNameAt, is_slash};
-ghost use Rattle.wax_program.specs.Last.{IsCutBetween, IsLastName, ReadsLast};
-ghost use Rattle.wax_program.specs.Machine.{Accepts};
+ghost use Rattle.wax_program.specs.{Last.{IsCutBetween, IsLastName, ReadsLast}, Machine.Accepts};
 ghost use Rattle.wax_program.specs.Meter.{most_ticks};
 
 use crate::instruction::Instruction;

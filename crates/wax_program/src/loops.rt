@@ -1,11 +1,8 @@
 //! Instructions that lead to themselves, those that take one character, and their tests.
 ghost use Rattle.std.specs.Prelude.{◌≡◌, ◌+◌, ◌^◌, ◌<◌, ◌≤◌, ℕ, IfOk, IfSome, IsTrue, List, length, min};
 ghost use Rattle.std.specs.Prelude.{option_copied};
-ghost use Rattle.wax_program.specs.Machine.{Accepts};
-ghost use Rattle.wax_program.specs.Meter.{most_ticks};
-ghost use Rattle.wax_program.specs.Checks.{IsCheckAt, IsCheckOf};
-ghost use Rattle.wax_program.specs.Tests.{IsTestAt, test_of};
-ghost use Rattle.wax_program.specs.Threads.{AreParts};
+ghost use Rattle.wax_program.specs.{Machine.Accepts, Meter.most_ticks, Checks.{IsCheckAt, IsCheckOf}};
+ghost use Rattle.wax_program.specs.{Tests.{IsTestAt, test_of}, Threads.AreParts};
 ghost use Rattle.wax_program.specs.declared.instruction.Instruction.TheVariants.{Repeat};
 ghost use Rattle.wax_program.specs.declared.instruction.Test.TheVariants.{Any};
 

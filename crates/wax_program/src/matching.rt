@@ -1,8 +1,6 @@
 //! Running a program over a text.
 ghost use Rattle.std.specs.Prelude.{◌≡◌, ◌+◌, ◌*◌, ◌<◌, ◌≤◌, ◌↔◌, IsTrue, IfOk, chars, length, min};
-ghost use Rattle.wax_program.specs.Machine.{Accepts};
-ghost use Rattle.wax_program.specs.Meter.{most_ticks};
-ghost use Rattle.wax_program.specs.Places.{IsEmpty};
+ghost use Rattle.wax_program.specs.{Machine.Accepts, Meter.most_ticks, Places.IsEmpty};
 
 use crate::heap_sets::HeapSets;
 use crate::machine::{CompiledProgram, Meter};

@@ -3,16 +3,14 @@ ghost use Rattle.std.specs.Prelude.{◌≡◌, ◌+◌, ◌*◌, ◌<◌, ◌≤
 ghost use Rattle.std.specs.Prelude.{chars, length, option_copied, slice_get};
 ghost use Rattle.wax_program.specs.Machine.{PassesTest};
 ghost use Rattle.wax_program.specs.Onward.{AreFlagsOf, AreOthers, TakesOther, ahead_of, flags_for};
-ghost use Rattle.wax_program.specs.Places.{HoldsPlace};
-ghost use Rattle.wax_program.specs.Tests.{test_of};
-ghost use Rattle.wax_program.specs.Visits.{flags_visits, onward_visits};
+ghost use Rattle.wax_program.specs.{Places.HoldsPlace, Tests.test_of, Visits.{flags_visits, onward_visits}};
 ghost use Rattle.wax_program.specs.declared.instruction.Test.{Test};
 ghost use Rattle.wax_program.specs.declared.instruction.Instruction.{Instruction};
 ghost use Rattle.wax_program.specs.declared.instruction.Instruction.TheVariants.{Components};
 ghost use Rattle.wax_program.specs.inner.Leads.{AreFlagsAfter, Gains, HaveRoom, Holds, HoldsAfter};
-ghost use Rattle.wax_program.specs.inner.Leads.{HoldsByOther, LeadsBy, LeadsOn};
+ghost use Rattle.wax_program.specs.inner.Leads.{HoldsByOther, LeadsBy, LeadsOn, Marks, earlier_flags};
+ghost use Rattle.wax_program.specs.inner.Leads.{flag_count, onward_by_slash};
 ghost use Rattle.wax_program.specs.inner.Spreads.{HasFlagOf, HasReached};
-ghost use Rattle.wax_program.specs.inner.Leads.{Marks, earlier_flags, flag_count, onward_by_slash};
 ghost use Rattle.wax_program.specs.declared.onward.Ahead.TheVariants.{Below, Path, Rest};
 
 use crate::bits::Set;
@@ -83,8 +81,7 @@ pub struct Onward {
 }
 
 impl Model for Onward {
-    ghost use Rattle.wax_program.specs.Onward.{PlaceFlags};
-    ghost use Rattle.wax_program.specs.inner.Leads.{HaveRoom};
+    ghost use Rattle.wax_program.specs.{Onward.PlaceFlags, inner.Leads.HaveRoom};
 
     ghost Value = { PlaceFlags };
 

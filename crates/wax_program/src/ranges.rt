@@ -1,6 +1,5 @@
 //! Which characters a list of archetypes leaves.
-ghost use Rattle.std.specs.Prelude.{◌≡◌, ◌↔◌, IfOk, IsTrue};
-ghost use Rattle.std.specs.List.Sorted.{IsNonDecreasingBy};
+ghost use Rattle.std.specs.{Prelude.{◌≡◌, ◌↔◌, IfOk, IsTrue}, List.Sorted.IsNonDecreasingBy};
 ghost use Rattle.wax_program.specs.Onward.{LeavesOther};
 ghost use Rattle.wax_program.specs.inner.Ranges.{IsLeastOutside, NumberRange, number_range_of, ranges_with};
 

@@ -1,11 +1,8 @@
 //! The places of a program that a run has reached at a position in the text.
 ghost use Rattle.std.specs.Prelude.{◌≡◌, ◌+◌, ◌≤◌, ◌<◌, ◌^◌, ◌↔◌, ℕ, IfSome, IsTrue, MatchOption};
 ghost use Rattle.std.specs.Bool.{MatchBool};
-ghost use Rattle.wax_program.specs.Bits.{places_of};
-ghost use Rattle.wax_program.specs.Places.{HoldsPlace, IsEmpty};
-ghost use Rattle.wax_program.specs.Threads.{Inserted, InsertedNext, IsDone, Position};
-ghost use Rattle.wax_program.specs.Places.{member_count};
-ghost use Rattle.wax_program.specs.Threads.{Taken};
+ghost use Rattle.wax_program.specs.{Bits.places_of, Places.{HoldsPlace, IsEmpty, member_count}};
+ghost use Rattle.wax_program.specs.Threads.{Inserted, InsertedNext, IsDone, Position, Taken};
 
 /// Three sets of places: those that are still to be read at a position in the text, those that were
 /// read there, and those of the next position. The place after the last instruction, where the

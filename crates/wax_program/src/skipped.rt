@@ -1,7 +1,6 @@
 //! The parts of texts that needn't be read.
 ghost use Rattle.std.specs.Prelude.{◌≡◌, ◌-◌, chars, length};
-ghost use Rattle.wax_program.specs.Last.{IsCutBetween, IsLastName, ReadsLast};
-ghost use Rattle.wax_program.specs.Threads.{AcceptsAllOrNone};
+ghost use Rattle.wax_program.specs.{Last.{IsCutBetween, IsLastName, ReadsLast}, Threads.AcceptsAllOrNone};
 
 use crate::machine::CompiledProgram;
 use crate::sets::Sets;

@@ -1,10 +1,8 @@
 //! Flags of a program's places, and how they spread to the places that lead to them.
-ghost use Rattle.std.specs.Prelude.{◌≡◌, ◌+◌, ◌*◌, ◌<◌, ◌≤◌, ◌⊎◌, ℕ, IfOk, Contains, []};
-ghost use Rattle.std.specs.Prelude.{length, option_copied};
-ghost use Rattle.wax_program.specs.Onward.{AreOthers};
-ghost use Rattle.wax_program.specs.declared.onward.Ahead.{Ahead};
-ghost use Rattle.wax_program.specs.inner.Jumps.{AreJumps, IsJump};
-ghost use Rattle.wax_program.specs.inner.Leads.{Holds, flag_count};
+ghost use Rattle.std.specs.Prelude.{◌≡◌, ◌+◌, ◌*◌, ◌<◌, ◌≤◌, ◌⊎◌, ℕ, IfOk, Contains, [], length};
+ghost use Rattle.std.specs.Prelude.{option_copied};
+ghost use Rattle.wax_program.specs.{Onward.AreOthers, declared.onward.Ahead.Ahead};
+ghost use Rattle.wax_program.specs.{inner.Jumps.{AreJumps, IsJump}, inner.Leads.{Holds, flag_count}};
 ghost use Rattle.wax_program.specs.inner.Spreads.{AreSpread, HasReached, Spreads};
 
 use crate::jumps::Jumps;

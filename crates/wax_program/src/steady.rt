@@ -1,10 +1,8 @@
 //! Steady sets: sets of places that most characters lead back to, so that these need no round.
 ghost use Rattle.std.specs.Prelude.{◌≡◌, ◌+◌, ◌≤◌, ℕ, List, IfSome, IsTrue, min};
-ghost use Rattle.wax_program.specs.Machine.{PassesTest};
-ghost use Rattle.wax_program.specs.Meter.{most_ticks};
+ghost use Rattle.wax_program.specs.{Machine.PassesTest, Meter.most_ticks};
 ghost use Rattle.wax_program.specs.Steady.{IsAbsorbing, IsKnown, MissesWatched, Misses, NotedMiss};
-ghost use Rattle.wax_program.specs.Steady.{NotedRepeat};
-ghost use Rattle.wax_program.specs.Threads.{Advances};
+ghost use Rattle.wax_program.specs.{Steady.NotedRepeat, Threads.Advances};
 
 use crate::instruction::{Instruction, Test};
 use crate::machine::{CompiledProgram, Meter};

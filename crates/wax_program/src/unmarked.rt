@@ -1,7 +1,6 @@
 //! Programs of several patterns without the marks of their numbers.
 ghost use Rattle.std.specs.Prelude.{◌≡◌, ◌<◌, ◌↔◌, ℕ, IfOk, List, length};
-ghost use Rattle.wax_program.specs.Closed.{AcceptsMarked, IsClosed};
-ghost use Rattle.wax_program.specs.Machine.{Accepts};
+ghost use Rattle.wax_program.specs.{Closed.{AcceptsMarked, IsClosed}, Machine.Accepts};
 ghost use Rattle.wax_program.specs.inner.Unmarked.{ReplacesAt, ReplacesEnd};
 
 use crate::instruction::{Instruction, Test};

@@ -1,11 +1,8 @@
 -- Plain paths of at most so many names, character by character.
 use Rattle.std.proofs.Common.{◌≡◌, ◌≢◌, ◌↔◌, ◌⊎◌, ℕ, zero, suc, List, [], ◌∷◌, ◌++◌, length, Option, Some}
-use Rattle.std.proofs.Common.{None, inl, inr, refl, sym, ap, subst, arith}
-use Rattle.std.proofs.lemmas.List.{append-nil}
+use Rattle.std.proofs.{Common.{None, inl, inr, refl, sym, ap, subst, arith}, lemmas.List.append-nil}
 use Rattle.wax_query.specs.Below.{AreNames, IsBelow, IsBelowWithin, IsPathWithin, joined_names, one_more_name}
-use Rattle.wax_query.specs.Below.{slashed}
-use Rattle.wax_query.specs.Components.{HasNoSlash}
-use Rattle.wax_query.specs.Ranges.{AtMost}
+use Rattle.wax_query.specs.{Below.slashed, Components.HasNoSlash, Ranges.AtMost}
 
 abbrev mutual
   -- a plain path of at most so many names

@@ -1,11 +1,8 @@
 -- How a text ends.
-use Rattle.std.proofs.Common.{◌≡◌, ◌≢◌, ℕ, zero, suc, ◌-◌, false, nat_eq, length, List, [], ◌∷◌}
-use Rattle.std.proofs.Common.{◌++◌, refl, ap, arith}
-use Rattle.std.proofs.lemmas.Bool.Decides.{nat_tests}
-use Rattle.std.specs.Prelude.{Some, ◌==◌}
-use Rattle.std.specs.List.{slice_get}
-use Rattle.wax_query.specs.Below.{ends_open}
-use Rattle.wax_query.specs.Components.{HasNoSlash}
+use Rattle.std.proofs.Common.{◌≡◌, ◌≢◌, ℕ, zero, suc, ◌-◌, false, nat_eq, length, List, [], ◌∷◌, ◌++◌, refl}
+use Rattle.std.proofs.{Common.{ap, arith}, lemmas.Bool.Decides.nat_tests}
+use Rattle.std.specs.{Prelude.{Some, ◌==◌}, List.slice_get}
+use Rattle.wax_query.specs.{Below.ends_open, Components.HasNoSlash}
 
 -- only an end that isn't empty decides
 pub open_append : (xs : List ℕ) (y : ℕ) (ys : List ℕ) → ends_open (xs ++ y ∷ ys) ≡ ends_open (y ∷ ys)

@@ -1,8 +1,7 @@
 -- The texts of what is below a folder.
 use Rattle.std.specs.Prelude.{◌≡◌, ℕ, suc, ◌==◌, Bool, true, ⊤, List, [], ◌∷◌, ◌++◌, length, Option, Some}
 use Rattle.std.specs.Prelude.{None, if◌then◌else◌}
-use Rattle.wax_query.specs.Components.{HasNoSlash}
-use Rattle.wax_query.specs.Ranges.{AtMost}
+use Rattle.wax_query.specs.{Components.HasNoSlash, Ranges.AtMost}
 
 -- names, each after a `/`
 abbrev pub slashed : List (List ℕ) → List ℕ

@@ -1,8 +1,6 @@
 -- The labels of a place.
-use Rattle.std.specs.Prelude.{◌≡◌, ℕ, List, [], ◌∷◌, map, Option, Some, None, codes}
-use Rattle.std.specs.Borrow.{Bor}
-use Rattle.wax_query.specs.Spans.{Span}
-use Rattle.wax_query.specs.declared.diagnostics.located.CorrelatedSpan.{CorrelatedSpan}
+use Rattle.std.specs.{Prelude.{◌≡◌, ℕ, List, [], ◌∷◌, map, Option, Some, None, codes}, Borrow.Bor}
+use Rattle.wax_query.specs.{Spans.Span, declared.diagnostics.located.CorrelatedSpan.CorrelatedSpan}
 use Rattle.wax_query.specs.declared.diagnostics.located.CorrelatedSpan.TheVariants.{Contiguous, Split}
 
 -- the bytes of a label, and its span

@@ -1,6 +1,5 @@
 -- What a value ends as whose span was lent.
-use Rattle.std.specs.Prelude.{[], ◌∷◌}
-use Rattle.std.specs.Borrow.{Lends, MutBor, Fml, RattleType, usize}
+use Rattle.std.specs.{Prelude.{[], ◌∷◌}, Borrow.{Lends, MutBor, Fml, RattleType, usize}}
 use Rattle.wax_query.specs.Spans.{Span}
 use denote.Struct.Tuple.{Tuple}
 

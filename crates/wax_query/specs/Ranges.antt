@@ -1,10 +1,8 @@
 -- Ranges of whole numbers, by a lower bound and an upper one that may be open.
-use Rattle.std.specs.Prelude.{ℕ, ◌+◌, ◌*◌, ◌^◌, ◌<◌, ◌≤◌, ◌==◌, ◌⊎◌, ◌&&◌, Bool, false, max, min}
-use Rattle.std.specs.Prelude.{Option, Some, None, IfSome, MatchOption, SomeIff, if◌then◌else◌}
-use Rattle.std.specs.Prelude.{is_none, option_map, option_and_then, ⊤}
-use Rattle.std.specs.Option.{option_map_or}
-use Rattle.std.specs.declared.num.NonZeroUsize.{NonZeroUsize}
-use Rattle.std.specs.Int.NonZero.{non_zero_usize_get}
+use Rattle.std.specs.Prelude.{ℕ, ◌+◌, ◌*◌, ◌^◌, ◌<◌, ◌≤◌, ◌==◌, ◌⊎◌, ◌&&◌, Bool, false, max, min, Option}
+use Rattle.std.specs.Prelude.{Some, None, IfSome, MatchOption, SomeIff, if◌then◌else◌, is_none, option_map}
+use Rattle.std.specs.{Prelude.{option_and_then, ⊤}, Option.option_map_or}
+use Rattle.std.specs.{declared.num.NonZeroUsize.NonZeroUsize, Int.NonZero.non_zero_usize_get}
 use Rattle.wax_query.specs.declared.query.variance.Boundedness.{Boundedness}
 use Rattle.wax_query.specs.declared.query.variance.Boundedness.TheVariants.{Bounded, Unbounded}
 use Rattle.wax_query.specs.declared.query.variance.Variance.{Variance}

@@ -1,8 +1,6 @@
 -- What is the same for each text, and what varies within bounds.
-use Rattle.std.specs.Prelude.{ℕ, List, Option, Some, None, IsNone, IsSomeAnd, option_map}
-use Rattle.std.specs.Borrow.{Bor}
-use Rattle.std.specs.Cow.{cow_str_bytes}
-use Rattle.std.specs.declared.borrow.CowStr.{CowStr}
+use Rattle.std.specs.{Prelude.{ℕ, List, Option, Some, None, IsNone, IsSomeAnd, option_map}, Borrow.Bor}
+use Rattle.std.specs.{Cow.cow_str_bytes, declared.borrow.CowStr.CowStr}
 use Rattle.wax_query.specs.declared.query.variance.Boundedness.{Boundedness}
 use Rattle.wax_query.specs.declared.query.variance.Boundedness.TheVariants.{Bounded, Unbounded}
 use Rattle.wax_query.specs.declared.query.variance.Variance.{Variance}

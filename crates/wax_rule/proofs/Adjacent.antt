@@ -3,10 +3,8 @@ use Rattle.std.proofs.Common.{◌≡◌, ℕ, zero, suc, ◌+◌, ◌-◌, ◌<�
 use Rattle.std.proofs.Common.{Option, Some, None, refl, sym, ◌∙◌, ap, arith}
 use Rattle.std.specs.Option.{option_map, option_or}
 use Rattle.wax_facts.specs.declared.rules.RuleErrorKind.TheVariants.{AdjacentBoundary}
-use Rattle.wax_token.specs.Syntax.{Tree}
-use Rattle.wax_token.specs.Words.{trees}
-use Rattle.wax_token.specs.Reads.{Span}
 use Rattle.wax_facts.specs.Rules.{break_here, adjacent_span, boundary_break, adjacent_boundaries}
+use Rattle.wax_token.specs.{Syntax.Tree, Words.trees, Reads.Span}
 use Rattle.wax_rule.specs.FirstBreak.{head_of}
 use Rattle.wax_rule.proofs.Firsts.{head_of_append}
 

@@ -4,15 +4,11 @@ use Rattle.std.proofs.Common.{Some, None, refl, zero, suc, sym, ◌∙◌, ap, a
 use Rattle.std.proofs.lemmas.Grind.{flat_map-append}
 use Rattle.std.proofs.lemmas.List.{take-append-drop, drop-append-le, length-drop}
 use Rattle.std.proofs.Math.Seq.{drop-append_seam, take-append_seam, take-add, drop-drop}
-use Rattle.std.specs.List.{flat_map}
-use Rattle.std.specs.Option.{option_or}
-use Rattle.wax_facts.specs.declared.rules.Side.{Side}
-use Rattle.wax_facts.specs.Rules.{broken, size_breaks}
+use Rattle.std.specs.{List.flat_map, Option.option_or}
+use Rattle.wax_facts.specs.{declared.rules.Side.Side, Rules.{broken, size_breaks}}
 use Rattle.wax_facts.specs.Situated.{Situated, end_side, breadth_first}
-use Rattle.wax_rule.proofs.Firsts.{head_of_append}
-use Rattle.wax_rule.proofs.Levels.{all_levels-step, first_row}
-use Rattle.wax_rule.specs.declared.rule.Rule.{Rule}
-use Rattle.wax_rule.specs.declared.rule.Rule.TheVariants.{Boundary, Bounds, Branch}
+use Rattle.wax_rule.proofs.{Firsts.head_of_append, Levels.{all_levels-step, first_row}}
+use Rattle.wax_rule.specs.{declared.rule.Rule.Rule, declared.rule.Rule.TheVariants.{Boundary, Bounds, Branch}}
 use Rattle.wax_rule.specs.FirstBreak.{head_of, breaks_of, shape_breaks, oversized, oversized_among}
 use Rattle.wax_rule.specs.FirstBreak.{oversized_in, oversized_inside}
 use Rattle.wax_rule.specs.inner.Queue.{branches, siblings, children, children_between, all_levels}

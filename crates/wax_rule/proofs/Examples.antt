@@ -2,19 +2,16 @@
 use Rattle.std.proofs.Common.{◌≡◌, ℕ, false, List, [], ◌∷◌, Option, Some, None, refl, codes}
 use Rattle.wax_query.specs.declared.diagnostics.located.CorrelatedSpan.{CorrelatedSpan}
 use Rattle.wax_query.specs.declared.diagnostics.located.CorrelatedSpan.TheVariants.{Contiguous, Split}
-use Rattle.wax_facts.specs.declared.rules.Break.{Break}
-use Rattle.wax_facts.specs.declared.rules.RuleErrorKind.{RuleErrorKind}
+use Rattle.wax_facts.specs.{declared.rules.Break.Break, declared.rules.RuleErrorKind.RuleErrorKind}
 use Rattle.wax_facts.specs.declared.rules.RuleErrorKind.TheVariants.{AdjacentBoundary, IncompatibleBounds}
 use Rattle.wax_facts.specs.declared.rules.RuleErrorKind.TheVariants.{SingularTree, AdjacentZeroOrMore}
 use Rattle.wax_facts.specs.declared.rules.RuleErrorKind.TheVariants.{RootedSubGlob, SingularZeroOrMore}
 use Rattle.wax_facts.specs.declared.rules.RuleErrorKind.TheVariants.{OversizedInvariant}
 use Rattle.wax_facts.specs.Rules.{broken, break_here}
 use Rattle.wax_rule.specs.FirstBreak.{head_of}
-use Rattle.wax_token.specs.declared.token.Evaluation.TheVariants.{Eager}
-use Rattle.wax_token.specs.Reads.{Span}
+use Rattle.wax_token.specs.{declared.token.Evaluation.TheVariants.Eager, Reads.Span}
 use Rattle.wax_token.specs.Syntax.{Tree, leaf, alternation, concatenation, repetition, literal, separator}
-use Rattle.wax_token.specs.Syntax.{zero_or_more, tree}
-use Rattle.wax_token.specs.Words.{trees}
+use Rattle.wax_token.specs.{Syntax.{zero_or_more, tree}, Words.trees}
 
 -- a glob or sub-glob of these tokens
 abbrev glob : ℕ → ℕ → List (Tree Span) → Tree Span

@@ -1,19 +1,13 @@
 -- The first of the breaks.
 use Rattle.std.proofs.Common.{◌≡◌, ℕ, ◌+◌, ◌<◌, drop, get_or, List, [], ◌∷◌, ◌++◌, length, Option, refl, sym}
-use Rattle.std.proofs.Common.{◌∙◌, ap}
-use Rattle.std.proofs.lemmas.List.{drop_more}
-use Rattle.std.specs.Option.{option_or}
-use Rattle.std.specs.List.{flat_map}
-use Rattle.wax_facts.specs.declared.rules.Break.{Break}
+use Rattle.std.proofs.{Common.{◌∙◌, ap}, lemmas.List.drop_more}
+use Rattle.std.specs.{Option.option_or, List.flat_map}
+use Rattle.wax_facts.specs.{declared.rules.Break.Break, declared.rules.Sort.TheVariants.Alternation}
+use Rattle.wax_facts.specs.declared.rules.Side.{Side}
+use Rattle.wax_facts.specs.{Rules.{alternative_breaks, size_breaks, sub_glob_breaks}, Situated.Situated}
 use Rattle.wax_rule.specs.FirstBreak.{head_of, shape_breaks, breaks_of, oversized_among}
 use Rattle.wax_rule.specs.declared.rule.Rule.TheVariants.{Boundary, Bounds, Branch}
-use Rattle.wax_facts.specs.declared.rules.Sort.TheVariants.{Alternation}
-use Rattle.wax_facts.specs.declared.rules.Side.{Side}
-use Rattle.wax_facts.specs.Rules.{alternative_breaks, size_breaks, sub_glob_breaks}
-use Rattle.wax_facts.specs.Situated.{Situated}
-use Rattle.wax_token.specs.Reads.{Span}
-use Rattle.wax_token.specs.Syntax.{Tree}
-use Rattle.wax_token.specs.Words.{trees}
+use Rattle.wax_token.specs.{Reads.Span, Syntax.Tree, Words.trees}
 
 pub head_of_append : {A : Type 0} (xs ys : List A) → head_of (xs ++ ys) ≡ option_or (head_of xs) (head_of ys)
 head_of_append [] ys = refl

@@ -3,10 +3,8 @@ use Rattle.std.proofs.Common.{None, List, [], refl, subst, sym, ◌++◌, ◌∷
 use Rattle.std.proofs.lemmas.List.Elements.{Contains-push_cases}
 use Rattle.std.specs.List.{Contains}
 use Rattle.wax_facts.specs.declared.rules.Break.{Break}
-use Rattle.wax_rule.specs.FirstBreak.{head_of}
-use Rattle.wax_rule.specs.Keeping.{KeepsRules}
-use Rattle.wax_token.specs.Reads.{Span}
-use Rattle.wax_token.specs.Syntax.{Tree}
+use Rattle.wax_rule.specs.{FirstBreak.head_of, Keeping.KeepsRules}
+use Rattle.wax_token.specs.{Reads.Span, Syntax.Tree}
 
 -- there is no break if there is no first one
 pub no_break : (breaks : List Break) → None ≡ head_of breaks → breaks ≡ []

@@ -5,8 +5,7 @@ use Rattle.std.specs.List.{flat_map}
 use Rattle.wax_rule.specs.inner.Queue.{branches, siblings, children, children_between, all_levels}
 use Rattle.wax_facts.specs.Alternatives.{beside}
 use Rattle.wax_facts.specs.Situated.{Situated, end_side, right_of, situated_levels, branch_levels}
-use Rattle.wax_facts.specs.Situated.{member_levels, breadth_first}
-use Rattle.wax_facts.specs.declared.rules.Side.{Side}
+use Rattle.wax_facts.specs.{Situated.{member_levels, breadth_first}, declared.rules.Side.Side}
 use Rattle.wax_token.specs.Reads.{Span}
 use Rattle.wax_token.specs.Syntax.{Tree, leaf, alternation, concatenation, repetition, Trees, none, more}
 

@@ -1,13 +1,12 @@
 -- A token of a row is smaller than the row.
 use Rattle.std.proofs.Common.{◌≡◌, ℕ, zero, suc, ◌-◌, ◌<◌, Bool, false, List, [], ◌∷◌, length, Some}
 use Rattle.std.proofs.Common.{slice_get, arith, ap, subst}
-use Rattle.wax_token.specs.Reads.{Span}
-use Rattle.wax_token.specs.Syntax.{Leaf, Tree, concatenation, tree_size, trees_size}
+use Rattle.wax_token.specs.{Reads.Span, Syntax.{Leaf, Tree, concatenation, tree_size, trees_size}}
+use Rattle.wax_token.specs.Words.{trees}
 use Rattle.wax_facts.specs.Situated.{ends_in, last_ends_in, starts_with_leaf}
 use Rattle.wax_rule.specs.declared.rule.situated.End.{End}
 use Rattle.wax_rule.specs.declared.rule.situated.End.TheVariants.{Start, Finish}
 use Rattle.wax_rule.specs.inner.Queue.{IsOutermost, is_found_at}
-use Rattle.wax_token.specs.Words.{trees}
 
 -- the last token
 pub at_size : {A : Type 0} (ts : List (Tree A)) (i : ℕ) (t : Tree A) → slice_get ts i ≡ Some t

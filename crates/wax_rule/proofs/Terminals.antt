@@ -4,13 +4,9 @@ use Rattle.std.proofs.Common.{Some, slice_get, refl, sym, ◌∙◌, arith, ap, 
 use Rattle.std.proofs.lemmas.Bool.{lt-ltb}
 use Rattle.std.specs.Option.{option_or}
 use Rattle.wax_facts.specs.Rules.{terminal_of, shared_rows, own_rows, rows_of, first_that_holds, last_of}
-use Rattle.wax_facts.specs.Rules.{are_some}
-use Rattle.wax_facts.specs.declared.rules.Side.{Side}
-use Rattle.wax_facts.specs.declared.rules.Row.{Row}
+use Rattle.wax_facts.specs.{Rules.are_some, declared.rules.Side.Side, declared.rules.Row.Row}
 use Rattle.wax_facts.specs.declared.rules.Sort.{Sort}
-use Rattle.wax_token.specs.Reads.{Span}
-use Rattle.wax_token.specs.Syntax.{Tree}
-use Rattle.wax_token.specs.Words.{trees}
+use Rattle.wax_token.specs.{Reads.Span, Syntax.Tree, Words.trees}
 
 first-append : (xs ys : List Row) → first_that_holds (xs ++ ys)
     ≡ option_or (first_that_holds xs) (first_that_holds ys)

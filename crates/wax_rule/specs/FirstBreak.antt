@@ -1,13 +1,10 @@
 -- The error that answers a list of breaks.
-use Rattle.std.specs.Prelude.{◌≡◌, ℕ, List, [], ◌∷◌, ◌++◌, Option, Some, None}
+use Rattle.std.specs.{Prelude.{◌≡◌, ℕ, List, [], ◌∷◌, ◌++◌, Option, Some, None}, List.flat_map}
 use Rattle.wax_query.specs.Labels.{Composite}
-use Rattle.wax_facts.specs.declared.rules.Break.{Break}
-use Rattle.wax_facts.specs.declared.rules.RuleErrorKind.{RuleErrorKind}
-use Rattle.std.specs.List.{flat_map}
-use Rattle.wax_rule.specs.declared.rule.Rule.{Rule}
-use Rattle.wax_rule.specs.declared.rule.Rule.TheVariants.{Boundary, Bounds, Branch}
+use Rattle.wax_facts.specs.{declared.rules.Break.Break, declared.rules.RuleErrorKind.RuleErrorKind}
 use Rattle.wax_facts.specs.Situated.{Situated}
 use Rattle.wax_facts.specs.Rules.{boundary_breaks, bounds_breaks, branch_breaks, size_breaks}
+use Rattle.wax_rule.specs.{declared.rule.Rule.Rule, declared.rule.Rule.TheVariants.{Boundary, Bounds, Branch}}
 use Rattle.wax_token.specs.Reads.{Span}
 use Rattle.wax_token.specs.Syntax.{Tree, leaf, alternation, concatenation, repetition, Trees, none, more}
 

@@ -1,15 +1,8 @@
 -- What it means that a token keeps the rules.
-use Rattle.std.specs.Prelude.{◌≡◌, ℕ, List, []}
-use Rattle.std.specs.List.{Contains}
-use Rattle.wax_facts.specs.Alternatives.{alternatives}
-use Rattle.wax_facts.specs.Rules.{broken}
-use Rattle.wax_facts.specs.Orderly.{Flat}
-use Rattle.wax_facts.specs.Prefix.{Prefix}
-use Rattle.wax_facts.specs.Rest.{left}
+use Rattle.std.specs.{Prelude.{◌≡◌, ℕ, List, []}, List.Contains}
+use Rattle.wax_facts.specs.{Alternatives.alternatives, Rules.broken, Orderly.Flat, Prefix.Prefix, Rest.left}
 use Rattle.wax_rule.specs.Shifted.{shifted_rest}
-use Rattle.wax_token.specs.Reads.{Span}
-use Rattle.wax_token.specs.Syntax.{Tree, alternation, concatenation}
-use Rattle.wax_token.specs.Words.{trees}
+use Rattle.wax_token.specs.{Reads.Span, Syntax.{Tree, alternation, concatenation}, Words.trees}
 
 -- A token keeps the rules if it breaks none, or is made of tokens that keep them in one of three ways. What
 -- is made so may break a rule by itself: the alternation of `a` and `/b` does, and so does a rest whose fixed

@@ -1,9 +1,8 @@
 -- Tokens of an expression that has lost its beginning.
 use Rattle.std.specs.Prelude.{ℕ, ◌+◌, ◌-◌, true, false}
 use Rattle.wax_token.specs.Reads.{Span}
-use Rattle.wax_token.specs.Syntax.{tree, Tree, leaf, alternation, concatenation, repetition}
-use Rattle.wax_token.specs.Syntax.{Trees, none, more}
-use Rattle.wax_token.specs.Words.{annotation_of}
+use Rattle.wax_token.specs.Syntax.{tree, Tree, leaf, alternation, concatenation, repetition, Trees, none}
+use Rattle.wax_token.specs.{Syntax.more, Words.annotation_of}
 
 -- so many bytes before it are gone
 abbrev pub shifted_span : ℕ → Span → Span

@@ -1,15 +1,11 @@
 //! The rules that reject expressions which would match other paths than their authors expect.
 ghost use Rattle.std.specs.Prelude.{◌≡◌, ◌∷◌, ◌++◌, ◌<◌, [], ℕ, Bool, IfOk, None, chars, codes};
-ghost use Rattle.std.specs.Cow.{cow_str_bytes};
-ghost use Rattle.std.specs.List.{flat_map};
-ghost use Rattle.std.specs.Option.{option_or};
+ghost use Rattle.std.specs.{Cow.cow_str_bytes, List.flat_map, Option.option_or};
 ghost use Rattle.wax_token.specs.Words.{trees};
 ghost use Rattle.wax_query.specs.Outcome.{MatchBuild};
-ghost use Rattle.wax_facts.specs.Situated.{breadth_first};
-ghost use Rattle.wax_facts.specs.Rules.{broken, break_here, size_breaks};
-ghost use Rattle.wax_rule.specs.FirstBreak.{TellsFirst, head_of, breaks_of, shape_breaks};
-ghost use Rattle.wax_rule.specs.FirstBreak.{oversized_among, oversized_in, oversized_inside};
-ghost use Rattle.wax_rule.specs.Keeping.{KeepsRules};
+ghost use Rattle.wax_facts.specs.{Situated.breadth_first, Rules.{broken, break_here, size_breaks}};
+ghost use Rattle.wax_rule.specs.FirstBreak.{TellsFirst, head_of, breaks_of, shape_breaks, oversized_among};
+ghost use Rattle.wax_rule.specs.{FirstBreak.{oversized_in, oversized_inside}, Keeping.KeepsRules};
 
 mod boundary;
 mod bounds;
@@ -55,8 +51,7 @@ impl Drop for RuleError<'_> {
 }
 
 impl<'t> Model for RuleError<'t> {
-    ghost use Rattle.std.specs.Str.{chars};
-    ghost use Rattle.std.specs.Cow.{cow_str_bytes};
+    ghost use Rattle.std.specs.{Str.chars, Cow.cow_str_bytes};
     ghost use Rattle.wax_rule.specs.FirstBreak.{ErrorView};
 
     ghost Value = { ErrorView };

@@ -1,31 +1,25 @@
 -- How the conflicts of a set are found, pair by pair.
-use Rattle.std.proofs.Common.{◌≡◌, ◌↔◌, ◌<◌, ◌≤◌, ◌+◌, ◌++◌, ◌∷◌, ◌∙◌, ◌⊎◌, ℕ, zero, suc, List, []}
-use Rattle.std.proofs.Common.{Some, None, String, ap, arith, chars, get_or, inl, inr, length, length-append}
-use Rattle.std.proofs.Common.{refl, slice_get, string_bytes, subst, sym}
-use Rattle.std.proofs.lemmas.Bool.{cases_lt}
+use Rattle.std.proofs.Common.{◌≡◌, ◌↔◌, ◌<◌, ◌≤◌, ◌+◌, ◌++◌, ◌∷◌, ◌∙◌, ◌⊎◌, ℕ, zero, suc, List, [], Some}
+use Rattle.std.proofs.Common.{None, String, ap, arith, chars, get_or, inl, inr, length, length-append, refl}
+use Rattle.std.proofs.{Common.{slice_get, string_bytes, subst, sym}, lemmas.Bool.cases_lt}
 use Rattle.std.proofs.lemmas.Option.{none-some, same_Some, slice_get_read, slice_get_within}
 use Rattle.std.specs.declared.alloc.Global.{Global}
 use Rattle.wax_compare.proofs.Answering.{answer_as}
-use Rattle.wax_compare.specs.Comparison.{IsAnswer, IsShortest, IsWanted}
-use Rattle.wax_compare.specs.Limit.{KeepsLimit}
+use Rattle.wax_compare.specs.{Comparison.{IsAnswer, IsShortest, IsWanted}, Limit.KeepsLimit}
 use Rattle.wax_compare.specs.declared.wanted.Comparison.{Comparison}
 use Rattle.wax_compare.specs.declared.wanted.Comparison.TheVariants.{Unknown}
 use Rattle.wax_compare.specs.declared.wanted.Criterion.TheVariants.{Accepted}
 use Rattle.wax_compare.specs.declared.wanted.Texts.TheVariants.{Paths}
 use Rattle.wax_compare.specs.declared.wanted.Wanted.TheVariants.{Both}
 use Rattle.wax_program.specs.Machine.{Accepts}
-use Rattle.wax_token.specs.Cost.{branches_cost, cost, program_length}
-use Rattle.wax_token.specs.Reads.{Span}
-use Rattle.wax_token.specs.Syntax.{Tree}
+use Rattle.wax_token.specs.{Cost.{branches_cost, cost, program_length}, Reads.Span, Syntax.Tree}
 use Rattle.wax_token.specs.Words.{listed, trees}
-use Rattle.wax_set.specs.Conflicts.{AreConflicts, IsConflict, IsEarlierPair, IsSharedPath}
-use Rattle.wax_set.specs.Conflicts.{PatternPair, pair_of, pattern_total}
-use Rattle.wax_set.specs.Sets.{BranchMeans, MeansAt, MeansText}
+use Rattle.wax_set.specs.Conflicts.{AreConflicts, IsConflict, IsEarlierPair, IsSharedPath, PatternPair}
+use Rattle.wax_set.specs.{Conflicts.{pair_of, pattern_total}, Sets.{BranchMeans, MeansAt, MeansText}}
 use Rattle.wax_set.specs.declared.set.conflicts.CompiledPattern.{CompiledPattern}
 use Rattle.wax_set.specs.declared.set.conflicts.Conflict.{Conflict}
 use Rattle.wax_set.specs.inner.Conflicts.{AreCompiled, AreConflictsBefore, IsCompiledPattern, IsPairDecided}
-use Rattle.wax_set.specs.inner.Conflicts.{set_tree}
-use Rattle.wax_set.specs.inner.Edges.{HasEdges}
+use Rattle.wax_set.specs.{inner.Conflicts.set_tree, inner.Edges.HasEdges}
 
 -- ---- lists to which one item is added
 module _ {X : Type 0} where

@@ -2,16 +2,12 @@
 use Rattle.std.proofs.Common.{◌≡◌, ◌<◌, ◌≤◌, ◌+◌, ◌-◌, ◌++◌, ◌∷◌, ◌∙◌, ◌⊎◌, ℕ, Bool, true, false, List, []}
 use Rattle.std.proofs.Common.{Some, String, ap, append-nil, append_assoc, chars, drop, encode_utf8_all}
 use Rattle.std.proofs.Common.{get_or, inl, inr, length, refl, slice_get, string_bytes, subst, sym, true≢false}
-use Rattle.std.proofs.Common.{◌==◌, IsUtf8}
-use Rattle.std.proofs.lemmas.Str.{chars-append, chars-nil}
+use Rattle.std.proofs.{Common.{◌==◌, IsUtf8}, lemmas.Str.{chars-append, chars-nil}}
 use Rattle.std.specs.declared.alloc.Global.{Global}
 use Rattle.wax_prefilter.proofs.Holding.{any_alone, any_left, any_right}
 use Rattle.wax_prefilter.proofs.MeantEdges.{bytes_begin, bytes_end, drop_here, last_meant, next_branch}
-use Rattle.wax_prefilter.proofs.MeantEdges.{no_branch}
-use Rattle.wax_prefilter.proofs.Members.{means_members}
-use Rattle.wax_token.specs.Meaning.{Means, MeansEach, MeansSome}
-use Rattle.wax_token.specs.Reads.{Span}
-use Rattle.wax_token.specs.Syntax.{Tree}
+use Rattle.wax_prefilter.proofs.{MeantEdges.no_branch, Members.means_members}
+use Rattle.wax_token.specs.{Meaning.{Means, MeansEach, MeansSome}, Reads.Span, Syntax.Tree}
 use Rattle.wax_token.specs.Words.{members, trees}
 use Rattle.wax_set.specs.inner.Edges.{AreEnds, HasBeginning, HasEnd, HasOneEnd}
 

@@ -1,18 +1,14 @@
 -- The lines of a picture.
-use Rattle.std.proofs.Common.{rules, ◌≡◌, ◌∙◌, ◌-◌, ◌^◌, ◌<◌, ◌==◌, ◌∷◌, ◌++◌, ℕ, List, [], max}
-use Rattle.std.proofs.Common.{ap, arith, refl, sym, subst, append_assoc, false, map, replicate}
-use Rattle.std.proofs.Common.{encode_utf8_all}
-use Rattle.std.specs.Prelude.{◌≢◌, All, codes}
-use Rattle.std.specs.Char.{encode_utf8}
-use Rattle.std.specs.List.{AllZip, join_with_byte, slice_split}
-use Rattle.std.proofs.lemmas.List.Elements.{All-append, All-head, All-nil, All-push, All-replicate}
-use Rattle.std.proofs.lemmas.List.Elements.{All-tail, All-weaker}
+use Rattle.std.proofs.Common.{rules, ◌≡◌, ◌∙◌, ◌-◌, ◌^◌, ◌<◌, ◌==◌, ◌∷◌, ◌++◌, ℕ, List, [], max, ap, arith}
+use Rattle.std.proofs.Common.{refl, sym, subst, append_assoc, false, map, replicate, encode_utf8_all}
+use Rattle.std.proofs.lemmas.List.Elements.{All-append, All-head, All-nil, All-push, All-replicate, All-tail}
+use Rattle.std.proofs.lemmas.List.Elements.{All-weaker}
 use Rattle.std.proofs.lemmas.List.Splits.{join_with_byte-slice_split, slice_split_at}
+use Rattle.std.specs.{Prelude.{◌≢◌, All, codes}, Char.encode_utf8, List.{AllZip, join_with_byte, slice_split}}
 use Rattle.wax_query.specs.Labels.{Label}
 use Rattle.wax_token.specs.Reads.{utf8_len}
 use Rattle.wax_set.specs.Drawn.{columns_before, byte_after, drawn_character, marks, label_lines, picture}
-use Rattle.wax_set.specs.PictureLines.{IsDrawnAs, IsLabelLine, HasNoLineFeed, ShowsLabels}
-use Rattle.wax_set.specs.PictureLines.{PicturesShow}
+use Rattle.wax_set.specs.PictureLines.{IsDrawnAs, IsLabelLine, HasNoLineFeed, ShowsLabels, PicturesShow}
 use Rattle.wax_set.proofs.Marking.{marks_are, same_run}
 
 -- the byte is no line feed

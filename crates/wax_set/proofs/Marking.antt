@@ -1,15 +1,12 @@
 -- Which columns of a label's line have a mark.
-use Rattle.std.proofs.Common.{◌≡◌, ◌+◌, ◌-◌, ◌^◌, ◌<◌, ◌≤◌, ◌∷◌, ℕ, List, [], max}
-use Rattle.std.proofs.Common.{arith, zero, suc, inl, inr, subst, length}
-use Rattle.std.specs.Prelude.{◌↔◌}
-use Rattle.std.specs.Char.{len_utf8}
-use Rattle.std.proofs.lemmas.Bool.{cases_lt}
-use Rattle.std.proofs.lemmas.Str.{len_utf8_bounds}
+use Rattle.std.proofs.Common.{◌≡◌, ◌+◌, ◌-◌, ◌^◌, ◌<◌, ◌≤◌, ◌∷◌, ℕ, List, [], max, arith, zero, suc, inl, inr}
+use Rattle.std.proofs.{Common.{subst, length}, lemmas.Bool.cases_lt, lemmas.Str.len_utf8_bounds}
+use Rattle.std.specs.{Prelude.◌↔◌, Char.len_utf8}
 use Rattle.wax_query.specs.Spans.{Span}
 use Rattle.wax_token.specs.Reads.{utf8_len}
 use Rattle.wax_set.specs.Drawn.{byte_after, columns_before}
-use Rattle.wax_set.proofs.Columns.{one_more}
 use Rattle.wax_set.specs.PictureLines.{byte_of_column, IsInSpan, IsColumnOf, HasCaret}
+use Rattle.wax_set.proofs.Columns.{one_more}
 
 -- at least the one byte of a character is left after its column
 pub byte_of_column_less : (e : List ℕ) (k : ℕ) → k < length e → byte_of_column e k < utf8_len e

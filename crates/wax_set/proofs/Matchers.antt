@@ -1,17 +1,13 @@
 -- What is true of the same texts is the same.
 use Rattle.std.proofs.Common.{◌≡◌, ◌↔◌, ℕ, Bool, true, false, IsTrue, IfOk, List, Option, None, Result, refl}
-use Rattle.std.proofs.Common.{subst, sym}
-use Rattle.std.proofs.lemmas.Result.{IfOk-weaker}
+use Rattle.std.proofs.{Common.{subst, sym}, lemmas.Result.IfOk-weaker}
 use Rattle.wax_prefilter.specs.Below.{MeansBelow, MeansWithin, goes_test, goes_tested}
 use Rattle.wax_lazy.proofs.Walking.{decides_by}
 use Rattle.wax_lazy.specs.Verdict.{AcceptsBelow, IsVerdict}
-use Rattle.wax_program.specs.Machine.{Accepts}
-use Rattle.wax_program.specs.declared.instruction.Instruction.{Instruction}
+use Rattle.wax_program.specs.{Machine.Accepts, declared.instruction.Instruction.Instruction}
 use Rattle.wax_query.proofs.Below.{without_limit as below_by_none}
 use Rattle.wax_query.specs.declared.query.verdict.Verdict.{Verdict}
-use Rattle.wax_token.specs.Decided.{means_test, means_tested}
-use Rattle.wax_token.specs.Meaning.{Means}
-use Rattle.wax_token.specs.Syntax.{Tree}
+use Rattle.wax_token.specs.{Decided.{means_test, means_tested}, Meaning.Means, Syntax.Tree}
 
 pub same_truth : {P : Type 0} (a b : Bool) → (IsTrue a ↔ P) → (IsTrue b ↔ P) → a ≡ b
 same_truth true true h k = refl

@@ -1,21 +1,15 @@
 -- Which of a set's patterns match a text.
-use Rattle.std.proofs.Common.{◌≡◌, ◌<◌, ◌↔◌, ◌++◌, ℕ, zero, suc, false}
-use Rattle.std.proofs.Common.{List, [], ◌∷◌, length, inl, inr, ◌≤◌, arith, ap, sym, subst, refl, ◌∙◌, ◌⊎◌}
-use Rattle.std.proofs.Common.{◌+◌, get_or, take}
-use Rattle.std.proofs.lemmas.List.{length-take-le, take_all, take_more}
-use Rattle.std.proofs.lemmas.List.Sums.{sum_by-append}
+use Rattle.std.proofs.Common.{◌≡◌, ◌<◌, ◌↔◌, ◌++◌, ℕ, zero, suc, false, List, [], ◌∷◌, length, inl, inr, ◌≤◌}
+use Rattle.std.proofs.Common.{arith, ap, sym, subst, refl, ◌∙◌, ◌⊎◌, ◌+◌, get_or, take}
+use Rattle.std.proofs.{lemmas.List.{length-take-le, take_all, take_more}, lemmas.List.Sums.sum_by-append}
 use Rattle.wax_lazy.specs.Numbers.{AreNumbers}
 use Rattle.wax_match.proofs.Numbered.{numbered_push}
-use Rattle.wax_match.specs.Numbered.{MeansNumbered, numbered_length}
-use Rattle.wax_match.specs.declared.encode.ends.Numbered.{Numbered}
+use Rattle.wax_match.specs.{Numbered.{MeansNumbered, numbered_length}, declared.encode.ends.Numbered.Numbered}
 use Rattle.wax_prefilter.specs.Compiled.{AcceptsAlike, Instructions, IsCompiled}
-use Rattle.wax_program.specs.Closed.{AcceptsMarked, IsClosed}
-use Rattle.wax_program.specs.Machine.{Accepts, mark}
+use Rattle.wax_program.specs.{Closed.{AcceptsMarked, IsClosed}, Machine.{Accepts, mark}}
 use Rattle.wax_program.specs.declared.instruction.Instruction.{Instruction}
 use Rattle.wax_set.specs.Sets.{AreMatches, BranchMeans, IsAlternation, IsNumbered, MeansAt, MeansText}
-use Rattle.wax_token.specs.Cost.{branches_cost, cost, program_length}
-use Rattle.wax_token.specs.Meaning.{MeansSome}
-use Rattle.wax_token.specs.Reads.{Span}
+use Rattle.wax_token.specs.{Cost.{branches_cost, cost, program_length}, Meaning.MeansSome, Reads.Span}
 use Rattle.wax_token.specs.Syntax.{Tree, Trees, leaf, alternation, concatenation, repetition, none, more}
 use Rattle.wax_token.specs.Words.{trees}
 

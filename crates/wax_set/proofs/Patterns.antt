@@ -1,16 +1,11 @@
 -- What the alternation of the patterns' trees means, and why there is none.
 use Rattle.std.proofs.Common.{◌≡◌, ◌↔◌, ◌<◌, ◌≤◌, ◌++◌, ◌∷◌, ℕ, zero, suc, false, List, [], inl, inr, sym, ap}
-use Rattle.std.proofs.Common.{◌∙◌, subst}
-use Rattle.std.proofs.lemmas.List.{append_assoc}
-use Rattle.wax_token.specs.Cost.{program_length}
-use Rattle.wax_token.specs.Meaning.{Means, MeansSome}
-use Rattle.wax_token.specs.Reads.{Span}
-use Rattle.wax_token.specs.Syntax.{Tree, alternation}
-use Rattle.wax_token.specs.Words.{trees}
+use Rattle.std.proofs.{Common.{◌∙◌, subst}, lemmas.List.append_assoc}
+use Rattle.wax_token.specs.{Cost.program_length, Meaning.{Means, MeansSome}, Reads.Span}
+use Rattle.wax_token.specs.{Syntax.{Tree, alternation}, Words.trees}
 use Rattle.wax_set.specs.Sets.{BranchMeans, MeansAt, MeansText}
 use Rattle.wax_set.specs.Patterns.{AreOversized, IsAnyOf, IsFirstRefused, IsOnly, NoSet, NumberMeans}
-use Rattle.wax_set.specs.Patterns.{OneMeans, SpellEach}
-use Rattle.wax_set.specs.declared.error.build_error.BuildError.{BuildError}
+use Rattle.wax_set.specs.{Patterns.{OneMeans, SpellEach}, declared.error.build_error.BuildError.BuildError}
 use Rattle.wax_set.specs.declared.error.build_error.BuildError.TheVariants.{Parse, Rule, Compile, Memory}
 
 module _ {P : Type 0} (S : P → Tree Span → Type 0) where

@@ -1,8 +1,7 @@
 -- What was pushed, and what is still to be.
 use Rattle.std.proofs.Common.{◌≡◌, ◌∙◌, ◌++◌, ◌∷◌, List, ℕ, [], ap, sym, append_assoc, append-nil}
 use Rattle.std.proofs.Common.{encode_utf8_all, map}
-use Rattle.std.specs.Prelude.{Result, Ok, Err, OnOk, is_ok, if◌then◌else◌}
-use Rattle.std.specs.Char.{encode_utf8}
+use Rattle.std.specs.{Prelude.{Result, Ok, Err, OnOk, is_ok, if◌then◌else◌}, Char.encode_utf8}
 use Rattle.wax_query.specs.Labels.{Label}
 use Rattle.wax_set.specs.Drawn.{drawn_character, label_line, label_lines}
 

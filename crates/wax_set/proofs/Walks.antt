@@ -5,14 +5,11 @@ use Rattle.wax_directory.specs.Law.{Law}
 use Rattle.wax_exclude.proofs.BeginsLeast.{begins_least, tree_decides}
 use Rattle.wax_exclude.specs.BeginsRequest.{BeginsRequest, origin_from, request_from, within}
 use Rattle.wax_exclude.specs.Pruned.{by_matches}
-use Rattle.wax_tree.specs.Programs.{matches_below, matches_from}
-use Rattle.wax_query.specs.Ranges.{Bounds}
-use Rattle.wax_token.specs.Reads.{Span}
-use Rattle.wax_token.specs.Syntax.{Tree}
-use Rattle.wax_tree.specs.Begins.{BeginsAt}
+use Rattle.wax_tree.specs.{Programs.{matches_below, matches_from}, Begins.BeginsAt}
 use Rattle.wax_tree.specs.declared.steps.DepthRange.{DepthRange}
-use Rattle.wax_walk.specs.Pruned.{selected_view}
-use Rattle.wax_walk.specs.View.{IsSeenAs, WalkView}
+use Rattle.wax_query.specs.Ranges.{Bounds}
+use Rattle.wax_token.specs.{Reads.Span, Syntax.Tree}
+use Rattle.wax_walk.specs.{Pruned.selected_view, View.{IsSeenAs, WalkView}}
 use Rattle.wax_set.specs.Walks.{BeginsSet}
 
 module _ {D C : Type 0} (t : Tree Span) (law : Law D C) (d : D) (start : List ℕ) (asked range : DepthRange)

@@ -1,15 +1,12 @@
 -- Patterns of a set that match one path.
 use Rattle.std.specs.Prelude.{◌≡◌, ◌<◌, ◌⊎◌, ℕ, List, MatchOption, Some, chars, length, slice_get}
 use Rattle.std.specs.Prelude.{string_bytes}
-use Rattle.wax_compare.specs.Comparison.{IsShortest, IsWanted}
-use Rattle.wax_compare.specs.Limit.{KeepsLimitBy}
+use Rattle.wax_compare.specs.{Comparison.{IsShortest, IsWanted}, Limit.KeepsLimitBy}
 use Rattle.wax_compare.specs.declared.wanted.Comparison.TheVariants.{Unknown}
 use Rattle.wax_compare.specs.declared.wanted.Texts.TheVariants.{Paths}
 use Rattle.wax_compare.specs.declared.wanted.Wanted.TheVariants.{Both}
-use Rattle.wax_set.specs.Sets.{MeansAt}
-use Rattle.wax_set.specs.declared.set.conflicts.Conflict.{Conflict}
-use Rattle.wax_token.specs.Reads.{Span}
-use Rattle.wax_token.specs.Syntax.{Tree, leaf, alternation, concatenation, repetition}
+use Rattle.wax_set.specs.{Sets.MeansAt, declared.set.conflicts.Conflict.Conflict}
+use Rattle.wax_token.specs.{Reads.Span, Syntax.{Tree, leaf, alternation, concatenation, repetition}}
 use Rattle.wax_token.specs.Words.{listed}
 
 -- the number of patterns of a set

@@ -1,10 +1,7 @@
 -- A picture of an expression, with marks under the places that have labels.
 use Rattle.std.specs.Prelude.{ℕ, ◌+◌, ◌-◌, ◌^◌, ◌==◌, ◌||◌, max, min, if◌then◌else◌, List, [], ◌∷◌, ◌++◌}
-use Rattle.std.specs.Prelude.{codes, map}
-use Rattle.std.specs.Prelude.{◌&&◌, encode_utf8_all, nat_le, nat_lt, replicate}
-use Rattle.std.specs.Char.{len_utf8}
-use Rattle.wax_query.specs.Labels.{Label}
-use Rattle.wax_query.specs.Spans.{Span}
+use Rattle.std.specs.{Prelude.{codes, map, ◌&&◌, encode_utf8_all, nat_le, nat_lt, replicate}, Char.len_utf8}
+use Rattle.wax_query.specs.{Labels.Label, Spans.Span}
 
 -- a control character is drawn as `?`, any other as itself
 abbrev pub drawn_character : ℕ → ℕ

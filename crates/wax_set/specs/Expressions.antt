@@ -3,8 +3,7 @@ use Rattle.std.specs.Prelude.{◌≡◌, ℕ, List, [], ⊤}
 use Rattle.wax_facts.specs.Rules.{broken}
 use Rattle.wax_parse.specs.Accepted.{IsPlace}
 use Rattle.wax_rule.specs.FirstBreak.{TellsFirst}
-use Rattle.wax_token.specs.Reads.{Reads, Span}
-use Rattle.wax_token.specs.Syntax.{Tree}
+use Rattle.wax_token.specs.{Reads.{Reads, Span}, Syntax.Tree}
 use Rattle.wax_set.specs.declared.error.build_error.BuildError.{BuildError}
 use Rattle.wax_set.specs.declared.error.build_error.BuildError.TheVariants.{Parse, Rule, Compile, Memory}
 

@@ -1,12 +1,8 @@
 -- What patterns stand for, and how the building of a set of them ends.
 use Rattle.std.specs.Prelude.{◌≡◌, ◌↔◌, ◌<◌, ◌≤◌, ◌++◌, ◌∷◌, ◌⊎◌, ℕ, zero, suc, List, [], Result, Ok, Err, ⊤}
 use Rattle.std.specs.List.{AllZip}
-use Rattle.wax_token.specs.Cost.{program_length}
-use Rattle.wax_token.specs.Reads.{Span}
-use Rattle.wax_token.specs.Syntax.{Tree, alternation}
-use Rattle.wax_token.specs.Words.{trees}
-use Rattle.wax_set.specs.Sets.{MeansAt, MeansText}
-use Rattle.wax_set.specs.declared.error.build_error.BuildError.{BuildError}
+use Rattle.wax_token.specs.{Cost.program_length, Reads.Span, Syntax.{Tree, alternation}, Words.trees}
+use Rattle.wax_set.specs.{Sets.{MeansAt, MeansText}, declared.error.build_error.BuildError.BuildError}
 use Rattle.wax_set.specs.declared.error.build_error.BuildError.TheVariants.{Parse, Rule, Compile, Memory}
 
 -- ---- single patterns

@@ -1,10 +1,8 @@
 -- The lines of a picture, and the columns of its marks.
-use Rattle.std.specs.Prelude.{◌≡◌, ◌≢◌, ◌↔◌, ◌⊎◌, ℕ, ◌+◌, ◌^◌, ◌<◌, ◌≤◌, ◌==◌, if◌then◌else◌}
-use Rattle.std.specs.Prelude.{List, [], ◌∷◌, ◌++◌, All, codes, encode_utf8_all, length, replicate, take}
-use Rattle.std.specs.Char.{is_control}
+use Rattle.std.specs.Prelude.{◌≡◌, ◌≢◌, ◌↔◌, ◌⊎◌, ℕ, ◌+◌, ◌^◌, ◌<◌, ◌≤◌, ◌==◌, if◌then◌else◌, List, [], ◌∷◌}
+use Rattle.std.specs.{Prelude.{◌++◌, All, codes, encode_utf8_all, length, replicate, take}, Char.is_control}
 use Rattle.std.specs.List.{AllZip, slice_split}
-use Rattle.wax_query.specs.Labels.{Label}
-use Rattle.wax_query.specs.Spans.{Span, end_of}
+use Rattle.wax_query.specs.{Labels.Label, Spans.{Span, end_of}}
 use Rattle.wax_token.specs.Reads.{utf8_len}
 use Rattle.wax_set.specs.Drawn.{picture}
 

@@ -2,11 +2,11 @@
 use Rattle.std.specs.Prelude.{◌≡◌, ⊤}
 use Rattle.wax_match.specs.declared.encode.CompileError.{CompileError}
 use Rattle.wax_query.specs.declared.diagnostics.Refusal.{Refusal}
-use Rattle.wax_query.specs.declared.diagnostics.Refusal.TheVariants as refusal
 use Rattle.wax_parse.specs.declared.parse.ParseError.{ParseError}
 use Rattle.wax_rule.specs.FirstBreak.{ErrorView}
 use Rattle.wax_set.specs.declared.error.build_error.BuildError.{BuildError}
 use Rattle.wax_set.specs.declared.error.build_error.BuildError.TheVariants.{Parse, Rule, Compile, Memory}
+use Rattle.wax_query.specs.declared.diagnostics.Refusal.TheVariants as refusal
 
 abbrev pub parse_refusal : Refusal ParseError → BuildError
 parse_refusal (refusal.Refused e) = Parse e

@@ -1,14 +1,10 @@
 -- What contracts see of a set of patterns.
 use Rattle.std.specs.Prelude.{◌≡◌, ◌↔◌, ◌<◌, ◌++◌, ℕ, zero, suc, false, Contains, List, [], ◌∷◌, length}
-use Rattle.std.specs.List.Sorted.{IsStrictlyIncreasing}
-use Rattle.std.specs.Coded.{Coded, coded×, coded_ℕ}
+use Rattle.std.specs.{List.Sorted.IsStrictlyIncreasing, Coded.{Coded, coded×, coded_ℕ}}
 use Rattle.wax_prefilter.specs.Compiled.{Instructions, IsCompiled}
-use Rattle.wax_program.specs.Closed.{IsClosed}
-use Rattle.wax_program.specs.Machine.{Accepts, mark}
+use Rattle.wax_program.specs.{Closed.IsClosed, Machine.{Accepts, mark}}
 use Rattle.wax_program.specs.declared.instruction.Instruction.{Instruction}
-use Rattle.wax_token.specs.Cost.{program_length}
-use Rattle.wax_token.specs.Meaning.{Means}
-use Rattle.wax_token.specs.Reads.{Span}
+use Rattle.wax_token.specs.{Cost.program_length, Meaning.Means, Reads.Span}
 use Rattle.wax_token.specs.Syntax.{Tree, Trees, leaf, alternation, concatenation, repetition, none, more}
 use Rattle.wax_token.specs.TreeCode.{tree_code}
 

@@ -3,15 +3,11 @@ use Rattle.std.specs.Prelude.{◌≡◌, ℕ, Bool, List, []}
 use Rattle.wax_components.specs.Depth.{Depth}
 use Rattle.wax_directory.specs.Law.{Law}
 use Rattle.wax_exclude.specs.BeginsRequest.{BeginsRequest, origin_from, request_from, walked_by}
-use Rattle.wax_exclude.specs.Prefix.{IsCommonPrefix}
-use Rattle.wax_exclude.specs.Pruned.{CanWalkLeast, by_matches}
+use Rattle.wax_exclude.specs.{Prefix.IsCommonPrefix, Pruned.{CanWalkLeast, by_matches}}
 use Rattle.wax_exclude.specs.Wanted.{Filter, Wanted}
 use Rattle.wax_query.specs.Ranges.{Bounds}
-use Rattle.wax_token.specs.Reads.{Span}
-use Rattle.wax_token.specs.Syntax.{Tree, alternation}
-use Rattle.wax_token.specs.Words.{trees}
-use Rattle.wax_tree.specs.declared.steps.DepthRange.{DepthRange}
-use Rattle.wax_tree.specs.Prefix.{ArePlain}
+use Rattle.wax_token.specs.{Reads.Span, Syntax.{Tree, alternation}, Words.trees}
+use Rattle.wax_tree.specs.{declared.steps.DepthRange.DepthRange, Prefix.ArePlain}
 use Rattle.wax_walk.specs.View.{WalkView}
 
 -- Where the walk of a set begins: at the names with which the prefixes of all its patterns begin.

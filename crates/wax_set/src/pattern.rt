@@ -1,10 +1,8 @@
 //! Patterns, and sets that are built from them.
 ghost use Rattle.std.specs.Prelude.{◌≡◌, ◌++◌, ◌∷◌, [], IfOk, MatchResult, OnOk, chars};
-ghost use Rattle.wax_token.specs.Reads.{Span};
-ghost use Rattle.wax_token.specs.Syntax.{Tree};
+ghost use Rattle.wax_token.specs.{Reads.Span, Syntax.Tree};
 ghost use Rattle.wax_set.specs.Expressions.{Refuses, Spells};
-ghost use Rattle.wax_set.specs.Patterns.{IsAnyOf, IsOnly, LacksMemory, NoSet, RefusesOk};
-ghost use Rattle.wax_set.specs.Patterns.{SpellEach, SpellsOk};
+ghost use Rattle.wax_set.specs.Patterns.{IsAnyOf, IsOnly, LacksMemory, NoSet, RefusesOk, SpellEach, SpellsOk};
 ghost use Rattle.wax_set.specs.declared.error.build_error.BuildError.{BuildError};
 
 use crate::error::{BuildError, parse_and_check};

@@ -1,26 +1,18 @@
 //! Sets of patterns: the alternation of their tokens, compiled, and a program that says which of them match.
 ghost use Rattle.std.specs.Prelude.{◌≡◌, ◌≤◌, ◌<◌, ◌↔◌, ◌+◌, ◌*◌, ◌++◌, ◌∷◌, ℕ, List, IsTrue, chars, false};
 ghost use Rattle.std.specs.Prelude.{[], IfOk, IfSome, MatchOption, Some, codes, length, min};
-ghost use Rattle.wax_program.specs.Closed.{IsClosed};
-ghost use Rattle.wax_program.specs.Machine.{Accepts, mark};
-ghost use Rattle.wax_program.specs.Meter.{most_ticks};
+ghost use Rattle.wax_program.specs.{Closed.IsClosed, Machine.{Accepts, mark}, Meter.most_ticks};
+ghost use Rattle.wax_lazy.specs.Cost.{path_visits};
 ghost use Rattle.wax_query.specs.Parts.{NoLineEndsBefore};
-ghost use Rattle.wax_prefilter.specs.Below.{MeansBelow, goes_test};
-ghost use Rattle.wax_components.specs.Depth.{Depth};
-ghost use Rattle.wax_facts.specs.Exhaustive.{exhaustive};
-ghost use Rattle.wax_facts.specs.InvariantText.{Text, Variant};
-ghost use Rattle.wax_facts.specs.Root.{root};
-ghost use Rattle.wax_query.specs.Components.{Bare, BeginsWithSlash, component_total};
-ghost use Rattle.wax_query.specs.Outcome.{MatchBuild};
-ghost use Rattle.wax_query.specs.Ranges.{AtMost, bounds};
-ghost use Rattle.wax_query.specs.Variances.{text_of};
+ghost use Rattle.wax_query.specs.{Components.{Bare, BeginsWithSlash, component_total}, Outcome.MatchBuild};
+ghost use Rattle.wax_query.specs.{Ranges.{AtMost, bounds}, Variances.text_of};
 ghost use Rattle.wax_query.specs.declared.query.when.When.TheVariants.{Always};
-ghost use Rattle.wax_token.specs.Cost.{program_length};
-ghost use Rattle.wax_token.specs.Decided.{means_test, means_tested};
-ghost use Rattle.wax_prefilter.specs.Compiled.{IsCompiled};
+ghost use Rattle.wax_prefilter.specs.{Below.{MeansBelow, goes_test}, Compiled.IsCompiled};
+ghost use Rattle.wax_components.specs.Depth.{Depth};
+ghost use Rattle.wax_facts.specs.{Exhaustive.exhaustive, InvariantText.{Text, Variant}, Root.root};
+ghost use Rattle.wax_token.specs.{Cost.program_length, Decided.{means_test, means_tested}};
+ghost use Rattle.wax_token.specs.{Syntax.alternation, Words.trees};
 ghost use Rattle.wax_set.specs.Sets.{AreMatches, BranchMeans, IsAlternation, IsNumbered, IsWhole, MeansText};
-ghost use Rattle.wax_token.specs.Syntax.{alternation};
-ghost use Rattle.wax_token.specs.Words.{trees};
 ghost use Rattle.wax_set.specs.Patterns.{LacksMemory};
 
 mod conflicts;
@@ -43,7 +35,7 @@ pub use walking::SetWalk;
 use wax_compare::{Compared, Criterion, Selector};
 use wax_components::depth;
 use wax_facts::{has_root, is_exhaustive, text};
-use wax_lazy::{HasProgram, LazyDfa, Matcher, list_numbers};
+use wax_lazy::{HasProgram, LazyDfa, Matcher, list_numbers_metered};
 use wax_match::encode;
 use wax_match::encode::{CompileError, CompiledProgram, Meter, Numbered};
 use wax_prefilter::CompiledTokens;
@@ -79,8 +71,7 @@ impl Drop for Any<'_> {
 
 impl<'t> Model for Any<'t> {
     ghost use Rattle.wax_set.specs.Sets.{IsCompiledAny, any_code};
-    ghost use Rattle.wax_token.specs.Reads.{Span};
-    ghost use Rattle.wax_token.specs.Syntax.{Tree};
+    ghost use Rattle.wax_token.specs.{Reads.Span, Syntax.Tree};
 
     ghost Value = { Tree Span };
 
@@ -209,9 +200,33 @@ impl Any<'_> {
     pub fn matches(&self, alloc: Global, path: &CandidatePath<'_>) -> Result<Vec<usize>, NoMemory>
         ensures { IfOk result (λ indexes. AreMatches self.now path.now indexes.items) }
     {
+        let mut meter = Meter::new();
+        self.matches_metered(alloc, path, &mut meter)
+    }
+
+    /// Returns what `matches` does, and moves the meter by the number of instructions that are visited. Its
+    /// bound is that of `AnyMatcher::matches_metered`. Most paths that don't match are rejected before, and
+    /// move the meter by nothing.
+    pub fn matches_metered(
+        &self,
+        alloc: Global,
+        path: &CandidatePath<'_>,
+        meter: &mut Meter,
+    ) -> Result<Vec<usize>, NoMemory>
+        ensures matches { IfOk result (λ indexes. AreMatches self.now path.now indexes.items) }
+        ensures above { let size = program_length self.now in
+            meter.new ≤ meter.old + path_visits size (length path.now) + size }
+        ensures steady { meter.old ≤ meter.new }
+    {
         let mut indexes = Vec::new(alloc);
         if self.may_match(path) {
-            list_numbers(alloc, self.numbered.holder(), path.as_str(), &mut indexes)?;
+            list_numbers_metered(
+                alloc,
+                self.numbered.holder(),
+                path.as_str(),
+                &mut indexes,
+                meter,
+            )?;
         }
         Ok(indexes)
     }

@@ -1,9 +1,10 @@
 -- What cells say.
-use Rattle.std.proofs.Common.{◌≡◌, ℕ, zero, suc, ◌+◌, ◌-◌, ◌≤◌, inl, inr, List, Some, None}
-use Rattle.std.proofs.Common.{replicate, sym, ◌∙◌, ap, subst, arith}
-use Rattle.wax_states.specs.declared.table.State.{State}
-use Rattle.wax_states.specs.declared.table.WideCell.{WideCell}
-use Rattle.wax_states.specs.States.{AreEmpty, IsDead, IsTransition, LeadsTo, TakesAll}
+use Rattle.std.proofs.Common.{◌≡◌, ℕ, zero, suc, ◌+◌, ◌-◌, ◌<◌, ◌≤◌, inl, inr, List, Option, Some, None}
+use Rattle.std.proofs.Common.{IfSome, MatchOption, length, map, replicate, slice_get, sym, ◌∙◌, ap, subst}
+use Rattle.std.proofs.{Common.arith, lemmas.Option.slice_get_within}
+use Rattle.wax_states.specs.{declared.table.State.State, declared.table.WideCell.WideCell}
+use Rattle.wax_states.specs.States.{AreEmpty, IsDead, IsTransition, LeadsTo, TakesAll, places_at, places_in}
+use Rattle.wax_states.proofs.Slots.{mapped_at}
 use Rattle.wax_program.specs.declared.instruction.Instruction.{Instruction}
 
 -- ---- where a cell leads
@@ -50,3 +51,16 @@ pub empty_replicate : (n : ℕ) (w : WideCell) → w.cell ≡ 0 → AreEmpty (re
 empty_replicate zero w e i v is = absurd (no_cell is)
 empty_replicate (suc n) w e zero v is = sym (ap (λ z. z.cell) (some_cell is)) ∙ e
 empty_replicate (suc n) w e (suc i) v is = empty_replicate n w e i v is
+
+-- ---- a state that is found by its places
+
+pub found_at : (states : List State) (places : List ℕ) (t : ℕ)
+    → slice_get (map (λ s. s.places.items) states) t ≡ Some places
+    → (t < length states) × (places_at states t ≡ places)
+found_at states places t is = let found = mapped_at (λ s. s.places.items) states t places is in
+    (slice_get_within states t found.0 found.1, ap places_in found.1 ∙ found.2)
+
+pub some_found : (found : Option ℕ) (N : Type 0) (P Q : ℕ → Type 0) → ((t : ℕ) → P t → Q t)
+    → MatchOption found N P → IfSome found Q
+some_found (Some t) N P Q f h = f t h
+some_found None N P Q f h = tt

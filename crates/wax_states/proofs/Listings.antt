@@ -3,43 +3,36 @@ use Rattle.std.proofs.Common.{IsPermutation, MatchBool, ◌≡◌, ◌+◌, ◌<
 use Rattle.std.proofs.Common.{suc, Bool, true, false, not, ◌&&◌, List, [], ◌∷◌, Option, Some, None}
 use Rattle.std.proofs.Common.{MatchOption, is_some, length, get_or, set, slice_get, Contains, true≢false}
 use Rattle.std.proofs.Common.{refl, sym, ◌∙◌, ap, subst, arith, length-append, length-set}
-use Rattle.std.proofs.lemmas.Bool.{cases_eq, cases_lt}
-use Rattle.std.proofs.lemmas.List.{get_or_default}
+use Rattle.std.proofs.{lemmas.Bool.{cases_eq, cases_lt}, lemmas.List.get_or_default}
 use Rattle.std.proofs.lemmas.List.Filters.{dedup_is}
 use Rattle.std.proofs.lemmas.List.Kept.{Contains-dedup_nat, Contains-from_dedup}
-use Rattle.std.proofs.lemmas.Map.Keys.{IsStrictlyIncreasing-dedup}
-use Rattle.std.proofs.Math.Dec.{eqb}
-use Rattle.std.specs.List.{dedup}
-use Rattle.std.specs.List.Retain.{DiffersFromLast, IsFiltered}
-use Rattle.std.specs.List.Sorted.{IsSorted, IsStrictlyIncreasing}
-use Rattle.std.specs.Ordering.{nat_cmp}
+use Rattle.std.proofs.{lemmas.Map.Keys.IsStrictlyIncreasing-dedup, Math.Dec.eqb}
 use Rattle.std.proofs.lemmas.List.Sorted.{Contains-permutation, IsPermutation-sym}
 use Rattle.std.proofs.lemmas.List.Elements.{Contains-append_left, Contains-get_or, Contains-push}
 use Rattle.std.proofs.lemmas.List.Elements.{Contains-push_cases}
 use Rattle.std.proofs.lemmas.Option.{get_or_from_slice_get, slice_get-get_or, slice_get_within}
+use Rattle.std.specs.{List.dedup, List.Retain.{DiffersFromLast, IsFiltered}}
+use Rattle.std.specs.{List.Sorted.{IsSorted, IsStrictlyIncreasing}, Ordering.nat_cmp}
 use Rattle.wax_states.specs.inner.Listed.{AreHeld, AreRead, HasLost, Inserts, IsJoined, IsLoaded, IsListing}
 use Rattle.wax_states.specs.inner.Listed.{Listing, Lists, Waits, unread}
 use Rattle.wax_states.specs.Reached.{AreEndsMarked, AreReached}
 use Rattle.wax_program.specs.declared.instruction.Instruction.{Instruction}
 use Rattle.wax_program.specs.Places.{HoldsPlace, IsEmpty, Within, member_count}
 use Rattle.wax_program.specs.Threads.{Advances, AnyAmong, AnyOf, Inserted, InsertedNext, IsDone, Position}
-use Rattle.wax_program.specs.Threads.{Round, Taken}
-use Rattle.wax_program.proofs.Advancing.{in_range}
-use Rattle.wax_program.proofs.Marks.{ends_read}
-use Rattle.wax_program.specs.Closed.{AreEndsAt, IsClosed, IsEndAt, ReadsEnd}
-use Rattle.wax_program.specs.declared.instruction.Instruction.TheVariants.{End}
-use Rattle.wax_program.specs.Machine.{mark}
+use Rattle.wax_program.specs.{Threads.{Round, Taken}, Closed.{AreEndsAt, IsClosed, IsEndAt, ReadsEnd}}
+use Rattle.wax_program.specs.{declared.instruction.Instruction.TheVariants.End, Machine.mark}
+use Rattle.wax_program.proofs.{Advancing.in_range, Marks.ends_read}
 use Rattle.wax_program.proofs.Members.{added_keeps, added_only, has_added, members_none, members_set}
 use Rattle.wax_program.proofs.Members.{members_within}
 
 -- ---- lists
-slice_get_append : {X : Type 0} (xs ys : List X) (t : ℕ) → t < length xs
+pub slice_get_append : {X : Type 0} (xs ys : List X) (t : ℕ) → t < length xs
     → slice_get (xs ++ ys) t ≡ slice_get xs t
 slice_get_append [] ys t h = absurd (omega (arith, h))
 slice_get_append (x ∷ xs) ys zero h = refl
 slice_get_append (x ∷ xs) ys (suc t) h = slice_get_append xs ys t (omega (arith, h))
 
-slice_get_end : {X : Type 0} (xs : List X) (x : X) → slice_get (xs ++ x ∷ []) (length xs) ≡ Some x
+pub slice_get_end : {X : Type 0} (xs : List X) (x : X) → slice_get (xs ++ x ∷ []) (length xs) ≡ Some x
 slice_get_end [] x = refl
 slice_get_end (y ∷ xs) x = slice_get_end xs x
 
@@ -512,14 +505,27 @@ pub numbers_ascend : (sorted left : List ℕ) → IsSorted nat_cmp sorted
 numbers_ascend sorted left s f =
     subst IsStrictlyIncreasing (sym (dedup_is eqb sorted left f)) (IsStrictlyIncreasing-dedup sorted s)
 
+-- a sort and a `dedup` leave each number and add none
+pub same_sorted : (numbers sorted left : List ℕ) → IsPermutation numbers sorted
+    → IsFiltered (DiffersFromLast eqb) [] sorted left → (k : ℕ) → Contains left k ↔ Contains numbers k
+same_sorted numbers sorted left p f k =
+    let e : left ≡ dedup eqb sorted = dedup_is eqb sorted left f in (
+      (λ h. Contains-permutation sorted numbers k (IsPermutation-sym numbers sorted p)
+          (Contains-from_dedup eqb sorted k (subst (λ z. Contains z k) e h))),
+      (λ h. subst (λ z. Contains z k) (sym e)
+          (Contains-dedup_nat sorted k (Contains-permutation numbers sorted k p h))),
+    )
+
 pub numbers_sorted : (code : List Instruction) (places numbers sorted left : List ℕ)
     → IsPermutation numbers sorted
     → IsFiltered (DiffersFromLast eqb) [] sorted left → AreEndsMarked code places numbers
     → AreEndsMarked code places left
 numbers_sorted code places numbers sorted left p f marked number =
-    let e : left ≡ dedup eqb sorted = dedup_is eqb sorted left f in (
-      (λ h. (marked number).0 (Contains-permutation sorted numbers number (IsPermutation-sym numbers sorted p)
-          (Contains-from_dedup eqb sorted number (subst (λ z. Contains z number) e h)))),
-      (λ h. subst (λ z. Contains z number) (sym e) (Contains-dedup_nat sorted number
-          (Contains-permutation numbers sorted number p ((marked number).1 h)))),
-    )
+    let same = same_sorted numbers sorted left p f number in
+    ((λ h. (marked number).0 (same.0 h)), (λ h. same.1 ((marked number).1 h)))
+
+pub lists_sorted : (places sorted left : List ℕ) (flags : List Bool) → IsPermutation places sorted
+    → IsFiltered (DiffersFromLast eqb) [] sorted left → Lists places flags → Lists left flags
+lists_sorted places sorted left flags p f lists k =
+    let same = same_sorted places sorted left p f k in
+    ((λ h. (lists k).0 (same.0 h)), (λ h. same.1 ((lists k).1 h)))

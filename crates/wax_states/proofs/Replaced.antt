@@ -3,12 +3,8 @@ use Rattle.std.proofs.Common.{◌≡◌, ◌+◌, ◌-◌, ◌↔◌, ℕ, zero,
 use Rattle.wax_program.specs.declared.instruction.Instruction.{Instruction}
 use Rattle.wax_program.specs.declared.instruction.Instruction.TheVariants.{Check, Repeat, Components, Fork}
 use Rattle.wax_program.specs.declared.instruction.Instruction.TheVariants.{Jump, Back, End}
-use Rattle.wax_program.specs.Machine.{Moves, AcceptsIn, mark}
-use Rattle.wax_program.specs.Steady.{Alike}
-use Rattle.wax_program.specs.Threads.{AnyAmong}
-use Rattle.wax_states.specs.Alike.{AreAlike}
-use Rattle.wax_states.specs.States.{LeadsNext}
-use Rattle.wax_states.specs.declared.table.Next.{Next}
+use Rattle.wax_program.specs.{Machine.{Moves, AcceptsIn, mark}, Steady.Alike, Threads.AnyAmong}
+use Rattle.wax_states.specs.{Alike.AreAlike, States.LeadsNext, declared.table.Next.Next}
 use Rattle.wax_states.specs.declared.table.Next.TheVariants.{To, Nothing, Everything}
 use Rattle.wax_states.specs.declared.table.State.{State}
 

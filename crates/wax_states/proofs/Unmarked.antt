@@ -1,13 +1,12 @@
 -- Characters that aren't marked pass the same tests.
-use Rattle.std.proofs.Common.{◌≡◌, ◌<◌, ◌≤◌, ◌&&◌, ℕ, Bool, true, false, not, if◌then◌else◌}
-use Rattle.std.proofs.Common.{nat_le, List, [], ◌∷◌, Option, Some, None, IfSome, Contains, length}
-use Rattle.std.proofs.Common.{refl, sym, ◌∙◌, ap, subst, inl, inr, arith}
-use Rattle.std.specs.List.{list_any, list_all}
+use Rattle.std.proofs.Common.{◌≡◌, ◌<◌, ◌≤◌, ◌&&◌, ℕ, Bool, true, false, not, if◌then◌else◌, nat_le, List, []}
+use Rattle.std.proofs.Common.{◌∷◌, Option, Some, None, IfSome, Contains, length, refl, sym, ◌∙◌, ap, subst}
+use Rattle.std.proofs.Common.{inl, inr, arith}
 use Rattle.std.proofs.lemmas.Bool.{and_parts, and_right, cases_eq, lt-leb, ltb-true, ne_eqb, or_from}
 use Rattle.std.proofs.lemmas.Option.{slice_get_within}
+use Rattle.std.specs.List.{list_any, list_all}
 use Rattle.unicode.specs.CaseFolding.{simple_fold, fold_pairs}
-use Rattle.ucd_case.proofs.BoundLemmas.{simple_fold_idem}
-use Rattle.ucd_case.proofs.FoldPairsLemmas.{IsFoldPairs-fold_pairs}
+use Rattle.ucd_case.proofs.{BoundLemmas.simple_fold_idem, FoldPairsLemmas.IsFoldPairs-fold_pairs}
 use Rattle.wax_token.specs.declared.token.Archetype.{Archetype}
 use Rattle.wax_token.specs.declared.token.Archetype.TheVariants.{Character, Range}
 use Rattle.wax_token.specs.Meaning.{in_archetype, in_class, is_forward}
@@ -16,10 +15,7 @@ use Rattle.wax_program.specs.declared.instruction.Instruction.TheVariants.{Check
 use Rattle.wax_program.specs.declared.instruction.Instruction.TheVariants.{Jump, Back, End}
 use Rattle.wax_program.specs.declared.instruction.Test.{Test}
 use Rattle.wax_program.specs.declared.instruction.Test.TheVariants.{Char, Folded, Class, NotSlash, Any, Never}
-use Rattle.wax_program.specs.Machine.{PassesTest, mark}
-use Rattle.wax_program.specs.Places.{HoldsPlace}
-use Rattle.wax_program.specs.Steady.{Alike}
-use Rattle.wax_program.specs.Tests.{test_of}
+use Rattle.wax_program.specs.{Machine.{PassesTest, mark}, Places.HoldsPlace, Steady.Alike, Tests.test_of}
 use Rattle.wax_states.specs.Alike.{AreAlike, SharesLetter}
 use Rattle.wax_states.specs.inner.Marks.{IsMarkedBelow, KeepsMarked, MarksBefore, MarksFoldings, MarksTest}
 use Rattle.wax_states.specs.inner.Marks.{lists_ascii}

@@ -1,8 +1,6 @@
 -- Characters by which each instruction of a program does the same.
 use Rattle.std.specs.Prelude.{◌≡◌, ◌<◌, ◌≤◌, ℕ, Bool, IfSome, List, Some, length, slice_get}
-use Rattle.wax_program.specs.declared.instruction.Instruction.{Instruction}
-use Rattle.wax_program.specs.Places.{HoldsPlace}
-use Rattle.wax_program.specs.Steady.{Alike}
+use Rattle.wax_program.specs.{declared.instruction.Instruction.Instruction, Places.HoldsPlace, Steady.Alike}
 use Rattle.wax_states.specs.declared.letters.Letters.{Letters}
 
 -- each instruction does the same by both characters

@@ -1,4 +1,5 @@
 pub mod Alike
+pub mod Indexed
 pub mod Reached
 pub mod States
 pub mod inner

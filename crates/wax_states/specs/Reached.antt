@@ -1,14 +1,16 @@
 -- The places that a step reaches.
-use Rattle.std.specs.Prelude.{◌↔◌, ◌⊎◌, ℕ, Bool, true, false, List, [], ◌∷◌, Contains}
-use Rattle.wax_program.specs.Machine.{mark}
-use Rattle.wax_program.specs.declared.instruction.Instruction.{Instruction}
-use Rattle.wax_program.specs.Threads.{AnyAmong}
+use Rattle.std.specs.Prelude.{◌↔◌, ◌⊎◌, ◌≤◌, ℕ, Bool, true, false, List, [], ◌∷◌, Contains, length}
+use Rattle.wax_program.specs.{Machine.mark, declared.instruction.Instruction.Instruction, Threads.AnyAmong}
 
 -- the places that were reached accept the rest exactly where some of `places` accept a text that begins with
 -- the character, or some of `also` accept the rest
 abbrev pub AreReached : List Instruction → ℕ → List ℕ → List ℕ → List ℕ → Type 0
 AreReached code c places also reached =
     (s : List ℕ) → AnyAmong code reached s ↔ (AnyAmong code places (c ∷ s) ⊎ AnyAmong code also s)
+
+-- each is a place of the program or its end
+abbrev pub AreWithin : List Instruction → List ℕ → Type 0
+AreWithin code places = (k : ℕ) → Contains places k → k ≤ length code
 
 -- the places if the flag is true, and otherwise none
 abbrev pub taken_if : Bool → List ℕ → List ℕ

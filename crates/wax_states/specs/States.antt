@@ -1,13 +1,10 @@
 -- States, which are places that were reached, and where characters lead from them.
-use Rattle.std.specs.Prelude.{◌≡◌, ℕ, ◌+◌, ◌<◌, ◌⊎◌, ◌↔◌, Bool, List, [], ◌∷◌, Option, Some}
-use Rattle.std.specs.Prelude.{None, length, slice_get, slice_set}
-use Rattle.std.specs.Global.{Vec}
+use Rattle.std.specs.Prelude.{◌≡◌, ℕ, ◌+◌, ◌<◌, ◌⊎◌, ◌↔◌, Bool, List, [], ◌∷◌, Option, Some, None, length}
+use Rattle.std.specs.{Prelude.{slice_get, slice_set}, Global.Vec}
 use Rattle.wax_states.specs.declared.table.Next.{Next}
 use Rattle.wax_states.specs.declared.table.Next.TheVariants.{To, Nothing, Everything}
-use Rattle.wax_states.specs.declared.table.State.{State}
-use Rattle.wax_states.specs.declared.table.WideCell.{WideCell}
-use Rattle.wax_program.specs.declared.instruction.Instruction.{Instruction}
-use Rattle.wax_program.specs.Threads.{AnyAmong}
+use Rattle.wax_states.specs.{declared.table.State.State, declared.table.WideCell.WideCell}
+use Rattle.wax_program.specs.{declared.instruction.Instruction.Instruction, Threads.AnyAmong}
 
 -- the places of a state, or none
 abbrev pub places_in : Option State → List ℕ

@@ -1,8 +1,7 @@
 //! Characters past ASCII that no test of a program distinguishes.
 ghost use Rattle.std.specs.Prelude.{◌≡◌, ◌+◌, ◌<◌, ◌≤◌, ℕ, List, IfOk, IfSome, IsTrue, length, true};
 ghost use Rattle.std.specs.List.{list_all};
-ghost use Rattle.wax_program.specs.declared.instruction.Instruction.{Instruction};
-ghost use Rattle.wax_program.specs.Places.{HoldsPlace};
+ghost use Rattle.wax_program.specs.{declared.instruction.Instruction.Instruction, Places.HoldsPlace};
 ghost use Rattle.wax_states.specs.Alike.{AreAlike, AreLettersOf, SharesLetter};
 ghost use Rattle.wax_states.specs.inner.Marks.{IsMarkedBelow, KeepsMarked, MarksBefore, MarksFoldings};
 ghost use Rattle.wax_states.specs.inner.Marks.{MarksTest, lists_ascii};

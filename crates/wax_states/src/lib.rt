@@ -2,12 +2,14 @@
 //! table that says which state each character leads to.
 #![tactic(auto)]
 
+mod index;
 mod letters;
 mod listed;
 mod listed_sets;
 mod stepper;
 mod table;
 
+pub use index::{HasPlaces, Index};
 pub use letters::Letters;
 pub use stepper::Stepper;
 pub use table::{ALL, DEAD, FIRST, Next, State, StateId, Table, WideCell, cell_of, next_of};

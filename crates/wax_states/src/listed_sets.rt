@@ -1,11 +1,9 @@
 //! The sets of places of a step, which takes time in proportion to the places that it reaches, and
 //! not to the length of the program.
-ghost use Rattle.std.specs.Prelude.{◌≡◌, ◌+◌, ◌<◌, ◌≤◌, ◌↔◌, ℕ};
-ghost use Rattle.std.specs.Prelude.{[], Contains, IfOk, IsTrue, MatchOption, length};
+ghost use Rattle.std.specs.Prelude.{◌≡◌, ◌+◌, ◌<◌, ◌≤◌, ◌↔◌, ℕ, [], Contains, IfOk, IsTrue, MatchOption};
+ghost use Rattle.std.specs.Prelude.{length};
 ghost use Rattle.wax_states.specs.inner.Listed.{AreRead, IsNextUnread, IsJoined, IsLoaded, Lists};
-ghost use Rattle.wax_program.specs.Closed.{ReadsEnd};
-ghost use Rattle.wax_program.specs.Threads.{IsDone};
-ghost use Rattle.wax_program.specs.Places.{HoldsPlace, IsEmpty};
+ghost use Rattle.wax_program.specs.{Closed.ReadsEnd, Threads.IsDone, Places.{HoldsPlace, IsEmpty}};
 
 use crate::listed::{ListedSet, remove_all};
 use std::alloc::{AllocError, Global};
@@ -122,7 +120,8 @@ impl ListedSets {
     /// Writes the places of the next position into `places`, in the order in which they were
     /// inserted.
     pub fn list_next(&self, places: &mut Vec<usize>) -> Result<(), AllocError>
-        ensures { IfOk result (λ _. Lists places.new.items self.now.next) }
+        ensures lists { IfOk result (λ _. Lists places.new.items self.now.next) }
+        ensures within { IfOk result (λ _. (k : ℕ) → Contains places.new.items k → k ≤ self.now.size) }
     {
         places.clear();
         for place in self.next.places() {

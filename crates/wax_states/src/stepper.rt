@@ -1,9 +1,8 @@
 //! Steps of a program by one character, from places that a caller keeps.
 ghost use Rattle.std.specs.Prelude.{◌≡◌, ◌+◌, ◌*◌, ◌≤◌, ◌↔◌, IfOk, IsFalse, IsTrue, [], length};
 ghost use Rattle.std.specs.List.Sorted.{IsStrictlyIncreasing};
-ghost use Rattle.wax_states.specs.Reached.{AreEndsMarked, AreReached, taken_if};
-ghost use Rattle.wax_program.specs.Closed.{IsClosed};
-ghost use Rattle.wax_program.specs.Threads.{AnyAmong};
+ghost use Rattle.wax_states.specs.Reached.{AreEndsMarked, AreReached, AreWithin, taken_if};
+ghost use Rattle.wax_program.specs.{Closed.IsClosed, Threads.AnyAmong};
 
 use crate::listed_sets::ListedSets;
 use std::alloc::{AllocError, Global};
@@ -36,11 +35,44 @@ impl Stepper {
         Ok(Stepper { sets })
     }
 
+    /// Writes the places to which `places` lead by the character into `reached`, ascending and each once.
+    /// Takes time in proportion to the instructions that it reads, each at most once, and the places
+    /// that it writes, and to sort those. The meter counts the instructions.
+    ///
+    /// # Errors
+    ///
+    /// Returns `AllocError` if the list has too little room and allocation fails.
+    pub fn reach(
+        &mut self,
+        program: &CompiledProgram,
+        places: &[usize],
+        c: char,
+        reached: &mut Vec<usize>,
+        meter: &mut Meter,
+    ) -> Result<(), AllocError>
+        requires { self.old ≡ length program.now.0 }
+        ensures same { self.new ≡ self.old }
+        ensures reaches { IfOk result (λ _. AreReached program.now.0 c places.now [] reached.new.items) }
+        ensures ascending { IfOk result (λ _. IsStrictlyIncreasing reached.new.items) }
+        ensures within { IfOk result (λ _. AreWithin program.now.0 reached.new.items) }
+        ensures above { meter.new ≤ meter.old + length program.now.0 }
+        ensures steady { meter.old ≤ meter.new }
+    {
+        self.sets.load(places);
+        advance(program, c, &mut self.sets, meter);
+        let listed = self.sets.list_next(reached);
+        self.sets.clear();
+        listed?;
+        reached.sort_unstable();
+        reached.dedup();
+        Ok(())
+    }
+
     /// Writes the places to which `places` lead by the character into `reached`, ascending, and
-    /// also those in `also`, unless `places` lead to none. Then it writes nothing and returns
-    /// `false`. Writes those that aren't due to `also` into `own`. Takes time in proportion to the
-    /// instructions that it reads, each at most once, and the places that it writes. The meter counts
-    /// the instructions.
+    /// also those in `also`, to which a failure state leads, unless `places` lead to none. Then it
+    /// writes nothing and returns `false`. Writes those that aren't due to `also` into `own`. Takes time
+    /// in proportion to the instructions that it reads, each at most once, and the places that it
+    /// writes. The meter counts the instructions.
     ///
     /// # Errors
     ///

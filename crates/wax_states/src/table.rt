@@ -6,6 +6,7 @@ ghost use Rattle.wax_states.specs.States.{AreEmpty, HasWide, IsSettled, IsTransi
 ghost use Rattle.wax_states.specs.States.{LeadsNext, cell_of_next, places_at, places_or_none, state_of};
 ghost use Rattle.wax_program.specs.declared.instruction.Instruction.{Instruction};
 
+use crate::index::{HasPlaces, Index};
 use std::alloc::{AllocError, Global};
 
 /// The number of cells of a state: one for each ASCII character.
@@ -117,6 +118,14 @@ pub struct State {
     pub numbers: Option<Vec<usize>>,
 }
 
+impl HasPlaces for State {
+    ghost places_of = { λ s. s.places.items };
+
+    fn places(&self) -> &[usize] {
+        &self.places
+    }
+}
+
 /// All states by their numbers, with their cells.
 #[derive(Drop)]
 pub struct Table {
@@ -126,25 +135,23 @@ pub struct Table {
     /// Cells of characters past ASCII, each where the hash of its state and its character says. A
     /// later one replaces an earlier one. There are none before the first such character.
     pub wide_cells: Vec<WideCell>,
-    /// A hash table: the number of a state plus 1, at the hash of its places or soon after it.
-    /// Empty slots are 0. The number of slots is a power of two.
-    slots: Vec<u16>,
+    index: Index,
 }
 
 impl Table {
-    /// Creates a table without states, in which at most about `most` states are found. Allocates 4
-    /// to 16 bytes for each of them.
+    /// Creates a table without states, whose index has room for `most` states before it grows.
+    /// Allocates 8 to 32 bytes for each of them.
     pub fn new(alloc: Global, most: usize) -> Result<Table, AllocError>
         ensures states { IfOk result (λ t. t.states.items ≡ []) }
         ensures cells { IfOk result (λ t. t.cells.items ≡ []) }
         ensures wide { IfOk result (λ t. t.wide_cells.items ≡ []) }
     {
-        let slots = vec![in alloc; 0u16; slots_for(most)]?;
+        let index = Index::new(alloc, most)?;
         Ok(Table {
             states: Vec::new(alloc),
             cells: Vec::new(alloc),
             wide_cells: Vec::new(alloc),
-            slots,
+            index,
         })
     }
 
@@ -199,34 +206,12 @@ impl Table {
         self.states[state].numbers = Some(numbers);
     }
 
-    /// Finds a state by its places. May return `None` for a state that the hash table had no room for.
+    /// Finds a state by its places.
     pub fn find(&self, places: &[usize]) -> Option<StateId>
         ensures { IfSome result (λ t. (t < length self.now.states.items)
             × (places_at self.now.states.items t ≡ places.now)) }
     {
-        let hash = hash_of(places);
-        for probe in 0..self.slots.len() {
-            let slot = slot_at(&self.slots, hash, probe);
-            if slot == 0 {
-                return None;
-            }
-            let number = usize::from(slot - 1);
-            if self.has_places(number, places) {
-                return Some(number);
-            }
-        }
-        None
-    }
-
-    /// Returns whether there is a state with this number and these places.
-    fn has_places(&self, number: usize, places: &[usize]) -> bool
-        ensures { IsTrue result → (number < length self.now.states.items)
-            × (places_at self.now.states.items number ≡ places.now) }
-    {
-        if number >= self.states.len() {
-            return false;
-        }
-        self.states[number].places.as_slice() == places
+        self.index.find(&self.states, places)
     }
 
     /// Adds a state with empty cells.
@@ -244,7 +229,7 @@ impl Table {
     {
         let number = self.states.len();
         self.cells.extend_from_slice(&[UNKNOWN; COLUMNS])?;
-        enter(&mut self.slots, hash_of(&state.places), number as u16 + 1);
+        self.index.enter(&self.states, &state)?;
         self.states.push(state)?;
         Ok(number)
     }
@@ -334,7 +319,7 @@ impl Table {
         self.states.clear();
         self.cells.clear();
         self.wide_cells.fill(WideCell::EMPTY);
-        self.slots.fill(0);
+        self.index.clear();
     }
 }
 
@@ -343,55 +328,4 @@ impl Table {
 fn wide_slot(state: StateId, c: char) -> usize {
     let key = (state as u64).wrapping_mul(1 << 21) ^ u64::from(c);
     (key.wrapping_mul(0x9E37_79B9_7F4A_7C15) >> 50) as usize
-}
-
-/// Returns the slot that is looked at after `probe` others, or 0 if there are no slots.
-fn slot_at(slots: &[u16], hash: usize, probe: usize) -> u16 {
-    let last = slots.len().saturating_sub(1);
-    match slots.get(hash.wrapping_add(probe) & last) {
-        Some(slot) => *slot,
-        None => 0,
-    }
-}
-
-/// Writes into the first empty slot from the hash on. If no slot is empty, writes nothing,
-/// and the state isn't found again.
-fn enter(slots: &mut [u16], hash: usize, slot: u16) {
-    let last = slots.len().saturating_sub(1);
-    for probe in 0..slots.len() {
-        let at = hash.wrapping_add(probe) & last;
-        if at < slots.len() && slots[at] == 0 {
-            slots[at] = slot;
-            return;
-        }
-    }
-}
-
-/// Returns a hash of the places.
-fn hash_of(places: &[usize]) -> usize {
-    let mut hash = 0u64;
-    for place in places {
-        hash = (hash.rotate_left(5) ^ *place as u64).wrapping_mul(0x9E37_79B9_7F4A_7C15);
-    }
-    (hash >> 40) as usize
-}
-
-/// Returns the number of slots for `most` states: the least of some powers of two that is at least
-/// twice as many.
-fn slots_for(most: usize) -> usize {
-    if most <= 256 {
-        512
-    } else if most <= 1_024 {
-        2_048
-    } else if most <= 2_048 {
-        4_096
-    } else if most <= 4_096 {
-        8_192
-    } else if most <= 8_192 {
-        16_384
-    } else if most <= 16_384 {
-        32_768
-    } else {
-        131_072
-    }
 }

@@ -1,12 +1,10 @@
 -- What `src/*`, `**/b*`, `src/m*` and `src/main.rs` spell.
-use Rattle.std.proofs.Common.{◌≡◌, ◌∙◌, ℕ, Bool, true, false, List, [], ◌∷◌, codes}
-use Rattle.std.proofs.Common.{ap, arith, inl, refl, subst, sym}
+use Rattle.std.proofs.Common.{◌≡◌, ◌∙◌, ℕ, Bool, true, false, List, [], ◌∷◌, codes, ap, arith, inl, refl}
+use Rattle.std.proofs.Common.{subst, sym}
 use Rattle.std.specs.Str.{chars}
-use Rattle.wax.specs.Language.{Eager, Flags, NoWildcardFollows, Past, Place, Reads, Span, Tree}
-use Rattle.wax.specs.Language.{concatenation, group, is_one_of, leaf, literal, more, no_flags, none}
-use Rattle.wax.specs.Language.{separator}
-use Rattle.wax.specs.Language.{start, starts_with_one_of, tree, zero_or_more}
-use Rattle.wax.specs.Patterns.{Spells}
+use Rattle.wax.specs.Language.{Eager, Flags, NoWildcardFollows, Past, Place, Reads, Span, Tree, concatenation}
+use Rattle.wax.specs.Language.{group, is_one_of, leaf, literal, more, no_flags, none, separator, start}
+use Rattle.wax.specs.{Language.{starts_with_one_of, tree, zero_or_more}, Patterns.Spells}
 
 -- ---- places
 

@@ -1,13 +1,11 @@
 -- What is kept of a walk after filters one by one.
 use Rattle.std.proofs.Common.{◌≡◌, ◌++◌, ◌∷◌, List, [], ℕ, append_assoc, ap, inl, inr, subst, sym}
 use Rattle.std.specs.Prelude.{◌⊎◌}
-use Rattle.wax.specs.GlobView.{GlobView}
-use Rattle.wax.specs.GlobWalks.{BeginsGlob, request_of}
-use Rattle.wax.specs.Language.{Span}
+use Rattle.wax.specs.{GlobView.GlobView, GlobWalks.{BeginsGlob, request_of}, Language.Span}
 use Rattle.wax.specs.Queries.{Bounds, Depth}
-use Rattle.wax.specs.Walks.{behavior_at, behavior_range, ComesExcluding, Filter, Given, gives, goes}
-use Rattle.wax.specs.Walks.{CanBegin, GlobRequest, KeepsWanted, lacks_memory, Law, over_budget}
-use Rattle.wax.specs.Walks.{request_excluding, Unbounded, WalkView}
+use Rattle.wax.specs.Walks.{behavior_at, behavior_range, ComesExcluding, Filter, Given, gives, goes, CanBegin}
+use Rattle.wax.specs.Walks.{GlobRequest, KeepsWanted, lacks_memory, Law, over_budget, request_excluding}
+use Rattle.wax.specs.Walks.{Unbounded, WalkView}
 use Rattle.wax_test_uses.specs.Excluding.{AreEntriesWanted, IsCutOff, IsKnownFrom, KeepsExcluding}
 use Rattle.wax_test_uses.specs.Excluding.{KeepsFiltered, OpenedFew}
 use Rattle.wax_test_uses.specs.Excluding as less

@@ -1,36 +1,24 @@
 -- What is wanted of the small tree, by `src/*` without what `**/b*` matches and the lines `src/m*` and
 -- `!src/main.rs` ignore.
 use Rattle.std.proofs.Common.{◌≡◌, ◌∙◌, ◌++◌, ◌==◌, ◌&&◌, ◌||◌, not, ℕ, Bool, true, false, List, [], ◌∷◌}
-use Rattle.std.proofs.Common.{codes}
-use Rattle.std.proofs.Common.{None, Some, ap, arith, filter, if◌then◌else◌, inl, inr, refl, subst, sym}
-use Rattle.std.specs.Str.{chars}
-use Rattle.std.specs.Prelude.{cond, map, nat_lt, ⊤}
-use Rattle.std.specs.List.{AllZip}
+use Rattle.std.proofs.Common.{codes, None, Some, ap, arith, filter, if◌then◌else◌, inl, inr, refl, subst, sym}
+use Rattle.std.specs.{Str.chars, Prelude.{cond, map, nat_lt, ⊤}, List.AllZip}
 use lib.Utf8.{encode}
-use Rattle.wax.specs.Exclusions.{IsNotRule}
-use Rattle.wax.specs.GlobWalks.{Beginning, origin_from, request_of}
-use Rattle.wax.specs.Headline.{Wanted, is_in, is_wanted, whole}
-use Rattle.wax.specs.Ignoring.{IsReadAs, Line, written_lines}
-use Rattle.wax.specs.Language.{Span, Tree, means_test}
-use Rattle.wax.specs.Patterns.{Spells}
-use Rattle.wax.specs.Queries.{Bounds, Depth, Prefix}
+use Rattle.wax.specs.{Exclusions.IsNotRule, GlobWalks.{Beginning, origin_from, request_of}}
+use Rattle.wax.specs.{Headline.{Wanted, is_in, is_wanted, whole}, Ignoring.{IsReadAs, Line, written_lines}}
+use Rattle.wax.specs.{Language.{Span, Tree, means_test}, Patterns.Spells, Queries.{Bounds, Depth, Prefix}}
 use Rattle.wax.specs.Walks.{ArePlain, AreRulesOf, Candidate, DepthRange, Facts, File, FileType, Filter}
-use Rattle.wax.specs.Walks.{Folder, Given}
-use Rattle.wax.specs.Walks.{HasEmptyName, IsRuleOf, KeepsWanted, Mark, Origin, PrefixSplitsInto, Shown}
-use Rattle.wax.specs.Walks.{Unbounded}
-use Rattle.wax.specs.Walks.{a_folder, behavior_at, behavior_range, entry, gives, kept, lacks_memory}
-use Rattle.wax.specs.Walks.{FeedsByRequest, GlobRequest, alone, changed_by, fault, is_beyond, is_kept}
-use Rattle.wax.specs.Walks.{is_kept_entry}
-use Rattle.wax.specs.Walks.{left_after, no_memory, not_ignored, not_meant, over_budget, preorder}
-use Rattle.wax.specs.Walks.{request_feed}
-use Rattle.wax.specs.Walks.{any_mark, cut_by, filter_mark, glob_mark, left_of, of_candidate, request_walk}
-use Rattle.wax.specs.Walks.{wanted_entries}
-use Rattle.wax.specs.Walks.{whole_along, with_tree, yielded}
+use Rattle.wax.specs.Walks.{Folder, Given, HasEmptyName, IsRuleOf, KeepsWanted, Mark, Origin}
+use Rattle.wax.specs.Walks.{PrefixSplitsInto, Shown, Unbounded, a_folder, behavior_at, behavior_range, entry}
+use Rattle.wax.specs.Walks.{gives, kept, lacks_memory, FeedsByRequest, GlobRequest, alone, changed_by, fault}
+use Rattle.wax.specs.Walks.{is_beyond, is_kept, is_kept_entry, left_after, no_memory, not_ignored, not_meant}
+use Rattle.wax.specs.Walks.{over_budget, preorder, request_feed, any_mark, cut_by, filter_mark, glob_mark}
+use Rattle.wax.specs.Walks.{left_of, of_candidate, request_walk, wanted_entries, whole_along, with_tree}
+use Rattle.wax.specs.Walks.{yielded}
 use Rattle.wax_test_uses.proofs.Expressions.{in_src, main_rs, main_rs_spelled, with_b, with_b_spelled, with_m}
 use Rattle.wax_test_uses.proofs.Expressions.{with_m_spelled}
 use Rattle.wax_test_uses.proofs.Matched.{at_docs, at_src, at_start, at_x, b_yes, in_net, in_src_file, m_yes}
-use Rattle.wax_test_uses.proofs.Matched.{main_yes, not_b, not_m, not_main}
-use Rattle.wax_test_uses.proofs.SourceTree.{src_plain}
+use Rattle.wax_test_uses.proofs.{Matched.{main_yes, not_b, not_m, not_main}, SourceTree.src_plain}
 use Rattle.wax_test_uses.specs.Sources.{HasPaths, kept_path, source_items}
 
 -- ---- where the walk of `src/*` begins

@@ -1,13 +1,11 @@
 -- Which paths `src/*`, `**/b*`, `src/m*` and `src/main.rs` match.
-use Rattle.std.proofs.Common.{◌≡◌, ◌≢◌, ◌∙◌, ◌++◌, ◌==◌, ◌&&◌, ℕ, Bool, true, false, List, [], ◌∷◌, codes}
-use Rattle.std.proofs.Common.{ap, append_assoc, drop, if◌then◌else◌, inl, inr, refl, subst, sym}
-use Rattle.std.specs.Prelude.{◌⊎◌}
-use Rattle.std.specs.List.{list_any}
+use Rattle.std.proofs.Common.{◌≡◌, ◌≢◌, ◌∙◌, ◌++◌, ◌==◌, ◌&&◌, ℕ, Bool, true, false, List, [], ◌∷◌, codes, ap}
+use Rattle.std.proofs.Common.{append_assoc, drop, if◌then◌else◌, inl, inr, refl, subst, sym}
 use Rattle.std.proofs.lemmas.Bool.{eqb-true, false≢true}
+use Rattle.std.specs.{Prelude.◌⊎◌, List.list_any}
 use Rattle.wax.specs.Language.{HasNoSlash, Means, Span, Tree, is_one_of, means_test, means_tested}
 use Rattle.wax.specs.Queries.{EndsWithSlash}
-use Rattle.wax_test_uses.proofs.Expressions.{in_src, main_rs, with_b, with_m}
-use Rattle.wax_test_uses.proofs.OneComponents.{has_no_slash}
+use Rattle.wax_test_uses.proofs.{Expressions.{in_src, main_rs, with_b, with_m}, OneComponents.has_no_slash}
 use Rattle.wax_test_uses.proofs.Pictures.{same_self, same_to}
 
 -- ---- tests

@@ -1,12 +1,10 @@
 -- What an expression of one component means.
 use Rattle.std.proofs.Common.{◌↔◌, ℕ, false, List}
 use Rattle.std.specs.Prelude.{Result, Ok, Err, IfOk}
-use Rattle.wax.specs.Headline.{MatchGlob}
-use Rattle.wax.specs.GlobView.{GlobView, IsMeant}
+use Rattle.wax.specs.{Headline.MatchGlob, GlobView.{GlobView, IsMeant}, Language.{BuildError, HasNoSlash}}
 use Rattle.wax.proofs.Lemmas.{unslashed}
 use Rattle.wax_test_uses.specs.Names.{IsOneComponent}
 use Rattle.wax_test_uses.proofs.OneComponents.{one_component}
-use Rattle.wax.specs.Language.{BuildError, HasNoSlash}
 
 pub through : {A B C : Type 0} → A ↔ B → B ↔ C → A ↔ C
 through f g = (λ a. g.0 (f.0 a), λ c. f.1 (g.1 c))

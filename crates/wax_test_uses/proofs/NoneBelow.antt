@@ -1,8 +1,7 @@
 -- A glob that doesn't go on below a folder means no path of names below it.
 use Rattle.std.specs.Str.{all_scalars}
 use Rattle.std.proofs.Common.{◌≡◌, ◌≢◌, ◌↔◌, ◌++◌, ℕ, Bool, true, false, IsTrue, List, [], not, refl, sym}
-use Rattle.std.proofs.Common.{◌∙◌, ap}
-use Rattle.std.proofs.Common.{subst, true≢false}
+use Rattle.std.proofs.Common.{◌∙◌, ap, subst, true≢false}
 use Rattle.wax.specs.GlobView.{GlobView, IsMeant}
 use Rattle.wax.specs.Matching.{AreNames, MeansBelow, folder_text, joined_names}
 

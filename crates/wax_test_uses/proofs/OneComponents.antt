@@ -1,6 +1,6 @@
 -- Where neither `/` nor `**` is written, no token bounds components.
-use Rattle.std.proofs.Common.{◌≡◌, ◌==◌, ◌||◌, ◌∙◌, ℕ, Bool, true, false, List, [], ◌∷◌, ◌++◌, codes}
-use Rattle.std.proofs.Common.{ap, refl, sym, subst}
+use Rattle.std.proofs.Common.{◌≡◌, ◌==◌, ◌||◌, ◌∙◌, ℕ, Bool, true, false, List, [], ◌∷◌, ◌++◌, codes, ap}
+use Rattle.std.proofs.Common.{refl, sym, subst}
 use Rattle.std.specs.List.{list_any}
 use Rattle.wax_test_uses.specs.Names.{IsOneComponent}
 use Rattle.wax.specs.Language.{all_spelled, AllHaveNoSlash, alternation, Around, class, class_text}

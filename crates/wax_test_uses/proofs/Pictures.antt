@@ -1,6 +1,6 @@
 -- What `*.png` spells and means.
-use Rattle.std.proofs.Common.{◌≡◌, ◌↔◌, ◌∙◌, ℕ, false, List, [], ◌∷◌, ◌++◌, codes}
-use Rattle.std.proofs.Common.{ap, arith, refl, sym, subst}
+use Rattle.std.proofs.Common.{◌≡◌, ◌↔◌, ◌∙◌, ℕ, false, List, [], ◌∷◌, ◌++◌, codes, ap, arith, refl, sym}
+use Rattle.std.proofs.Common.{subst}
 use Rattle.std.specs.Str.{chars}
 use Rattle.wax_test_uses.specs.Names.{IsPictureName}
 use Rattle.wax.specs.Language.{concatenation, Eager, Flags, group, leaf, literal, Means, more, no_flags, none}

@@ -1,11 +1,9 @@
 -- What is shown of a directory that is built from a list of paths, down to all that is in it.
 use Rattle.std.proofs.Common.{◌≡◌, ◌∙◌, ℕ, Bool, true, false, List, [], ◌∷◌, refl, sym, ap, subst}
-use Rattle.std.specs.Prelude.{⊤, MatchBool}
-use Rattle.std.specs.List.{list_any}
+use Rattle.std.specs.{Prelude.{⊤, MatchBool}, List.list_any}
 use Rattle.wax.specs.Walks.{Folder, HoldsBy, IsPlain, Items, PathTail, Shown, ShowsIn, StandsBy, a_folder}
-use Rattle.wax.specs.Walks.{a_leaf}
-use Rattle.wax.specs.Walks.{a_sealed, end, folder, join, leaf, leaf_kind, leads_on, listing, listing_by}
-use Rattle.wax.specs.Walks.{misnamed, not_text, sealed, tails_to, unread}
+use Rattle.wax.specs.Walks.{a_leaf, a_sealed, end, folder, join, leaf, leaf_kind, leads_on, listing}
+use Rattle.wax.specs.Walks.{listing_by, misnamed, not_text, sealed, tails_to, unread}
 
 -- a folder is where these tails begin
 abbrev pub AreOfFolder : List PathTail → Type 0

@@ -1,16 +1,12 @@
 -- What is kept of the walk of a set.
 use Rattle.std.proofs.Common.{◌≡◌, ◌⊎◌, Bool, false, true, List, [], ◌∷◌, inl, inr, refl, ℕ}
-use Rattle.std.specs.Prelude.{◌↔◌, chars}
 use Rattle.std.proofs.lemmas.List.Elements.{All-nil}
-use Rattle.wax.specs.GlobWalks.{origin_from, request_from}
-use Rattle.wax.specs.Language.{Span, Tree}
-use Rattle.wax.specs.Patterns.{IsAnyOf}
+use Rattle.std.specs.Prelude.{◌↔◌, chars}
+use Rattle.wax.specs.{GlobWalks.{origin_from, request_from}, Language.{Span, Tree}, Patterns.IsAnyOf}
 use Rattle.wax.specs.Walks.{alone, ArePlain, BeginsSet, behavior_at, behavior_range, by_matches, CanBegin}
 use Rattle.wax.specs.Walks.{ComesWanted, DepthRange, entry, fault, Given, GlobRequest, goes, IsExcludedBy}
-use Rattle.wax.specs.Walks.{IsWantedEntry}
-use Rattle.wax.specs.Walks.{kept, KeepsWanted, Law, no_memory, Selects, SelectsWanted, set_wants, Shown}
-use Rattle.wax.specs.Walks.{Unbounded}
-use Rattle.wax.specs.Walks.{WalkView, with_tree}
+use Rattle.wax.specs.Walks.{IsWantedEntry, kept, KeepsWanted, Law, no_memory, Selects, SelectsWanted}
+use Rattle.wax.specs.Walks.{set_wants, Shown, Unbounded, WalkView, with_tree}
 use Rattle.wax_test_uses.specs.Sets.{IsMatchedEntryOf, KeepsMatches}
 
 selects_alike : {A : Type 0} {P Q : A → Type 0} → ((x : A) → P x ↔ Q x) → (xs ys : List A) → Selects P xs ys

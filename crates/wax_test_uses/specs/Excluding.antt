@@ -1,17 +1,12 @@
 -- What is kept of a glob's walk, without what two patterns match and what lines ignore, and what it opens.
-use Rattle.std.specs.List.{AllZip}
-use Rattle.std.specs.Prelude.{◌≡◌, ◌⊎◌, ℕ, List, [], ◌∷◌, ◌++◌, All, filter}
-use Rattle.wax.specs.GlobView.{GlobView}
-use Rattle.wax.specs.GlobWalks.{Beginning, wants, origin_from, within}
-use Rattle.wax.specs.Headline.{MayList, Wanted}
-use Rattle.wax.specs.Ignoring.{IsReadAs, Line, written_lines}
-use Rattle.wax.specs.Language.{Span, Tree}
-use Rattle.wax.specs.Patterns.{IsOnly}
-use Rattle.wax.specs.Queries.{Bounds, Depth}
+use Rattle.std.specs.{List.AllZip, Prelude.{◌≡◌, ◌⊎◌, ℕ, List, [], ◌∷◌, ◌++◌, All, filter}}
+use Rattle.wax.specs.{GlobView.GlobView, GlobWalks.{Beginning, wants, origin_from, within}}
+use Rattle.wax.specs.{Headline.{MayList, Wanted}, Ignoring.{IsReadAs, Line, written_lines}}
+use Rattle.wax.specs.{Language.{Span, Tree}, Patterns.IsOnly, Queries.{Bounds, Depth}}
 use Rattle.wax.specs.Walks.{ArePlain, behavior_at, behavior_range, Budget, ComesWanted, fault, Filter, Given}
-use Rattle.wax.specs.Walks.{CanBegin, is_kept_entry, KeepsWanted, Law}
-use Rattle.wax.specs.Walks.{no_memory, not_ignored, not_meant, Shown, GlobRequest, request_excluding}
-use Rattle.wax.specs.Walks.{Origin, Unbounded, WalkView, wanted_entries}
+use Rattle.wax.specs.Walks.{CanBegin, is_kept_entry, KeepsWanted, Law, no_memory, not_ignored, not_meant}
+use Rattle.wax.specs.Walks.{Shown, GlobRequest, request_excluding, Origin, Unbounded, WalkView}
+use Rattle.wax.specs.Walks.{wanted_entries}
 
 -- A directory of which it is known what it shows where the walk of the glob begins, and which folders were
 -- opened before.

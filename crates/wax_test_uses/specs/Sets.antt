@@ -1,7 +1,6 @@
 -- What is kept of the walk of a set.
 use Rattle.std.specs.Prelude.{◌≡◌, ◌≤◌, ◌⊎◌, ℕ, List, [], ◌∷◌, chars}
-use Rattle.wax.specs.Language.{Span, Tree}
-use Rattle.wax.specs.Patterns.{OneMeans}
+use Rattle.wax.specs.{Language.{Span, Tree}, Patterns.OneMeans}
 use Rattle.wax.specs.Walks.{ArePlain, DepthRange, entry, Given, GlobRequest, kept, KeepsWanted, Law, Selects}
 use Rattle.wax.specs.Walks.{Shown, Unbounded, behavior_at, behavior_range, wanted_entries}
 use Rattle.wax.specs.Headline.{origin_location, whole_at}

@@ -1,7 +1,6 @@
 //! Rules that claim no file in common.
 ghost use Rattle.std.specs.Prelude.{ℕ, List, IfOk, IsTrue};
-ghost use Rattle.wax.specs.Comparing.{IsPath};
-ghost use Rattle.wax.specs.GlobView.{IsMeant};
+ghost use Rattle.wax.specs.{Comparing.IsPath, GlobView.IsMeant};
 
 use std::alloc::Global;
 use wax::{Comparison, Glob, MOST_STATES, NoMemory, Texts, overlap};

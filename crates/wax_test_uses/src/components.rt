@@ -1,9 +1,7 @@
 //! Globs of one component.
 ghost use Rattle.std.specs.Prelude.{ℕ, List, IfOk, chars};
-ghost use Rattle.wax.specs.Headline.{MatchGlob};
-ghost use Rattle.wax.specs.GlobView.{IsMeant};
+ghost use Rattle.wax.specs.{Headline.MatchGlob, GlobView.IsMeant, Language.HasNoSlash};
 ghost use Rattle.wax_test_uses.specs.Names.{IsOneComponent};
-ghost use Rattle.wax.specs.Language.{HasNoSlash};
 
 use std::alloc::Global;
 use wax::{BuildError, Glob};

@@ -1,6 +1,6 @@
 //! Equal values hash alike.
-ghost use Rattle.std.specs.Hash.DefaultHasher as sip;
 ghost use Rattle.std.specs.Prelude.{◌≡◌, fold, true};
+ghost use Rattle.std.specs.Hash.DefaultHasher as sip;
 
 use std::hash::{DefaultHasher, Hash, Hasher};
 use wax::filter::{Product, TreeResidue};

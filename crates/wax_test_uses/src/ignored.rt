@@ -1,8 +1,6 @@
 //! Ignore lists and single paths.
-ghost use Rattle.std.specs.List.{AllZip};
-ghost use Rattle.std.specs.Prelude.{◌≡◌, List, IfOk, chars};
-ghost use Rattle.wax.specs.Ignoring.{is_ignored, IsReadAs, Line, written_lines};
-ghost use Rattle.wax.specs.Language.{Span};
+ghost use Rattle.std.specs.{List.AllZip, Prelude.{◌≡◌, List, IfOk, chars}};
+ghost use Rattle.wax.specs.{Ignoring.{is_ignored, IsReadAs, Line, written_lines}, Language.Span};
 
 use std::alloc::Global;
 use wax::CandidatePath;

@@ -1,8 +1,6 @@
 //! A walk of your own.
-ghost use Rattle.std.proofs.Common.{◌∙◌, ap};
-ghost use Rattle.std.proofs.Math.Nat.{le_of_eq};
-ghost use Rattle.std.specs.Iterator.{at_most};
-ghost use Rattle.std.specs.Prelude.{◌≡◌, Some, false, length, true};
+ghost use Rattle.std.proofs.{Common.{◌∙◌, ap}, Math.Nat.le_of_eq};
+ghost use Rattle.std.specs.{Iterator.at_most, Prelude.{◌≡◌, Some, false, length, true}};
 ghost use Rattle.wax.specs.Walks.{separated_entry};
 
 use wax::filter::{CancelWalk, Feed, Isomeric, SeparatingFilterInput, Separation, TreeResidue};

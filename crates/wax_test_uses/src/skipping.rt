@@ -1,8 +1,6 @@
 //! Folders that need not be opened.
-ghost use Rattle.std.specs.Prelude.{◌≡◌, ◌≢◌, ◌↔◌, ◌++◌, [], ℕ, List, IfOk, IsTrue, true};
-ghost use Rattle.std.specs.Str.{all_scalars};
-ghost use Rattle.wax.specs.GlobView.{IsMeant};
-ghost use Rattle.wax.specs.Matching.{AreNames, folder_text, joined_names};
+ghost use Rattle.std.specs.{Prelude.{◌≡◌, ◌≢◌, ◌↔◌, ◌++◌, [], ℕ, List, IfOk, IsTrue, true}, Str.all_scalars};
+ghost use Rattle.wax.specs.{GlobView.IsMeant, Matching.{AreNames, folder_text, joined_names}};
 
 use std::alloc::Global;
 use wax::{CandidatePath, Glob, NoMemory, Program};

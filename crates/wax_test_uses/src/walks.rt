@@ -1,11 +1,7 @@
 //! A chain of calls that excludes entries of a walk.
-ghost use Rattle.std.specs.Iterator.{IsFinite};
-ghost use Rattle.std.specs.List.{AllZip};
-ghost use Rattle.std.specs.Prelude.{◌∷◌, [], IfOk, List, map};
+ghost use Rattle.std.specs.{Iterator.IsFinite, List.AllZip, Prelude.{◌∷◌, [], IfOk, List, map}};
 ghost use Rattle.wax_test_uses.specs.Excluding.{AreFilters, IsKnownFrom, KeepsExcluding, KeepsFiltered};
-ghost use Rattle.wax.specs.Ignoring.{IsReadAs, Line, written_lines};
-ghost use Rattle.wax.specs.Language.{Span, Tree};
-ghost use Rattle.wax.specs.Patterns.{IsOnly};
+ghost use Rattle.wax.specs.{Ignoring.{IsReadAs, Line, written_lines}, Language.{Span, Tree}, Patterns.IsOnly};
 ghost use Rattle.wax.specs.Walks.{Filter, given_outcome, not_ignored, not_meant};
 
 use std::alloc::{AllocFailed, Global};

@@ -1,10 +1,8 @@
 -- How many bytes a text has.
 use Rattle.std.proofs.Common.{◌≡◌, ℕ, List, [], ◌∷◌, length, chars, encode_utf8, encode_utf8_all, sym, ◌∙◌}
-use Rattle.std.proofs.Common.{ap, arith, refl, length-append, eqb-true, ◌==◌}
-use Rattle.std.specs.Prelude.{IsTrue, ◌↔◌}
-use Rattle.std.specs.Str.{IsUtf8}
-use Rattle.std.proofs.lemmas.List.{nil_from_length}
+use Rattle.std.proofs.{Common.{ap, arith, refl, length-append, eqb-true, ◌==◌}, lemmas.List.nil_from_length}
 use Rattle.std.proofs.lemmas.Str.{chars-nil, encodes-chars, length-encode}
+use Rattle.std.specs.{Prelude.{IsTrue, ◌↔◌}, Str.IsUtf8}
 use Rattle.wax_token.specs.Reads.{utf8_len}
 
 -- a text has as many bytes as its characters say

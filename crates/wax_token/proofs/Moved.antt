@@ -1,6 +1,5 @@
 -- Without a tree wildcard, what stands around a tree doesn't matter.
-use Rattle.std.proofs.Common.{◌≡◌, Bool, List, ℕ, false, inl, inr, true}
-use Rattle.std.proofs.lemmas.Bool.{or_parts}
+use Rattle.std.proofs.{Common.{◌≡◌, Bool, List, ℕ, false, inl, inr, true}, lemmas.Bool.or_parts}
 use Rattle.wax_token.specs.Cost.{holds_tree, is_tree, some_holds_tree}
 use Rattle.wax_token.specs.Meaning.{LeafMeans, Means, MeansEach, MeansSome}
 use Rattle.wax_token.specs.Syntax.{Leaf, Tree, Trees, alternation, class, concatenation, leaf, literal, more}

@@ -1,11 +1,10 @@
 -- The definitions, read against worked examples.
-use Rattle.std.proofs.Common.{◌≡◌, ℕ, suc, ◌≤◌, Bool, true, false, List, [], ◌∷◌, ◌++◌, Some, refl, inl}
-use Rattle.std.proofs.Common.{inr, arith, codes, ap, sym, ◌∙◌, zero}
+use Rattle.std.proofs.Common.{◌≡◌, ℕ, suc, ◌≤◌, Bool, true, false, List, [], ◌∷◌, ◌++◌, Some, refl, inl, inr}
+use Rattle.std.proofs.Common.{arith, codes, ap, sym, ◌∙◌, zero}
 use Rattle.wax_token.specs.declared.token.Archetype.{Archetype}
 use Rattle.wax_token.specs.declared.token.Archetype.TheVariants.{Character, Range}
 use Rattle.wax_token.specs.Syntax.{literal, tree, Tree, leaf, concatenation, repetition, none, more}
-use Rattle.wax_token.specs.Meaning.{Means, SameText, Copies, in_class}
-use Rattle.wax_token.specs.Reads.{Reads, Place, no_flags, Span}
+use Rattle.wax_token.specs.{Meaning.{Means, SameText, Copies, in_class}, Reads.{Reads, Place, no_flags, Span}}
 
 abbrev u : Unit {0}
 u = tt

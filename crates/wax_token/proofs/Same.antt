@@ -1,12 +1,9 @@
 -- Trees and leaves are the same where their parts are.
 use Rattle.std.proofs.Common.{◌≡◌, ◌↔◌, ◌∷◌, ◌∙◌, Bool, IsTrue, List, [], ap, chars, encode_utf8_all, nat_eq}
-use Rattle.std.proofs.Common.{refl, sym, ℕ}
-use Rattle.std.specs.Cmp.Lexicographic.{bytes_decides, pointwise}
-use Rattle.std.specs.Str.{IsUtf8}
-use Rattle.std.proofs.lemmas.Str.{encodes-chars}
-use Rattle.wax_token.specs.Syntax.{Leaf, Tree, Trees, alternation, class, concatenation, leaf, literal}
-use Rattle.wax_token.specs.Syntax.{none, one, repetition, separator, tree, zero_or_more}
-use Rattle.wax_token.specs.Words.{listed, trees}
+use Rattle.std.proofs.{Common.{refl, sym, ℕ}, lemmas.Str.encodes-chars}
+use Rattle.std.specs.{Cmp.Lexicographic.{bytes_decides, pointwise}, Str.IsUtf8}
+use Rattle.wax_token.specs.Syntax.{Leaf, Tree, Trees, alternation, class, concatenation, leaf, literal, none}
+use Rattle.wax_token.specs.{Syntax.{one, repetition, separator, tree, zero_or_more}, Words.{listed, trees}}
 
 listed_trees : {A : Type 0} (ts : List (Tree A)) → listed (trees ts) ≡ ts
 listed_trees [] = refl

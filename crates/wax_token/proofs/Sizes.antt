@@ -1,11 +1,9 @@
 -- A token of a row is smaller than the row.
 use Rattle.std.proofs.Common.{◌<◌, ◌*◌, ◌≤◌, ◌+◌, ◌∷◌, ◌++◌, ◌≡◌, List, ℕ, [], ap, arith, get_or, length, suc}
 use Rattle.std.proofs.Common.{zero, refl}
-use Rattle.wax_token.specs.Syntax.{Tree, tree_size, trees_size}
-use Rattle.wax_token.specs.Words.{trees}
-use Rattle.wax_token.specs.Syntax.{alternation, concatenation}
-use denote.Param.Weighed.{most}
+use Rattle.wax_token.specs.{Syntax.{Tree, tree_size, trees_size, alternation, concatenation}, Words.trees}
 use Rattle.wax_token.specs.declared.token.Token.TheDeep.{size-Token}
+use denote.Param.Weighed.{most}
 
 pub element_size : {A : Type 0} (ts : List (Tree A)) (i : ℕ) (t : Tree A) →
     i < length ts → t ≡ get_or ts i t → tree_size t < trees_size (trees ts)

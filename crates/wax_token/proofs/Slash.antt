@@ -3,8 +3,7 @@ use Rattle.std.proofs.Common.{◌==◌, ◌∙◌, ◌∷◌, ◌≡◌, Bool, L
 use Rattle.std.proofs.Common.{true}
 use Rattle.unicode.specs.CaseFolding.{simple_fold, simple_folding}
 use Rattle.ucd_case.proofs.CaseFoldingLemmas.{simple_folding_stepped}
-use Rattle.ucd_table.proofs.Computing.{tables}
-use Rattle.ucd_table.proofs.RangedFacts.{Stepped-at_values, values_ok}
+use Rattle.ucd_table.proofs.{Computing.tables, RangedFacts.{Stepped-at_values, values_ok}}
 use Rattle.wax_token.specs.Meaning.{SameFold}
 
 no_slash_first : List ℕ → Bool

@@ -1,6 +1,5 @@
 -- Whether the children of a token stand one after another, or one is chosen.
-use Rattle.std.specs.Prelude.{Option, Some, None, ⊤}
-use Rattle.std.specs.Borrow.{Bor}
+use Rattle.std.specs.{Prelude.{Option, Some, None, ⊤}, Borrow.Bor}
 use Rattle.wax_token.specs.Syntax.{Tree, leaf, alternation, concatenation, repetition, Trees, none, more}
 use Rattle.wax_token.specs.declared.token.composition.Composition.{Composition}
 use Rattle.wax_token.specs.declared.token.composition.Composition.TheVariants.{Conjunctive, Disjunctive}

@@ -1,16 +1,14 @@
 -- Whether a tree means a text, as a truth value.
 use Rattle.std.proofs.Common.{◌≡◌, ◌≢◌, ℕ, zero, suc, ◌+◌, ◌-◌, ◌≤◌, Bool, true, false, ◌⊎◌, List, [], ◌∷◌}
 use Rattle.std.proofs.Common.{◌++◌, Option, Some, None, length, refl, sym, ap, subst, inl, inr, arith}
-use Rattle.std.proofs.Common.{length-append}
+use Rattle.std.proofs.{Common.length-append, lemmas.Bool.{cases_eq, cases_lt}}
 use Rattle.std.specs.Prelude.{IsTrue, ◌↔◌}
-use Rattle.std.proofs.lemmas.Bool.{cases_eq, cases_lt}
 use Rattle.unicode.specs.CaseFolding.{simple_fold}
 use Rattle.wax_token.specs.Syntax.{Leaf, literal, class, separator, one, zero_or_more, tree, Tree, leaf}
 use Rattle.wax_token.specs.Syntax.{alternation, concatenation, repetition, Trees, none, more}
-use Rattle.wax_query.specs.Components.{BeginsWithSlash, EndsWithSlash}
-use Rattle.wax_token.specs.Meaning.{HasNoSlash, TreeMeans, SameFold, SameText, LeafMeans}
-use Rattle.wax_query.specs.Ranges.{AtMost}
-use Rattle.wax_token.specs.Meaning.{in_class, Copies, Means, MeansSome, MeansEach}
+use Rattle.wax_token.specs.Meaning.{HasNoSlash, TreeMeans, SameFold, SameText, LeafMeans, in_class, Copies}
+use Rattle.wax_token.specs.Meaning.{Means, MeansSome, MeansEach}
+use Rattle.wax_query.specs.{Components.{BeginsWithSlash, EndsWithSlash}, Ranges.AtMost}
 
 -- a fact that is known to hold or not to hold
 abbrev pub Decided : Type 0 → Type 0

@@ -1,12 +1,10 @@
 -- What a token is: its kind and what it holds, what bounds components, what roots and what captures.
 use Rattle.std.specs.Prelude.{ℕ, Bool, true, false, ◌||◌, not, List, Option, Some, None, is_some}
-use Rattle.wax_token.specs.Syntax.{Leaf, literal, class, separator, one, zero_or_more, tree}
-use Rattle.wax_token.specs.Syntax.{Tree, leaf, alternation, concatenation, repetition, Trees, none, more}
-use Rattle.wax_token.specs.Words.{is_leaf_tree}
-use Rattle.wax_token.specs.declared.token.Archetype.{Archetype}
-use Rattle.wax_token.specs.declared.token.Wildcard.{Wildcard}
+use Rattle.wax_token.specs.Syntax.{Leaf, literal, class, separator, one, zero_or_more, tree, Tree, leaf}
+use Rattle.wax_token.specs.Syntax.{alternation, concatenation, repetition, Trees, none, more}
+use Rattle.wax_token.specs.{Words.is_leaf_tree, declared.token.Archetype.Archetype}
+use Rattle.wax_token.specs.{declared.token.Wildcard.Wildcard, declared.token.boundary.Boundary.Boundary}
 use Rattle.wax_token.specs.declared.token.Wildcard.TheVariants as wild
-use Rattle.wax_token.specs.declared.token.boundary.Boundary.{Boundary}
 use Rattle.wax_token.specs.declared.token.boundary.Boundary.TheVariants as boundary
 
 -- ---- branches, each with what it holds

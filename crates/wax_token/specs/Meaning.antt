@@ -1,15 +1,13 @@
 -- Which texts a token tree means. `before` and `after` say whether something is written around it.
-use Rattle.std.specs.Prelude.{◌≡◌, ◌≢◌, ℕ, zero, suc, ◌≤◌, Bool, true, false, ◌⊎◌, List, [], ◌∷◌, ◌++◌}
-use Rattle.std.specs.Prelude.{not, ◌&&◌, ◌==◌, nat_le, if◌then◌else◌, ⊤}
-use Rattle.std.specs.List.{list_any, list_all}
+use Rattle.std.specs.Prelude.{◌≡◌, ◌≢◌, ℕ, zero, suc, ◌≤◌, Bool, true, false, ◌⊎◌, List, [], ◌∷◌, ◌++◌, not}
+use Rattle.std.specs.{Prelude.{◌&&◌, ◌==◌, nat_le, if◌then◌else◌, ⊤}, List.{list_any, list_all}}
 use Rattle.unicode.specs.CaseFolding.{simple_fold}
 use Rattle.wax_token.specs.declared.token.Archetype.{Archetype}
 use Rattle.wax_token.specs.declared.token.Archetype.TheVariants.{Character, Range}
-pub use Rattle.wax_query.specs.Components.{HasNoSlash}
-use Rattle.wax_query.specs.Components.{BeginsWithSlash, EndsWithSlash}
-use Rattle.wax_query.specs.Ranges.{AtMost}
 use Rattle.wax_token.specs.Syntax.{Leaf, literal, class, separator, one, zero_or_more, tree, Tree, leaf}
 use Rattle.wax_token.specs.Syntax.{alternation, concatenation, repetition, Trees, none, more}
+pub use Rattle.wax_query.specs.Components.{HasNoSlash}
+use Rattle.wax_query.specs.{Components.{BeginsWithSlash, EndsWithSlash}, Ranges.AtMost}
 
 -- a tree wildcard: whether something is before it, whether something is after it, whether it is rooted
 abbrev pub TreeMeans : Bool → Bool → Bool → List ℕ → Type 0

@@ -2,8 +2,7 @@
 -- lengths.
 use Rattle.std.specs.Prelude.{◌≡◌, ◌≢◌, ℕ, ◌+◌, ◌*◌, ◌-◌, ◌^◌, ◌<◌, ◌≤◌, max, Bool, true, false, ◌⊎◌, List}
 use Rattle.std.specs.Prelude.{[], ◌∷◌, ◌++◌, Option, Some, None, codes, ◌==◌, if◌then◌else◌, ⊤}
-use Rattle.std.specs.List.{list_any, list_all}
-use Rattle.std.specs.Char.{len_utf8, is_ascii_digit}
+use Rattle.std.specs.{List.{list_any, list_all}, Char.{len_utf8, is_ascii_digit}}
 use Rattle.wax_token.specs.declared.token.Archetype.{Archetype}
 use Rattle.wax_token.specs.declared.token.Archetype.TheVariants.{Character, Range}
 use Rattle.wax_token.specs.declared.token.Evaluation.{Evaluation}

@@ -1,17 +1,11 @@
 -- Whether two values with codes are the same, as a truth value.
-use Rattle.std.specs.Prelude.{◌≡◌, Bool, true, false, ◌&&◌, nat_eq}
-use Rattle.std.specs.Bool.{Decides}
+use Rattle.std.specs.{Prelude.{◌≡◌, Bool, true, false, ◌&&◌, nat_eq}, Bool.Decides}
 use Rattle.std.specs.Cmp.{IsEquivalence, and_equiv, decided, on_equiv, unsigned_Decides}
-use Rattle.std.specs.Cmp.Lexicographic.{nat_list_eq_equiv, pointwise}
-use Rattle.std.specs.Coded.{Coded, coded_ℕ, coded×}
-use Rattle.std.specs.Cow.{cow_str_bytes}
-use Rattle.std.specs.Ordering.{eq_of_both, on}
-use Rattle.std.proofs.Common.{ap, refl}
-use Rattle.std.proofs.lemmas.Bool.{and_from, and_parts}
+use Rattle.std.specs.{Cmp.Lexicographic.{nat_list_eq_equiv, pointwise}, Coded.{Coded, coded_ℕ, coded×}}
+use Rattle.std.specs.{Cow.cow_str_bytes, Ordering.{eq_of_both, on}}
+use Rattle.std.proofs.{Common.{ap, refl}, lemmas.Bool.{and_from, and_parts}}
 use base.Stored.{Gv, gnil, gnum, gcons, num}
-use Rattle.wax_token.specs.Reads.{Span}
-use Rattle.wax_token.specs.Syntax.{Tree}
-use Rattle.wax_token.specs.TreeCode.{head, tail, tree_code}
+use Rattle.wax_token.specs.{Reads.Span, Syntax.Tree, TreeCode.{head, tail, tree_code}}
 use Rattle.wax_token.specs.declared.token.Tokenized.{Tokenized}
 
 abbrev pub same_code : Gv → Gv → Bool

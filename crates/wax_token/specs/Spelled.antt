@@ -1,10 +1,8 @@
 -- What holds of each tree that an expression spells.
 use Rattle.std.specs.Prelude.{ℕ, ◌+◌, ◌≤◌, ⊤}
-use Rattle.wax_token.specs.Syntax.{Leaf, literal, class, separator, one, zero_or_more, tree}
-use Rattle.wax_token.specs.Syntax.{Tree, leaf, alternation, concatenation, repetition, Trees, none, more}
-use Rattle.wax_token.specs.Words.{annotation_of}
-use Rattle.wax_token.specs.Meaning.{HasNoSlash}
-use Rattle.wax_token.specs.Reads.{Span}
+use Rattle.wax_token.specs.Syntax.{Leaf, literal, class, separator, one, zero_or_more, tree, Tree, leaf}
+use Rattle.wax_token.specs.Syntax.{alternation, concatenation, repetition, Trees, none, more}
+use Rattle.wax_token.specs.{Words.annotation_of, Meaning.HasNoSlash, Reads.Span}
 
 abbrev pub span_end : Span → ℕ
 span_end s = s.0 + s.1

@@ -1,7 +1,6 @@
 -- Token trees as plain data.
 use Rattle.std.specs.Prelude.{ℕ, ◌+◌, Bool, List, Option}
-use Rattle.wax_token.specs.declared.token.Archetype.{Archetype}
-use Rattle.wax_token.specs.declared.token.Evaluation.{Evaluation}
+use Rattle.wax_token.specs.{declared.token.Archetype.Archetype, declared.token.Evaluation.Evaluation}
 
 pub data Leaf : Type 0 where
   literal : Bool → List ℕ → Leaf

@@ -1,7 +1,7 @@
 -- The code of plain trees, by which proofs show that two differ.
 use Rattle.std.specs.Prelude.{◌≡◌, ℕ, ◌+◌, ◌≤◌, Bool, List, [], ◌∷◌, Option, ◌⊎◌, refl, zero, suc}
-use Rattle.std.proofs.Common.{inl, inr, ap, arith}
 use Rattle.std.specs.Coded.{Coded, code_by, coded_ℕ, coded_bool, coded_list, coded_option, coded×, coded⊎}
+use Rattle.std.proofs.Common.{inl, inr, ap, arith}
 use base.Stored.{Gv, gnil, gnum, gcons, num}
 use denote.Param.Weighed.{most}
 use Rattle.wax_token.specs.declared.token.Archetype.{Archetype}
@@ -9,8 +9,7 @@ use Rattle.wax_token.specs.declared.token.Archetype.TheVariants.{Character, Rang
 use Rattle.wax_token.specs.declared.token.Evaluation.TheVariants.{Eager, Lazy}
 use Rattle.wax_token.specs.Syntax.{Leaf, literal, class, separator, one, zero_or_more, tree, Tree, leaf}
 use Rattle.wax_token.specs.Syntax.{alternation, concatenation, repetition, Trees, none, more, tree_size}
-use Rattle.wax_token.specs.Syntax.{trees_size}
-use Rattle.wax_token.specs.Words.{trees}
+use Rattle.wax_token.specs.{Syntax.trees_size, Words.trees}
 
 abbrev archetype_sum : Archetype → ℕ ⊎ ℕ × ℕ
 archetype_sum (Character c) = inl c

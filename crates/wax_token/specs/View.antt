@@ -1,14 +1,12 @@
 -- One level of a token, as a plain tree.
 use Rattle.wax_token.specs.Syntax.{Leaf, literal, class, separator, one, zero_or_more, tree, Tree, leaf}
-use Rattle.wax_token.specs.Syntax.{alternation, concatenation, repetition}
-use Rattle.wax_token.specs.Words.{trees}
-use Rattle.wax_token.specs.declared.token.LeafKind.{LeafKind}
-use Rattle.wax_token.specs.declared.token.LeafKind.TheVariants as kind
-use Rattle.wax_token.specs.declared.token.Wildcard.{Wildcard}
-use Rattle.wax_token.specs.declared.token.Wildcard.TheVariants as wild
+use Rattle.wax_token.specs.{Syntax.{alternation, concatenation, repetition}, Words.trees}
+use Rattle.wax_token.specs.{declared.token.LeafKind.LeafKind, declared.token.Wildcard.Wildcard}
 use Rattle.wax_token.specs.declared.token.Topology.{Topology}
 use Rattle.wax_token.specs.declared.token.Topology.TheVariants.{Branch, Leaf as LeafOf}
 use Rattle.wax_token.specs.declared.token.BranchKind.{BranchKind}
+use Rattle.wax_token.specs.declared.token.LeafKind.TheVariants as kind
+use Rattle.wax_token.specs.declared.token.Wildcard.TheVariants as wild
 use Rattle.wax_token.specs.declared.token.BranchKind.TheVariants as branch
 
 abbrev pub wildcard_leaf : Wildcard → Leaf

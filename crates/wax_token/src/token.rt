@@ -1,11 +1,8 @@
 //! Tokens: the syntax tree of a glob.
-ghost use Rattle.std.specs.Prelude.{◌≡◌, ◌↔◌, ◌+◌, ◌^◌, ◌<◌, ℕ, Bool, List, IsSome, IfSome, true, false};
-ghost use Rattle.std.specs.Prelude.{[], ◌∷◌};
-ghost use Rattle.std.specs.Str.{chars};
-ghost use Rattle.std.specs.Cow.{cow_str_bytes};
+ghost use Rattle.std.specs.Prelude.{◌≡◌, ◌↔◌, ◌+◌, ◌^◌, ◌<◌, ℕ, Bool, List, IsSome, IfSome, true, false, []};
+ghost use Rattle.std.specs.{Prelude.◌∷◌, Str.chars, Cow.cow_str_bytes};
 ghost use Rattle.wax_query.specs.Ranges.{ordered, range_of};
-ghost use Rattle.wax_token.specs.Syntax.{leaf};
-ghost use Rattle.wax_token.specs.Words.{members, trees, is_leaf_tree, annotation_of};
+ghost use Rattle.wax_token.specs.{Syntax.leaf, Words.{members, trees, is_leaf_tree, annotation_of}};
 
 use std::borrow::CowStr;
 use std::marker::Model;

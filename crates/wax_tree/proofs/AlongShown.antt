@@ -1,23 +1,17 @@
 -- What was answered along names is what a tree answers.
 use Rattle.std.proofs.Common.{◌≡◌, ◌∙◌, ℕ, ◌+◌, ◌<◌, ◌^◌, true, false, cond, List, [], ◌∷◌, length, refl, sym}
-use Rattle.std.proofs.Common.{ap, subst, arith}
+use Rattle.std.proofs.{Common.{ap, subst, arith}, lemmas.Slice.Eq.bytes_eq-Decides}
 use Rattle.std.specs.Str.{bytes_eq}
-use Rattle.std.proofs.lemmas.Slice.Eq.{bytes_eq-Decides}
-use Rattle.wax_directory.specs.declared.directory.FileType.{FileType}
-use Rattle.wax_directory.specs.declared.directory.FileType.TheVariants as F
-use Rattle.wax_directory.specs.History.{found}
-use Rattle.wax_directory.specs.Shown.{IsPlain, Shown, a_folder, a_leaf, a_sealed, end, failing, folder}
-use Rattle.wax_directory.specs.Shown.{leaf, missing, sealed}
-use Rattle.wax_walk.specs.Course.{Course, asks, call, stop, yields}
-use Rattle.wax_walk.specs.declared.error.FaultKind.TheVariants as K
-use Rattle.wax_walk.specs.Given.{fault}
+use Rattle.wax_directory.specs.{declared.directory.FileType.FileType, History.found}
+use Rattle.wax_directory.specs.Shown.{IsPlain, Shown, a_folder, a_leaf, a_sealed, end, failing, folder, leaf}
+use Rattle.wax_directory.specs.Shown.{missing, sealed}
+use Rattle.wax_walk.specs.{Course.{Course, asks, call, stop, yields}, Given.fault}
 use Rattle.wax_tree.specs.Courses.{AlongComes, FoundComes, IsNamed, along_course, is_failing, is_missing}
-use Rattle.wax_tree.specs.Courses.{is_there}
-use Rattle.wax_tree.specs.Follows.{AreDistinctAlong}
-use Rattle.wax_tree.specs.Plain.{Location, WalkScope, item_location, one_deeper}
-use Rattle.wax_tree.specs.Prefix.{ArePlain}
-use Rattle.wax_tree.proofs.Making.{along_plain}
-use Rattle.wax_tree.proofs.Locations.{onward_is}
+use Rattle.wax_tree.specs.{Courses.is_there, Follows.AreDistinctAlong}
+use Rattle.wax_tree.specs.{Plain.{Location, WalkScope, item_location, one_deeper}, Prefix.ArePlain}
+use Rattle.wax_tree.proofs.{Making.along_plain, Locations.onward_is}
+use Rattle.wax_directory.specs.declared.directory.FileType.TheVariants as F
+use Rattle.wax_walk.specs.declared.error.FaultKind.TheVariants as K
 
 -- a folder that holds only this name, or that can't be listed if what is at the name couldn't be seen
 abbrev around : List ℕ → Shown → Shown

@@ -1,8 +1,6 @@
 -- What was answered is what a tree answers.
 use Rattle.std.proofs.Common.{◌≡◌, ◌≤◌, ◌∙◌, ℕ, ◌+◌, ◌-◌, Bool, true, false, cond, nat_lt, List, [], ◌∷◌}
-use Rattle.std.proofs.Common.{◌++◌, filter, arith}
-use Rattle.std.proofs.Common.{refl, sym, ap, subst}
-use Rattle.std.proofs.lemmas.List.{append-nil}
+use Rattle.std.proofs.{Common.{◌++◌, filter, arith, refl, sym, ap, subst}, lemmas.List.append-nil}
 use Rattle.std.proofs.lemmas.List.Elements.{Contains-push}
 use Rattle.std.specs.List.{Contains}
 use Rattle.wax_directory.specs.History.{Answer}
@@ -11,27 +9,24 @@ use Rattle.wax_directory.specs.Shown.{a_leaf, a_folder, a_sealed, child_in, miss
 use Rattle.wax_walk.specs.Collected.{EndsThere, NoMemoryError, NoneLast, SpendsWithin, TookCourse, cut_short}
 use Rattle.wax_walk.specs.Collected.{whole}
 use Rattle.wax_walk.specs.Course.{IsStartOf, DirectoryCall, Course, CutsShort, IsKnownWhole, answers, asks}
-use Rattle.wax_walk.specs.Course.{calls_of}
-use Rattle.wax_walk.specs.Course.{continued, items_of, stop, unknown, yields}
-use Rattle.wax_walk.specs.declared.error.FaultKind.TheVariants as K
+use Rattle.wax_walk.specs.Course.{calls_of, continued, items_of, stop, unknown, yields}
 use Rattle.wax_walk.specs.Forest.{Forest, followed_by, item, listings, lists, nothing, preorder}
-use Rattle.wax_walk.specs.Given.{Given, entry, fault, no_memory, is_kept}
-use Rattle.wax_walk.specs.View.{MayTake, WalkView}
+use Rattle.wax_walk.specs.{Given.{Given, entry, fault, no_memory, is_kept}, View.{MayTake, WalkView}}
+use Rattle.wax_walk.specs.Opened.{items_listed, opened_by, opened_folders}
 use Rattle.wax_walk.proofs.Courses.{begins_whole, comes_first}
 use Rattle.wax_walk.proofs.Filtered.{Yields, forest_continued, lists_each, forest_of, opened_first}
 use Rattle.wax_walk.proofs.Filtered.{yields_items, yields_opened}
-use Rattle.wax_walk.specs.Opened.{items_listed, opened_by, opened_folders}
 use Rattle.wax_tree.specs.declared.steps.DepthRange.{DepthRange}
 use Rattle.wax_tree.specs.Begins.{OnlyLacks, StartTakes, lacking_start, scope_in, walks}
-use Rattle.wax_tree.specs.Courses.{below_course, course_above_max, course_at_depth}
-use Rattle.wax_tree.specs.Courses.{along_course, items_course, place_course, plain_course, refused_course}
+use Rattle.wax_tree.specs.Courses.{below_course, course_above_max, course_at_depth, along_course}
+use Rattle.wax_tree.specs.Courses.{items_course, place_course, plain_course, refused_course}
 use Rattle.wax_tree.specs.Plain.{WalkScope, Location, above_max, at_depth, below_forest, item_location}
 use Rattle.wax_tree.specs.Plain.{items_forest, one_deeper, plain, plain_at, start_location, unlisted}
 use Rattle.wax_tree.specs.Prefix.{walk_from}
 use Rattle.wax_tree.specs.Whole.{CutsWithin, EntriesAnswered, as_told, calls_for, told_in_part, yielded}
+use Rattle.wax_tree.proofs.{InRange.plain_yielded, Kept.{error_kept, first_kept, plain_goes}}
+use Rattle.wax_walk.specs.declared.error.FaultKind.TheVariants as K
 use Rattle.wax_tree.specs.Whole as all
-use Rattle.wax_tree.proofs.InRange.{plain_yielded}
-use Rattle.wax_tree.proofs.Kept.{error_kept, first_kept, plain_goes}
 
 no_calls : (before : List DirectoryCall) (q : DirectoryCall) → [] ≡ before ++ q ∷ [] → ⊥
 no_calls [] q e = cc

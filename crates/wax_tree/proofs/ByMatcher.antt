@@ -1,8 +1,7 @@
 -- A walk by a matcher is one by the program that built it.
 use Rattle.std.proofs.Common.{◌≡◌, ℕ, Bool, List, Option, false, subst}
 use Rattle.wax_tree.specs.Programs.{matches_below, matches_from}
-use Rattle.wax_walk.specs.Pruned.{selected_view}
-use Rattle.wax_walk.specs.View.{IsSeenAs, WalkView}
+use Rattle.wax_walk.specs.{Pruned.selected_view, View.{IsSeenAs, WalkView}}
 
 -- seen as the walk that these decide, from a least depth on and down to a greatest one
 abbrev IsSeenBy : {D : Type 0} → WalkView D → WalkView D → ℕ → ℕ → (List ℕ → Bool)

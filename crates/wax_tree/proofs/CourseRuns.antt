@@ -1,20 +1,15 @@
 -- The course of a run of steps, up to an item or the end.
-use Rattle.std.proofs.Common.{◌≡◌, ◌+◌, List, [], ◌++◌, refl, sym, subst, inl, inr}
+use Rattle.std.proofs.{Common.{◌≡◌, ◌+◌, List, [], ◌++◌, refl, sym, subst, inl, inr}, lemmas.List.append-nil}
 use Rattle.std.specs.Prelude.{Some, None}
-use Rattle.std.proofs.lemmas.List.{append-nil}
 use Rattle.wax_directory.specs.Law.{Law}
 use Rattle.wax_walk.specs.Course.{IsStartOf, DirectoryCall, Course, CutsShort, ahead, all_ahead, answers}
-use Rattle.wax_walk.specs.Course.{asking, stop}
-use Rattle.wax_walk.specs.Course.{unknown, yields}
-use Rattle.wax_walk.specs.Opened.{items_listed}
+use Rattle.wax_walk.specs.{Course.{asking, stop, unknown, yields}, Opened.items_listed}
 use Rattle.wax_walk.specs.View.{Follows, MayTake, Takes, ended_so, was_cut, went_on}
 use Rattle.wax_walk.proofs.Accounting.{takes_more}
 use Rattle.wax_walk.proofs.Courses.{asking_then, begins_asking, begins_itself, begins_parts, begins_trans}
 use Rattle.wax_walk.proofs.Taking.{answered_more, cuts_later, listed_more}
-use Rattle.wax_tree.specs.declared.steps.Step.{Step}
-use Rattle.wax_tree.specs.declared.steps.Step.TheVariants.{Ends, Gives, GoesOn}
-use Rattle.wax_tree.specs.declared.steps.Steps.{Steps}
-use Rattle.wax_tree.specs.Stepping.{ComesWhole, StepCourse}
+use Rattle.wax_tree.specs.{declared.steps.Step.Step, declared.steps.Step.TheVariants.{Ends, Gives, GoesOn}}
+use Rattle.wax_tree.specs.{declared.steps.Steps.Steps, Stepping.{ComesWhole, StepCourse}}
 use Rattle.wax_tree.specs.Walking.{HasStopped, allowance, step_given, steps_view, tree_given}
 use Rattle.wax_tree.proofs.Coursing.{nothing_spent, stopped_ahead}
 

@@ -1,41 +1,22 @@
 -- The course of a walk, step by step.
 use Rattle.std.proofs.Common.{◌≡◌, ◌∙◌, ℕ, ◌+◌, ◌-◌, ◌<◌, ◌≤◌, Bool, true, false, cond, nat_lt, List, [], ◌∷◌}
-use Rattle.std.proofs.Common.{◌++◌}
-use Rattle.std.proofs.Common.{refl, sym, ap, subst, inl, inr, arith, string_bytes}
-use Rattle.std.specs.Prelude.{Option, Some, None, Err, String}
-use Rattle.std.specs.declared.alloc.Global.{Global}
-use Rattle.std.proofs.lemmas.Bool.{le-ltb, lt-ltb}
-use Rattle.std.proofs.lemmas.List.{append-nil}
-use Rattle.std.proofs.lemmas.Str.{IsUtf8-string_bytes}
-use Rattle.wax_directory.specs.declared.directory.FileType.{FileType}
-use Rattle.wax_directory.specs.declared.directory.FileType.TheVariants as F
-use Rattle.wax_directory.specs.declared.directory.ListItem.{ListItem}
-use Rattle.wax_directory.specs.declared.directory.ListItem.TheVariants as I
-use Rattle.wax_directory.specs.Answers.{listed_of}
-use Rattle.wax_directory.specs.History.{at_end, listed, opened}
-use Rattle.wax_directory.specs.Law.{Law}
-use Rattle.wax_directory.specs.Names.{is_plain}
+use Rattle.std.proofs.Common.{◌++◌, refl, sym, ap, subst, inl, inr, arith, string_bytes}
+use Rattle.std.proofs.{lemmas.Bool.{le-ltb, lt-ltb}, lemmas.List.append-nil, lemmas.Str.IsUtf8-string_bytes}
+use Rattle.std.specs.{Prelude.{Option, Some, None, Err, String}, declared.alloc.Global.Global}
+use Rattle.wax_directory.specs.{declared.directory.FileType.FileType, declared.directory.ListItem.ListItem}
+use Rattle.wax_directory.specs.{Answers.listed_of, History.{at_end, listed, opened}, Law.Law, Names.is_plain}
 use Rattle.wax_directory.specs.PlainNames.{not_plain, plain_of}
 use Rattle.wax_directory.specs.Shown.{IsPlain, Shown, a_folder, a_leaf, a_sealed, end, failing, folder, leaf}
 use Rattle.wax_directory.specs.Shown.{join, leaf_kind, misnamed, missing, named, no_item, no_name, not_text}
 use Rattle.wax_directory.specs.Shown.{sealed, unread}
-use Rattle.wax_walk.specs.Course.{Ahead, DirectoryCall, Course, CutsShort, ahead, all_ahead, answers}
-use Rattle.wax_walk.specs.Course.{asking, asks, call, continued}
-use Rattle.wax_walk.specs.Course.{stop, yields}
-use Rattle.wax_walk.specs.declared.entry.TreeEntry.{TreeEntry}
-use Rattle.wax_walk.specs.declared.error.FaultKind.{FaultKind}
-use Rattle.wax_walk.specs.declared.error.FaultKind.TheVariants as K
-use Rattle.wax_walk.specs.Entries.{facts_of}
+use Rattle.wax_walk.specs.Course.{Ahead, DirectoryCall, Course, CutsShort, ahead, all_ahead, answers, asking}
+use Rattle.wax_walk.specs.{Course.{asks, call, continued, stop, yields}, declared.entry.TreeEntry.TreeEntry}
+use Rattle.wax_walk.specs.{declared.error.FaultKind.FaultKind, Entries.facts_of}
 use Rattle.wax_walk.specs.declared.error.WalkError.TheVariants.{Memory}
-use Rattle.wax_walk.specs.Given.{Facts, Given, entry, fault, no_memory}
-use Rattle.wax_walk.specs.Opened.{items_listed}
-use Rattle.wax_walk.specs.View.{Takes}
+use Rattle.wax_walk.specs.{Given.{Facts, Given, entry, fault, no_memory}, Opened.items_listed, View.Takes}
 use Rattle.wax_walk.proofs.Courses.{continued_stop, continued_then}
-use Rattle.wax_tree.specs.declared.location.Location as code
-use Rattle.wax_tree.specs.declared.steps.OpenFolder.{OpenFolder}
-use Rattle.wax_tree.specs.declared.steps.StartPoint.{StartPoint}
-use Rattle.wax_tree.specs.declared.steps.Step.{Step}
-use Rattle.wax_tree.specs.declared.steps.Step.TheVariants.{Ends, Gives, GoesOn}
+use Rattle.wax_tree.specs.{declared.steps.OpenFolder.OpenFolder, declared.steps.StartPoint.StartPoint}
+use Rattle.wax_tree.specs.{declared.steps.Step.Step, declared.steps.Step.TheVariants.{Ends, Gives, GoesOn}}
 use Rattle.wax_tree.specs.declared.steps.Steps.{Steps}
 use Rattle.wax_tree.specs.Courses.{AlongComes, FoundComes, IsNamed, below_course, course_above_max}
 use Rattle.wax_tree.specs.Courses.{course_at_depth, entered_course, entry_course, is_missing, items_course}
@@ -43,15 +24,16 @@ use Rattle.wax_tree.specs.Courses.{onward_location, refused_course}
 use Rattle.wax_tree.specs.Plain.{HasKind, IsFolder, Location, WalkScope, item_location, one_deeper}
 use Rattle.wax_tree.specs.Plain.{plain_entry}
 use Rattle.wax_tree.specs.Stepping.{ComesLast, ComesWhole, Enters, EntryComes, CutsOff, ItemComes, RestComes}
-use Rattle.wax_tree.specs.Stepping.{TakenComes}
-use Rattle.wax_tree.specs.Stepping.{FolderComes, PlaceComes, StepCourse, UsesCourse, next_course, passed_over}
-use Rattle.wax_tree.specs.Stepping.{remembered}
-use Rattle.wax_tree.specs.inner.Finding.{IsFound}
-use Rattle.wax_tree.specs.Prefix.{from_last}
-use Rattle.wax_tree.specs.declared.steps.FoundItem.TheVariants as Found
+use Rattle.wax_tree.specs.Stepping.{TakenComes, FolderComes, PlaceComes, StepCourse, UsesCourse, next_course}
+use Rattle.wax_tree.specs.{Stepping.{passed_over, remembered}, inner.Finding.IsFound, Prefix.from_last}
 use Rattle.wax_tree.specs.Walking.{AheadUnless, ComesAhead, EnteredComes, FirstComes, GoesAhead, LevelsCome}
 use Rattle.wax_tree.specs.Walking.{HasStopped, allowance, entry_location, located, scope_of, step_given}
 use Rattle.wax_tree.specs.Walking.{tree_given}
+use Rattle.wax_directory.specs.declared.directory.FileType.TheVariants as F
+use Rattle.wax_directory.specs.declared.directory.ListItem.TheVariants as I
+use Rattle.wax_walk.specs.declared.error.FaultKind.TheVariants as K
+use Rattle.wax_tree.specs.declared.location.Location as code
+use Rattle.wax_tree.specs.declared.steps.FoundItem.TheVariants as Found
 
 -- ---- the open folders
 

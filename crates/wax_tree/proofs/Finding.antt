@@ -1,38 +1,25 @@
 -- What is found in a folder.
 use Rattle.std.proofs.Common.{◌≡◌, ℕ, ◌+◌, ◌-◌, List, false, inl, inr, sym, subst, ◌∙◌, arith, string_bytes}
-use Rattle.std.proofs.Common.{◌<◌, ◌≤◌, Bool, true, cond, refl}
-use Rattle.std.proofs.lemmas.Str.{IsUtf8-string_bytes}
-use Rattle.std.specs.Prelude.{Option, Some, None, Err, String}
-use Rattle.std.specs.declared.alloc.Global.{Global}
-use Rattle.wax_directory.specs.declared.directory.FileType.{FileType}
-use Rattle.wax_directory.specs.declared.directory.ListItem.{ListItem}
-use Rattle.wax_directory.specs.declared.directory.ListItem.TheVariants as I
-use Rattle.wax_directory.specs.declared.tally.Tally.{Tally}
-use Rattle.wax_directory.specs.Answers.{listed_of}
-use Rattle.wax_directory.specs.Counting.{item_counts, no_counts}
-use Rattle.wax_directory.specs.Names.{is_plain}
-use Rattle.wax_directory.specs.Shown.{Items, Shown, ShowsIn, first_item}
-use Rattle.wax_directory.specs.PlainNames.{not_plain, plain_of}
-use Rattle.wax_walk.specs.declared.entry.TreeEntry.{TreeEntry}
-use Rattle.wax_walk.specs.declared.error.FaultKind.{FaultKind}
-use Rattle.wax_walk.specs.declared.error.FaultKind.TheVariants as K
-use Rattle.wax_walk.specs.declared.error.WalkError.TheVariants as W
-use Rattle.wax_walk.specs.Entries.{facts_of}
-use Rattle.wax_walk.specs.Forest.{Forest, nothing, item}
-use Rattle.wax_walk.specs.Given.{Given, entry, fault, no_memory}
-use Rattle.wax_walk.specs.View.{Takes, fault_counts, items_lost}
-use Rattle.wax_tree.specs.declared.steps.FoundItem.TheVariants.{Entry, Fault}
-use Rattle.wax_tree.specs.declared.steps.Step.{Step}
-use Rattle.wax_tree.specs.declared.steps.Step.TheVariants.{Gives}
-use Rattle.wax_tree.specs.declared.steps.Steps.{Steps}
-use Rattle.wax_tree.specs.Plain.{WalkScope, Location, count_shown, entry_forest}
-use Rattle.wax_tree.specs.inner.Finding.{IsFault, IsFound}
-use Rattle.wax_tree.specs.inner.Heads.{first_item_forest, own_count}
+use Rattle.std.proofs.{Common.{◌<◌, ◌≤◌, Bool, true, cond, refl}, lemmas.Str.IsUtf8-string_bytes}
+use Rattle.std.specs.{Prelude.{Option, Some, None, Err, String}, declared.alloc.Global.Global}
+use Rattle.wax_directory.specs.{declared.directory.FileType.FileType, declared.directory.ListItem.ListItem}
+use Rattle.wax_directory.specs.{declared.tally.Tally.Tally, Answers.listed_of}
+use Rattle.wax_directory.specs.{Counting.{item_counts, no_counts}, Names.is_plain}
+use Rattle.wax_directory.specs.{Shown.{Items, Shown, ShowsIn, first_item}, PlainNames.{not_plain, plain_of}}
+use Rattle.wax_walk.specs.{declared.entry.TreeEntry.TreeEntry, declared.error.FaultKind.FaultKind}
+use Rattle.wax_walk.specs.{Entries.facts_of, Forest.{Forest, nothing, item}}
+use Rattle.wax_walk.specs.{Given.{Given, entry, fault, no_memory}, View.{Takes, fault_counts, items_lost}}
+use Rattle.wax_tree.specs.{declared.steps.FoundItem.TheVariants.{Entry, Fault}, declared.steps.Step.Step}
+use Rattle.wax_tree.specs.{declared.steps.Step.TheVariants.Gives, declared.steps.Steps.Steps}
+use Rattle.wax_tree.specs.Plain.{WalkScope, Location, count_shown, entry_forest, HasKind}
+use Rattle.wax_tree.specs.{inner.Finding.{IsFault, IsFound}, inner.Heads.{first_item_forest, own_count}}
 use Rattle.wax_tree.specs.Stepping.{Asked, IsCounted, UsesAnswer, nothing_asked}
 use Rattle.wax_tree.specs.Walking.{allowance, begins, entry_location, names_left, step_given}
-use Rattle.wax_tree.specs.Plain.{HasKind}
 use Rattle.wax_tree.proofs.UsingAnswers.{gives_uses_answer}
 use Rattle.wax_tree.proofs.Showing.{takes_name, takes_misnamed, takes_failed, takes_not_text}
+use Rattle.wax_directory.specs.declared.directory.ListItem.TheVariants as I
+use Rattle.wax_walk.specs.declared.error.FaultKind.TheVariants as K
+use Rattle.wax_walk.specs.declared.error.WalkError.TheVariants as W
 
 module _ (scope : WalkScope) (at : Location) (shows : List ℕ → Shown → Type 0) where
   -- an entry of the folder

@@ -1,13 +1,10 @@
 -- The first name of a path.
-use Rattle.std.proofs.Common.{◌≡◌, ◌≢◌, ℕ, ◌+◌, ◌<◌, false, cond, ◌==◌, List, [], ◌∷◌, length, get_or}
-use Rattle.std.proofs.Common.{refl, sym, ap, ◌∙◌, arith}
-use Rattle.std.specs.Prelude.{Option, Some, None, MatchOption, filter}
-use Rattle.std.specs.List.{slice_split, after_first}
-use denote.Ref.{Bor}
-use Rattle.std.proofs.lemmas.Bool.{ne_eqb}
-use Rattle.std.proofs.lemmas.Grind.{common_steps}
+use Rattle.std.proofs.Common.{◌≡◌, ◌≢◌, ℕ, ◌+◌, ◌<◌, false, cond, ◌==◌, List, [], ◌∷◌, length, get_or, refl}
+use Rattle.std.proofs.{Common.{sym, ap, ◌∙◌, arith}, lemmas.Bool.ne_eqb, lemmas.Grind.common_steps}
 use Rattle.std.proofs.lemmas.List.Splits.{slice_split_first}
 use Rattle.std.proofs.lemmas.Str.Pattern.{IsSplitOnceResult, split_once_first, split_parts}
+use Rattle.std.specs.{Prelude.{Option, Some, None, MatchOption, filter}, List.{slice_split, after_first}}
+use denote.Ref.{Bor}
 use Rattle.wax_directory.specs.Names.{is_some_name, names_in_path}
 
 abbrev pub Slashless : List ℕ → Type 0

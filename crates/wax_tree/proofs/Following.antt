@@ -1,11 +1,9 @@
 -- Walks along names, name by name.
 use Rattle.std.proofs.Common.{◌≡◌, ℕ, ◌+◌, suc, List, [], ◌∷◌, ◌++◌, length, Some, refl, ap, ◌∙◌, arith}
 use Rattle.wax_directory.specs.Shown.{Shown, a_leaf, a_folder, a_sealed, missing, failing, child_in}
-use Rattle.wax_walk.specs.Forest.{Forest, nothing, item}
-use Rattle.wax_walk.specs.Given.{Given}
+use Rattle.wax_walk.specs.{Forest.{Forest, nothing, item}, Given.Given}
 use Rattle.wax_tree.specs.Follows.{FollowsNames, StopsAtFault, fault_before, location_at}
-use Rattle.wax_tree.specs.Plain.{WalkScope, Location, item_location, one_deeper, plain_at}
-use Rattle.wax_tree.specs.Prefix.{walk_from}
+use Rattle.wax_tree.specs.{Plain.{WalkScope, Location, item_location, one_deeper, plain_at}, Prefix.walk_from}
 
 -- the location after one more name
 abbrev below : Location → List ℕ → Location

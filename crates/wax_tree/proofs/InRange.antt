@@ -1,27 +1,23 @@
 -- What a walk of some depths yields is what its depths leave of the whole walk.
 use Rattle.std.proofs.Common.{◌≡◌, ℕ, ◌+◌, ◌-◌, ◌<◌, ◌≤◌, Bool, true, false, cond, length, List, [], ◌∷◌}
-use Rattle.std.proofs.Common.{◌++◌}
-use Rattle.std.proofs.Common.{filter, nat_lt, not, ◌&&◌, refl, sym, ◌∙◌, ap, subst, arith}
-use Rattle.std.proofs.lemmas.Bool.{lt-ltb}
-use Rattle.std.proofs.lemmas.Bool.Decides.{nat_tests}
-use Rattle.std.proofs.lemmas.List.Elements.{filter-append}
+use Rattle.std.proofs.Common.{◌++◌, filter, nat_lt, not, ◌&&◌, refl, sym, ◌∙◌, ap, subst, arith}
+use Rattle.std.proofs.{lemmas.Bool.lt-ltb, lemmas.Bool.Decides.nat_tests, lemmas.List.Elements.filter-append}
 use Rattle.wax_directory.specs.declared.directory.FileType.{FileType}
 use Rattle.wax_directory.specs.declared.directory.FileType.TheVariants.{Folder}
 use Rattle.wax_directory.specs.Shown.{Items, end, leaf, folder, sealed, misnamed, unread, not_text, Shown}
 use Rattle.wax_directory.specs.Shown.{a_leaf, a_folder, a_sealed, missing, failing, leaf_kind, join, child_in}
-use Rattle.wax_tree.specs.declared.steps.DepthRange.{DepthRange}
-use Rattle.wax_tree.specs.Begins.{scope_in}
+use Rattle.wax_tree.specs.{declared.steps.DepthRange.DepthRange, Begins.scope_in}
 use Rattle.wax_tree.specs.Plain.{Location, start_location, item_location, one_deeper, count_shown, at_depth}
 use Rattle.wax_tree.specs.Plain.{above_max, plain_entry, unlisted, items_forest, plain, plain_at}
 use Rattle.wax_tree.specs.Prefix.{walk_from}
-use Rattle.wax_tree.specs.Whole.{whole_items, whole_at, whole, whole_along, is_yielded, yielded}
-use Rattle.wax_tree.specs.Whole.{EntriesAre, all_in_range, lacks_memory, over_budget}
+use Rattle.wax_tree.specs.Whole.{whole_items, whole_at, whole, whole_along, is_yielded, yielded, EntriesAre}
+use Rattle.wax_tree.specs.Whole.{all_in_range, lacks_memory, over_budget}
 use Rattle.wax_walk.specs.Collected.{Yielded, IsCutShort}
-use Rattle.wax_walk.specs.Collected as given
 use Rattle.wax_walk.specs.Forest.{Forest, nothing, item, lists, followed_by, preorder, Pending, pending}
 use Rattle.wax_walk.specs.declared.error.FaultKind.TheVariants.{Listing, BadName, NotText, Budget}
 use Rattle.wax_walk.specs.Given.{Given, fault, no_memory}
 use Rattle.wax_walk.proofs.Collecting.{preorder_append}
+use Rattle.wax_walk.specs.Collected as given
 
 not_less : (a b : ℕ) → nat_lt a b ≡ false → b ≤ a
 not_less a b h = grind (arith, nat_tests)

@@ -7,13 +7,10 @@ use Rattle.wax_directory.specs.declared.directory.FileType.TheVariants.{Folder}
 use Rattle.wax_directory.specs.Shown.{Items, end, leaf, folder, sealed, misnamed, unread, not_text, Shown}
 use Rattle.wax_directory.specs.Shown.{a_leaf, a_folder, a_sealed, missing, failing, leaf_kind, join}
 use Rattle.wax_walk.specs.declared.error.FaultKind.TheVariants.{BadName, Listing, NotFound, NotText}
-use Rattle.wax_walk.specs.Collected.{NoneLast}
-use Rattle.wax_walk.specs.Forest.{Forest, nothing, item, lists, followed_by, preorder}
-use Rattle.wax_walk.specs.Given.{Facts, Given, entry, fault, is_kept, kept}
-use Rattle.wax_walk.specs.View.{IsLast}
+use Rattle.wax_walk.specs.{Collected.NoneLast, Forest.{Forest, nothing, item, lists, followed_by, preorder}}
+use Rattle.wax_walk.specs.{Given.{Facts, Given, entry, fault, is_kept, kept}, View.IsLast}
 use Rattle.wax_tree.specs.Plain.{WalkScope, Location, start_location, item_location, one_deeper, at_depth}
-use Rattle.wax_tree.specs.Plain.{unlisted}
-use Rattle.wax_tree.specs.Plain.{items_forest, below_forest, entry_forest, plain}
+use Rattle.wax_tree.specs.Plain.{unlisted, items_forest, below_forest, entry_forest, plain}
 
 -- a fact of each item
 abbrev Each : (Given → Type 0) → List Given → Type 0

@@ -1,7 +1,6 @@
 -- Folders that are listed before the next item.
 use Rattle.std.specs.Prelude.{◌≡◌, ℕ, List, [], ◌∷◌, ◌++◌}
-use Rattle.wax_walk.specs.Forest.{Forest, lists, Pending, all_pending}
-use Rattle.wax_walk.specs.Given.{Given}
+use Rattle.wax_walk.specs.{Forest.{Forest, lists, Pending, all_pending}, Given.Given}
 
 abbrev pub after_listing : List (List ℕ) → Forest Given → Forest Given
 after_listing [] f = f

@@ -1,14 +1,12 @@
 -- Walks are levelled by depth.
 use Rattle.std.proofs.Common.{◌≡◌, ℕ, ◌+◌, ◌-◌, ◌<◌, ◌≤◌, Bool, true, false, cond, nat_lt, List, [], ◌∷◌}
-use Rattle.std.proofs.Common.{refl, subst, arith}
-use Rattle.std.proofs.lemmas.Bool.Decides.{nat_tests}
+use Rattle.std.proofs.{Common.{refl, subst, arith}, lemmas.Bool.Decides.nat_tests}
 use Rattle.wax_directory.specs.declared.directory.FileType.{FileType}
 use Rattle.wax_directory.specs.declared.directory.FileType.TheVariants.{Folder}
 use Rattle.wax_directory.specs.Shown.{Items, end, leaf, folder, sealed, misnamed, unread, not_text, Shown}
 use Rattle.wax_directory.specs.Shown.{a_leaf, a_folder, a_sealed, missing, failing, leaf_kind, join, child_in}
 use Rattle.wax_tree.specs.Plain.{WalkScope, Location, item_location, one_deeper, plain_entry, at_depth}
-use Rattle.wax_tree.specs.Plain.{above_max, items_forest, plain_at, unlisted}
-use Rattle.wax_tree.specs.Prefix.{walk_from}
+use Rattle.wax_tree.specs.{Plain.{above_max, items_forest, plain_at, unlisted}, Prefix.walk_from}
 use Rattle.wax_walk.proofs.Leaving.{IsLevelled}
 use Rattle.wax_walk.specs.Forest.{Forest, nothing, item, lists, followed_by}
 use Rattle.wax_walk.specs.Given.{Given, entry, fault, no_memory}

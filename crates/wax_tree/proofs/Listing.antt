@@ -1,26 +1,19 @@
 -- Which folders steps open, and which listings they read to the end.
 use Rattle.std.proofs.Common.{◌≡◌, ℕ, ◌+◌, ◌<◌, ◌≤◌, Bool, true, false, cond, length, refl, ap, subst, sym}
-use Rattle.std.proofs.Common.{◌∙◌, arith, inl, inr}
+use Rattle.std.proofs.{Common.{◌∙◌, arith, inl, inr}, lemmas.Bool.{cases_lt, lt-ltb}}
 use Rattle.std.specs.Prelude.{Option, None, Some, ◌&&◌, nat_lt, List}
-use Rattle.std.proofs.lemmas.Bool.{cases_lt, lt-ltb}
-use Rattle.wax_directory.specs.declared.directory.FileType.{FileType}
-use Rattle.wax_directory.specs.declared.directory.FileType.TheVariants as F
-use Rattle.wax_directory.specs.Law.{Law}
+use Rattle.wax_directory.specs.{declared.directory.FileType.FileType, Law.Law, Counting.grown}
 use Rattle.wax_walk.specs.Given.{Given, Facts, entry, kept}
-use Rattle.wax_walk.specs.View.{is_folder_kind, is_above}
-use Rattle.wax_tree.specs.declared.location.Location as code
-use Rattle.wax_tree.specs.Reaching.{OfEntered}
-use Rattle.wax_tree.proofs.InRange.{at_most}
-use Rattle.wax_directory.specs.Counting.{grown}
-use Rattle.wax_walk.specs.View.{WalkView, Accounts, CountsFaults, Takes, fault_counts, items_lost, opens_one}
-use Rattle.wax_walk.proofs.Accounting.{accounts_nothing, counts_none_then, grown_then, takes_more}
-use Rattle.wax_tree.specs.declared.steps.Steps.{Steps}
-use Rattle.wax_tree.specs.declared.steps.Step.{Step}
-use Rattle.wax_tree.specs.declared.steps.Step.TheVariants.{GoesOn}
-use Rattle.wax_tree.specs.Stepping.{StepAnswers, IsStep, Remembers}
-use Rattle.wax_tree.proofs.UsingAnswers.{none_either}
+use Rattle.wax_walk.specs.View.{is_folder_kind, is_above, WalkView, Accounts, CountsFaults, Takes}
+use Rattle.wax_walk.specs.View.{fault_counts, items_lost, opens_one}
+use Rattle.wax_tree.specs.{Reaching.OfEntered, declared.steps.Steps.Steps, declared.steps.Step.Step}
+use Rattle.wax_tree.specs.{declared.steps.Step.TheVariants.GoesOn, Stepping.{StepAnswers, IsStep, Remembers}}
 use Rattle.wax_tree.specs.Walking.{HasStopped, allowance, begins, entering, entering_after, if_some}
 use Rattle.wax_tree.specs.Walking.{names_left, open_lists, step_given, steps_view}
+use Rattle.wax_tree.proofs.{InRange.at_most, UsingAnswers.none_either}
+use Rattle.wax_walk.proofs.Accounting.{accounts_nothing, counts_none_then, grown_then, takes_more}
+use Rattle.wax_directory.specs.declared.directory.FileType.TheVariants as F
+use Rattle.wax_tree.specs.declared.location.Location as code
 
 not_above : (k : FileType) → ◌≡◌ {A = ℕ} (cond (is_folder_kind k && false) 1 0) 0
 not_above F.File = refl

@@ -1,10 +1,7 @@
 -- Locations in folders and below them.
 use Rattle.std.proofs.Common.{◌≡◌, ◌+◌, ◌<◌, ◌^◌, ℕ, List, ap, arith}
-use Rattle.wax_walk.specs.declared.walked_path.WalkedPath.{WalkedPath}
-use Rattle.wax_walk.specs.Entries.{entry_texts}
-use Rattle.wax_walk.specs.Given.{Facts}
-use Rattle.wax_tree.specs.Courses.{onward_location}
-use Rattle.wax_tree.specs.Plain.{Location, item_location, one_deeper}
+use Rattle.wax_walk.specs.{declared.walked_path.WalkedPath.WalkedPath, Entries.entry_texts, Given.Facts}
+use Rattle.wax_tree.specs.{Courses.onward_location, Plain.{Location, item_location, one_deeper}}
 use Rattle.wax_tree.specs.Walking.{entry_location, located}
 
 -- the location of a name in a folder, one level deeper

@@ -1,37 +1,31 @@
 -- A walk when it is made, and if allocation failed for its start.
 use Rattle.std.proofs.Common.{◌≡◌, ℕ, ◌+◌, ◌-◌, ◌^◌, ◌<◌, ◌≤◌, length, true, false, List, [], ◌∷◌, ◌++◌, refl}
-use Rattle.std.proofs.Common.{sym}
-use Rattle.std.proofs.Common.{ap, subst, ◌∙◌, arith, inl, inr, string_bytes, length-append}
-use Rattle.std.specs.Prelude.{Option, Some, None, String}
-use Rattle.std.specs.declared.alloc.Global.{Global}
-use Rattle.wax_directory.specs.Law.{Law}
-use Rattle.wax_directory.specs.History.{found}
+use Rattle.std.proofs.Common.{sym, ap, subst, ◌∙◌, arith, inl, inr, string_bytes, length-append}
+use Rattle.std.proofs.lemmas.List.{append-nil}
+use Rattle.std.specs.{Prelude.{Option, Some, None, String}, declared.alloc.Global.Global}
+use Rattle.wax_directory.specs.{Law.Law, History.found}
 use Rattle.wax_directory.specs.Shown.{Shown, a_folder, a_leaf, a_sealed, failing, missing}
 use Rattle.wax_walk.specs.Forest.{Forest, nothing, item, lists, Pending, pending, all_pending, FirstIs}
 use Rattle.wax_walk.specs.Given.{Given, no_memory}
 use Rattle.wax_walk.specs.Course.{Ahead, DirectoryCall, Course, ahead, all_ahead, asking, asks, call}
-use Rattle.wax_walk.specs.Course.{continued, stop, unknown}
-use Rattle.wax_walk.specs.Course.{yields}
-use Rattle.wax_walk.specs.Course as course
-use Rattle.wax_walk.specs.View.{Follows, MayTake, ended_so, was_cut, went_on}
-use Rattle.wax_walk.specs.View.{WalkView, GivesOrStops, lacks_memory, over_budget, gives, FeedStep}
+use Rattle.wax_walk.specs.Course.{continued, stop, unknown, yields}
+use Rattle.wax_walk.specs.View.{Follows, MayTake, ended_so, was_cut, went_on, WalkView, GivesOrStops}
+use Rattle.wax_walk.specs.View.{lacks_memory, over_budget, gives, FeedStep}
 use Rattle.wax_walk.proofs.Courses.{begins_trans}
-use Rattle.std.proofs.lemmas.List.{append-nil}
-use Rattle.wax_tree.specs.declared.steps.StartPoint.{StartPoint}
-use Rattle.wax_tree.specs.declared.steps.DepthRange.{DepthRange}
-use Rattle.wax_tree.specs.declared.steps.Steps.{Steps}
-use Rattle.wax_tree.specs.declared.walk_tree.WalkTree.{WalkTree}
+use Rattle.wax_tree.specs.{declared.steps.StartPoint.StartPoint, declared.steps.DepthRange.DepthRange}
+use Rattle.wax_tree.specs.{declared.steps.Steps.Steps, declared.walk_tree.WalkTree.WalkTree}
 use Rattle.wax_tree.specs.Begins.{Begins, BeginsAt, FailsFrom, FailsNowhere, HasEnded, LacksMemory, Origin}
 use Rattle.wax_tree.specs.Begins.{OriginTakes, StartTakes, along, beyond, lacking, lacking_start, scope_in}
 use Rattle.wax_tree.specs.Begins.{walks}
 use Rattle.wax_tree.specs.Courses.{AlongComes, IsNamed, entry_course, is_failing, is_missing, is_there}
 use Rattle.wax_tree.specs.Courses.{place_course}
-use Rattle.wax_tree.proofs.Coursing.{goes_ahead, rests_ahead}
 use Rattle.wax_tree.specs.Lacking.{AheadUnlessLacking, MayCome, lacks, goes, tree_view}
 use Rattle.wax_tree.specs.Plain.{HasKind, Location, WalkScope, count_shown, start_location}
 use Rattle.wax_tree.specs.Prefix.{ArePlain, from_last, walk_from}
-use Rattle.wax_tree.specs.Walking.{EnteredComes, FirstComes, LevelsCome}
-use Rattle.wax_tree.specs.Walking.{MayBeAhead, PlainToCome, allowance, scope_of, steps_view, located}
+use Rattle.wax_tree.specs.Walking.{EnteredComes, FirstComes, LevelsCome, MayBeAhead, PlainToCome, allowance}
+use Rattle.wax_tree.specs.Walking.{scope_of, steps_view, located}
+use Rattle.wax_tree.proofs.Coursing.{goes_ahead, rests_ahead}
+use Rattle.wax_walk.specs.Course as course
 
 module _ {D C : Type 0} (law : Law D C) where
   made_comes : (w : Steps D C) (place : StartPoint) (s : Shown) (listed : List (List ℕ))

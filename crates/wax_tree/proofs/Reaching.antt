@@ -1,38 +1,27 @@
 -- The folders of which steps yield errors.
 use Rattle.std.proofs.Common.{◌≡◌, ℕ, ◌+◌, ◌-◌, ◌^◌, ◌<◌, ◌≤◌, min, true, false, length, List, [], ◌∷◌, ◌++◌}
 use Rattle.std.proofs.Common.{refl, sym, ap, subst, ◌∙◌, arith, inl, inr, string_bytes, length-append}
-use Rattle.std.specs.Prelude.{Some, None, ◌⊎◌, Err, String}
-use Rattle.std.specs.declared.alloc.Global.{Global}
 use Rattle.std.proofs.lemmas.Str.{IsUtf8-string_bytes}
-use Rattle.wax_directory.specs.Shown.{IsPlain, join}
-use Rattle.wax_walk.specs.declared.entry.TreeEntry.{TreeEntry}
-use Rattle.wax_walk.specs.Entries.{facts_of}
+use Rattle.std.specs.{Prelude.{Some, None, ◌⊎◌, Err, String}, declared.alloc.Global.Global}
+use Rattle.wax_directory.specs.{Shown.{IsPlain, join}, declared.directory.ListItem.ListItem, Law.Law}
+use Rattle.wax_directory.specs.PlainNames.{plain_of}
+use Rattle.wax_walk.specs.{declared.entry.TreeEntry.TreeEntry, Entries.facts_of}
 use Rattle.wax_walk.specs.declared.error.FaultKind.{FaultKind}
 use Rattle.wax_walk.specs.declared.error.WalkError.TheVariants.{Memory, Fault}
-use Rattle.wax_walk.specs.Collected.{AreOfFolders, HasFolder}
-use Rattle.wax_walk.specs.Given.{Given, fault}
+use Rattle.wax_walk.specs.{Collected.{AreOfFolders, HasFolder}, Given.{Given, fault}}
 use Rattle.wax_walk.specs.View.{IsErrorAt, IsFolderAt, WalkView, Places, MayFail, is_above}
-use Rattle.wax_tree.specs.declared.location.Location as code
-use Rattle.wax_tree.specs.declared.steps.OpenFolder.{OpenFolder}
-use Rattle.wax_tree.specs.declared.steps.StartPoint.{StartPoint}
-use Rattle.wax_tree.specs.declared.steps.Steps.{Steps}
-use Rattle.wax_tree.specs.declared.steps.Step.{Step}
+use Rattle.wax_tree.specs.{declared.steps.OpenFolder.OpenFolder, declared.steps.StartPoint.StartPoint}
+use Rattle.wax_tree.specs.{declared.steps.Steps.Steps, declared.steps.Step.Step}
 use Rattle.wax_tree.specs.declared.steps.Step.TheVariants.{Gives, GoesOn}
 use Rattle.wax_tree.specs.Prefix.{ArePlain, from_last, path_from}
 use Rattle.wax_tree.specs.Reaching.{FolderSet, LeadsUnseen, OfAny, OfEntered, OfFirst, OfLevels, OnWay}
-use Rattle.wax_tree.specs.Reaching.{OneFolder}
-use Rattle.wax_tree.specs.Reaching.{IsOf, MayFailAt, MayFailBelow, MayReach, ReachesFrom, no_folders}
-use Rattle.wax_tree.specs.Begins.{FailsFrom, IsPassed}
-use Rattle.wax_tree.specs.Stepping.{StepPlaces}
-use Rattle.wax_tree.specs.Walking.{HasStopped, step_given, steps_view}
-use Rattle.wax_tree.specs.inner.Finding.{IsFound}
-use Rattle.wax_tree.specs.declared.steps.FoundItem.TheVariants.{Entry, Fault as FoundFault}
-use Rattle.wax_tree.specs.Plain.{Location}
+use Rattle.wax_tree.specs.Reaching.{OneFolder, IsOf, MayFailAt, MayFailBelow, MayReach, ReachesFrom}
+use Rattle.wax_tree.specs.{Reaching.no_folders, Begins.{FailsFrom, IsPassed}, Stepping.StepPlaces}
+use Rattle.wax_tree.specs.{Walking.{HasStopped, step_given, steps_view}, inner.Finding.IsFound}
+use Rattle.wax_tree.specs.{declared.steps.FoundItem.TheVariants.{Entry, Fault as FoundFault}, Plain.Location}
 use Rattle.wax_tree.proofs.Showing.{from_last_end}
-use Rattle.wax_directory.specs.declared.directory.ListItem.{ListItem}
+use Rattle.wax_tree.specs.declared.location.Location as code
 use Rattle.wax_directory.specs.declared.directory.ListItem.TheVariants as I
-use Rattle.wax_directory.specs.Law.{Law}
-use Rattle.wax_directory.specs.PlainNames.{plain_of}
 
 -- ---- names
 

@@ -1,26 +1,19 @@
 -- States of a walk: levels that are pushed and popped, and directories that answered.
-use Rattle.std.proofs.Common.{◌≡◌, ℕ, ◌+◌, ◌-◌, ◌<◌, ◌≤◌, true, false, cond, List, []}
-use Rattle.std.proofs.Common.{◌∷◌, ◌++◌, refl, sym, ap, subst, ◌∙◌, arith}
-use Rattle.std.specs.Prelude.{Option, Some}
-use Rattle.std.proofs.lemmas.Bool.{lt-ltb}
-use Rattle.std.specs.List.{Contains}
-use Rattle.std.proofs.lemmas.List.{map-append}
+use Rattle.std.proofs.Common.{◌≡◌, ℕ, ◌+◌, ◌-◌, ◌<◌, ◌≤◌, true, false, cond, List, [], ◌∷◌, ◌++◌, refl, sym}
+use Rattle.std.proofs.{Common.{ap, subst, ◌∙◌, arith}, lemmas.Bool.lt-ltb, lemmas.List.map-append}
 use Rattle.std.proofs.lemmas.List.Elements.{Contains-append_left}
-use Rattle.wax_directory.specs.declared.directory.FileType.TheVariants as F
+use Rattle.std.specs.{Prelude.{Option, Some}, List.Contains}
 use Rattle.wax_directory.specs.Law.{Law, ShowsSame, HoldsLast}
 use Rattle.wax_directory.specs.Shown.{Items, Shown, a_leaf, a_folder, a_sealed, missing, failing, ShowsIn}
-use Rattle.wax_walk.specs.Forest.{Forest, nothing, lists, followed_by, pending}
-use Rattle.wax_walk.specs.Given.{Given}
-use Rattle.wax_tree.specs.declared.location.Location as code
-use Rattle.wax_tree.specs.declared.steps.OpenFolder.{OpenFolder}
-use Rattle.wax_tree.specs.declared.steps.Steps.{Steps}
+use Rattle.wax_walk.specs.{Forest.{Forest, nothing, lists, followed_by, pending}, Given.Given}
+use Rattle.wax_tree.specs.{declared.steps.OpenFolder.OpenFolder, declared.steps.Steps.Steps}
 use Rattle.wax_tree.specs.Plain.{WalkScope, Location, count, count_shown, below_forest, items_forest}
-use Rattle.wax_tree.specs.Plain.{unlisted}
-use Rattle.wax_tree.specs.Walking.{IsAlone, located, scope_of}
-use Rattle.wax_tree.specs.Plain.{HasKind, one_deeper}
-use Rattle.wax_tree.specs.Walking.{cursors_of, Rest, FirstShows, EnteredShows, LevelsShow, AtRest}
-use Rattle.wax_tree.specs.Walking.{PlainToCome, WereListed}
+use Rattle.wax_tree.specs.Plain.{unlisted, HasKind, one_deeper}
+use Rattle.wax_tree.specs.Walking.{IsAlone, located, scope_of, cursors_of, Rest, FirstShows, EnteredShows}
+use Rattle.wax_tree.specs.Walking.{LevelsShow, AtRest, PlainToCome, WereListed}
 use Rattle.wax_tree.proofs.Showing.{followed_nothing, followed_assoc, shows_in_moved}
+use Rattle.wax_directory.specs.declared.directory.FileType.TheVariants as F
+use Rattle.wax_tree.specs.declared.location.Location as code
 
 pub levels_moved : {C : Type 0} (old new : List ℕ → Shown → Type 0) (scope : WalkScope)
     (same : (at : List ℕ) (s : Shown) → old at s → new at s) (ls : List (OpenFolder C)) (has : List Items)

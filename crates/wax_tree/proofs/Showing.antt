@@ -1,27 +1,21 @@
 -- What directories show, and what comes of it.
-use Rattle.std.proofs.Common.{◌≡◌, ℕ, ◌+◌, ◌-◌, ◌<◌, ◌≤◌, Bool, true, false, cond, nat_lt, length, List}
-use Rattle.std.proofs.Common.{[], ◌∷◌, ◌++◌, refl, sym, ap, subst, arith, string_bytes}
-use Rattle.std.specs.Prelude.{Some, None, Ok, Err, String}
-use Rattle.std.specs.declared.alloc.Global.{Global}
+use Rattle.std.proofs.Common.{◌≡◌, ℕ, ◌+◌, ◌-◌, ◌<◌, ◌≤◌, Bool, true, false, cond, nat_lt, length, List, []}
+use Rattle.std.proofs.Common.{◌∷◌, ◌++◌, refl, sym, ap, subst, arith, string_bytes}
 use Rattle.std.proofs.lemmas.Bool.{lt-ltb, le-ltb}
-use Rattle.std.specs.Str.{bytes_eq}
-use Rattle.wax_directory.specs.declared.directory.FileType.{FileType}
-use Rattle.wax_directory.specs.declared.directory.FileType.TheVariants as F
-use Rattle.wax_directory.specs.declared.directory.DirectoryFault.TheVariants as Fault_of
-use Rattle.wax_directory.specs.Answers.{KindIs}
+use Rattle.std.specs.{Prelude.{Some, None, Ok, Err, String}, declared.alloc.Global.Global, Str.bytes_eq}
+use Rattle.wax_directory.specs.{declared.directory.FileType.FileType, Answers.KindIs}
 use Rattle.wax_directory.specs.Shown.{Items, end, leaf, folder, sealed, misnamed, unread, not_text, Shown}
 use Rattle.wax_directory.specs.Shown.{a_leaf, a_folder, a_sealed, missing, failing, leaf_kind, IsPlain}
 use Rattle.wax_directory.specs.Shown.{ShowsIn, join, Listed, named, no_item, no_name, first_item, rest_of}
 use Rattle.wax_directory.specs.Shown.{child_in, child_shown}
 use Rattle.wax_walk.specs.declared.error.FaultKind.TheVariants.{NotFound, NotAFolder, Listing, NotText}
 use Rattle.wax_walk.specs.declared.error.FaultKind.TheVariants.{BadName}
-use Rattle.wax_walk.specs.Forest.{Forest, nothing, item, lists, followed_by}
-use Rattle.wax_walk.specs.Given.{Given, fault}
+use Rattle.wax_walk.specs.{Forest.{Forest, nothing, item, lists, followed_by}, Given.{Given, fault}}
 use Rattle.wax_tree.specs.Plain.{WalkScope, Location, item_location, one_deeper, count, count_shown, at_depth}
-use Rattle.wax_tree.specs.Plain.{entry_forest, plain_at, items_forest}
-use Rattle.wax_tree.specs.Prefix.{from_last, walk_from}
-use Rattle.wax_tree.specs.inner.Heads.{first_item_forest, own_count}
-use Rattle.wax_tree.specs.Plain.{HasKind}
+use Rattle.wax_tree.specs.Plain.{entry_forest, plain_at, items_forest, HasKind}
+use Rattle.wax_tree.specs.{Prefix.{from_last, walk_from}, inner.Heads.{first_item_forest, own_count}}
+use Rattle.wax_directory.specs.declared.directory.FileType.TheVariants as F
+use Rattle.wax_directory.specs.declared.directory.DirectoryFault.TheVariants as Fault_of
 
 pub silent : (scope : WalkScope) (depth : ℕ) (x : Given) (below after : Forest Given) → depth < scope.min
     → at_depth scope depth x below after ≡ followed_by below after

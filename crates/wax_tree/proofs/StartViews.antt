@@ -1,16 +1,9 @@
 -- What a plain walk took, by where it began.
 use Rattle.std.proofs.Common.{◌≡◌, ◌∙◌, ℕ, false, List, inl, inr, refl, subst, sym}
-use Rattle.wax_directory.specs.History.{Answer}
-use Rattle.wax_directory.specs.Law.{Law}
-use Rattle.wax_walk.proofs.Following.{lacks_ruled}
-use Rattle.wax_walk.proofs.Seen.{seen_itself}
-use Rattle.wax_walk.proofs.TakenAs.{took_as}
-use Rattle.wax_walk.specs.Candidates.{Candidate}
-use Rattle.wax_walk.specs.Collected.{NoMemoryError, Took, TookCourse}
-use Rattle.wax_walk.specs.Course.{Ahead, all_ahead}
-use Rattle.wax_walk.specs.Forest.{Pending}
-use Rattle.wax_walk.specs.Given.{Given, Mark}
-use Rattle.wax_walk.specs.Ruled.{ruled_view}
+use Rattle.wax_directory.specs.{History.Answer, Law.Law}
+use Rattle.wax_walk.proofs.{Following.lacks_ruled, Seen.seen_itself, TakenAs.took_as}
+use Rattle.wax_walk.specs.{Candidates.Candidate, Collected.{NoMemoryError, Took, TookCourse}}
+use Rattle.wax_walk.specs.{Course.{Ahead, all_ahead}, Forest.Pending, Given.{Given, Mark}, Ruled.ruled_view}
 use Rattle.wax_walk.specs.View.{WalkView}
 use Rattle.wax_tree.specs.Begins.{Begins, OnlyLacks, StartTakes, scope_in, start_view}
 use Rattle.wax_tree.specs.declared.steps.DepthRange.{DepthRange}

@@ -1,47 +1,36 @@
 -- Steps of a walk.
-use Rattle.std.proofs.Common.{◌≡◌, ℕ, ◌+◌, ◌-◌, ◌^◌, ◌<◌, ◌≤◌, true, false, length, List, [], ◌∷◌, ◌++◌}
-use Rattle.std.proofs.Common.{refl, sym, ap, subst, ◌∙◌, arith, inl, inr, string_bytes, append_assoc}
-use Rattle.std.proofs.Common.{length-append}
-use Rattle.std.specs.Prelude.{Option, Some, None, Result, Ok, Err, String}
-use Rattle.std.specs.List.{Contains}
-use Rattle.std.specs.declared.alloc.Global.{Global}
+use Rattle.std.proofs.Common.{◌≡◌, ℕ, ◌+◌, ◌-◌, ◌^◌, ◌<◌, ◌≤◌, true, false, length, List, [], ◌∷◌, ◌++◌, refl}
+use Rattle.std.proofs.Common.{sym, ap, subst, ◌∙◌, arith, inl, inr, string_bytes, append_assoc, length-append}
 use Rattle.std.proofs.lemmas.List.Elements.{Contains-append_right, Contains-push}
-use Rattle.wax_directory.specs.declared.directory.FileType.{FileType}
-use Rattle.wax_directory.specs.declared.directory.FileType.TheVariants as F
-use Rattle.wax_directory.specs.declared.directory.DirectoryFault.TheVariants as Fault_of
-use Rattle.wax_directory.specs.Answers.{Opens}
-use Rattle.wax_directory.specs.Law.{Law, HoldsLast}
+use Rattle.std.specs.{Prelude.{Option, Some, None, Result, Ok, Err, String}, List.Contains}
+use Rattle.std.specs.declared.alloc.Global.{Global}
+use Rattle.wax_directory.specs.{declared.directory.FileType.FileType, Answers.Opens, Law.{Law, HoldsLast}}
 use Rattle.wax_directory.specs.Shown.{Items, end, leaf, folder, sealed, misnamed, unread, not_text, Shown}
 use Rattle.wax_directory.specs.Shown.{a_leaf, a_folder, a_sealed, missing, failing, IsPlain, ShowsIn, join}
 use Rattle.wax_directory.specs.Shown.{first_item, child_shown}
-use Rattle.wax_walk.specs.declared.entry.TreeEntry.{TreeEntry}
-use Rattle.wax_walk.specs.declared.error.WalkError.{WalkError}
+use Rattle.wax_walk.specs.{declared.entry.TreeEntry.TreeEntry, declared.error.WalkError.WalkError}
 use Rattle.wax_walk.specs.declared.error.FaultKind.TheVariants.{Listing}
 use Rattle.wax_walk.specs.Forest.{Forest, nothing, item, lists, followed_by, Pending, pending, all_pending}
-use Rattle.wax_walk.specs.Forest.{FirstIs, IsListed, listed_next}
-use Rattle.wax_walk.specs.Given.{Given, fault}
+use Rattle.wax_walk.specs.{Forest.{FirstIs, IsListed, listed_next}, Given.{Given, fault}}
 use Rattle.wax_walk.specs.View.{GivesOrStops, lacks_memory, over_budget, gives, IsLast}
-use Rattle.wax_tree.specs.declared.location.Location as code
-use Rattle.wax_tree.specs.declared.steps.OpenFolder.{OpenFolder}
-use Rattle.wax_tree.specs.declared.steps.StartPoint.{StartPoint}
-use Rattle.wax_tree.specs.declared.steps.Steps.{Steps}
-use Rattle.wax_tree.specs.declared.steps.Step.{Step}
+use Rattle.wax_tree.specs.{declared.steps.OpenFolder.OpenFolder, declared.steps.StartPoint.StartPoint}
+use Rattle.wax_tree.specs.{declared.steps.Steps.Steps, declared.steps.Step.Step}
 use Rattle.wax_tree.specs.declared.steps.Step.TheVariants.{Gives, GoesOn, Ends}
-use Rattle.wax_tree.proofs.Lead.{after_listing, ListsBetween}
 use Rattle.wax_tree.specs.Plain.{Location, count, count_shown, below_forest, entry_forest, plain_entry}
-use Rattle.wax_tree.specs.Plain.{items_forest}
+use Rattle.wax_tree.specs.Plain.{items_forest, HasKind, IsFolder, item_location, one_deeper}
 use Rattle.wax_tree.specs.Prefix.{ArePlain, from_last, walk_from}
-use Rattle.wax_tree.specs.Walking.{IsAlone, tree_given, entered_forest}
-use Rattle.wax_tree.specs.Plain.{HasKind, IsFolder, item_location, one_deeper}
-use Rattle.wax_tree.specs.Walking.{located, scope_of, cursors_of, allowance}
-use Rattle.wax_tree.specs.Walking.{Rest, FirstShows, EnteredShows, LevelsShow, AtRest}
-use Rattle.wax_tree.specs.Walking.{PlainToCome, WereListed, steps_view, MovesOn}
-use Rattle.wax_tree.specs.Stepping.{StepIs, IsPopped}
-use Rattle.wax_tree.specs.Stepping.{listing_pending, IncreasesBy, WeaklyDecreases}
+use Rattle.wax_tree.specs.Walking.{IsAlone, tree_given, entered_forest, located, scope_of, cursors_of}
+use Rattle.wax_tree.specs.Walking.{allowance, Rest, FirstShows, EnteredShows, LevelsShow, AtRest, PlainToCome}
+use Rattle.wax_tree.specs.Walking.{WereListed, steps_view, MovesOn}
+use Rattle.wax_tree.specs.Stepping.{StepIs, IsPopped, listing_pending, IncreasesBy, WeaklyDecreases}
 use Rattle.wax_tree.specs.Stepping.{items_left, steps_left}
+use Rattle.wax_tree.proofs.Lead.{after_listing, ListsBetween}
 use Rattle.wax_tree.proofs.Showing.{silent, in_range, from_last_end, follows_folder, child_counts}
-use Rattle.wax_tree.proofs.Resting.{comes_after, comes_rest, rest_pushed}
-use Rattle.wax_tree.proofs.Resting.{levels_popped, levels_none, cursors_pushed, listed_popped}
+use Rattle.wax_tree.proofs.Resting.{comes_after, comes_rest, rest_pushed, levels_popped, levels_none}
+use Rattle.wax_tree.proofs.Resting.{cursors_pushed, listed_popped}
+use Rattle.wax_directory.specs.declared.directory.FileType.TheVariants as F
+use Rattle.wax_directory.specs.declared.directory.DirectoryFault.TheVariants as Fault_of
+use Rattle.wax_tree.specs.declared.location.Location as code
 
 module _ {D C : Type 0} (law : Law D C) where
   -- an entry below the least depth isn't given

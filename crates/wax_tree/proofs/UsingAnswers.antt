@@ -1,36 +1,27 @@
 -- What steps count, take and end.
 use Rattle.std.proofs.Common.{◌≡◌, ℕ, ◌+◌, ◌<◌, ◌≤◌, Bool, true, false, cond, refl, sym, ap, subst, ◌∙◌}
-use Rattle.std.proofs.Common.{arith, inl, inr}
-use Rattle.std.proofs.Common.{List, [], ◌∷◌, ◌++◌}
-use Rattle.std.specs.Prelude.{Option, Some, None, Result, Ok, Err}
-use Rattle.std.specs.List.{Contains}
+use Rattle.std.proofs.Common.{arith, inl, inr, List, [], ◌∷◌, ◌++◌}
 use Rattle.std.proofs.lemmas.List.Elements.{Contains-append_left}
-use Rattle.wax_directory.specs.Counting.{Counts, no_counts, grown, kind_counts}
-use Rattle.wax_directory.specs.Law.{Law}
-use Rattle.wax_directory.specs.declared.tally.Tally.{Tally}
+use Rattle.std.specs.{Prelude.{Option, Some, None, Result, Ok, Err}, List.Contains}
+use Rattle.wax_directory.specs.{Counting.{Counts, no_counts, grown, kind_counts}, Law.Law}
+use Rattle.wax_directory.specs.{declared.tally.Tally.Tally, declared.directory.FileType.FileType}
 use Rattle.wax_walk.specs.declared.error.WalkError.TheVariants.{Memory}
-use Rattle.wax_walk.specs.Forest.{Forest, nothing, item, pending, Pending, all_pending, FirstIs}
-use Rattle.wax_walk.specs.Forest.{IsListed, listed_next}
-use Rattle.wax_directory.specs.declared.directory.FileType.{FileType}
-use Rattle.wax_directory.specs.declared.directory.FileType.TheVariants as F
-use Rattle.wax_walk.specs.declared.error.WalkError.{WalkError}
-use Rattle.wax_walk.specs.declared.entry.TreeEntry.{TreeEntry}
-use Rattle.wax_walk.specs.Given.{Facts, Given, entry, fault, no_memory}
+use Rattle.wax_walk.specs.Forest.{Forest, nothing, item, pending, Pending, all_pending, FirstIs, IsListed}
+use Rattle.wax_walk.specs.{Forest.listed_next, declared.error.WalkError.WalkError}
+use Rattle.wax_walk.specs.{declared.entry.TreeEntry.TreeEntry, Given.{Facts, Given, entry, fault, no_memory}}
 use Rattle.wax_walk.specs.declared.error.FaultKind.TheVariants.{Budget}
 use Rattle.wax_walk.specs.View.{IsLast, IsMisplaced, Takes, fault_counts, CountsFaults, GivesOrStops}
-use Rattle.wax_walk.specs.View.{is_above}
-use Rattle.wax_walk.specs.View.{lacks_memory, over_budget, gives, items_lost, how_many, IsMemoryError}
-use Rattle.wax_walk.specs.View.{opens_one}
-use Rattle.wax_tree.specs.declared.steps.Steps.{Steps}
-use Rattle.wax_tree.specs.declared.steps.Step.{Step}
+use Rattle.wax_walk.specs.View.{is_above, lacks_memory, over_budget, gives, items_lost, how_many}
+use Rattle.wax_walk.specs.View.{IsMemoryError, opens_one}
+use Rattle.wax_tree.specs.{declared.steps.Steps.Steps, declared.steps.Step.Step}
 use Rattle.wax_tree.specs.declared.steps.Step.TheVariants.{Gives, GoesOn, Ends}
 use Rattle.wax_tree.specs.Stepping.{IsCounted, Asked, UsesAnswer, nothing_asked, StepAnswers, StepIs}
 use Rattle.wax_tree.specs.Walking.{step_given, tree_given, names_left, allowance, Rest, AtRest, PlainToCome}
 use Rattle.wax_tree.specs.Walking.{steps_view, open_lists, begins, entering, entering_after, if_some}
-use Rattle.wax_tree.specs.declared.location.Location as code
 use Rattle.wax_tree.specs.declared.steps.StartPoint.{StartPoint}
-use Rattle.wax_tree.proofs.Resting.{comes_ended}
-use Rattle.wax_tree.proofs.Stepping.{gives_fault}
+use Rattle.wax_tree.proofs.{Resting.comes_ended, Stepping.gives_fault}
+use Rattle.wax_directory.specs.declared.directory.FileType.TheVariants as F
+use Rattle.wax_tree.specs.declared.location.Location as code
 
 same_first : (then : Pending Given → Type 0) (p q : Pending Given) (n : ℕ) (r : Option Given)
     → all_pending p ≡ all_pending q → p.listed ≡ q.listed → FirstIs then (all_pending q) q.listed n r

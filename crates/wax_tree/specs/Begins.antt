@@ -1,20 +1,15 @@
 -- What is to come of a walk when it begins.
 use Rattle.std.specs.Prelude.{◌≡◌, ◌<◌, ◌≤◌, ◌⊎◌, length, ◌+◌, ◌-◌, ◌^◌, ℕ, List, [], ◌++◌, Option, Some}
-use Rattle.std.specs.Prelude.{None}
-use Rattle.std.specs.Iterator.{Count, IsFinite, size}
-use Rattle.wax_tree.specs.declared.behavior.WalkBehavior.{WalkBehavior}
-use Rattle.wax_tree.specs.Depths.{least, greatest}
-use Rattle.wax_directory.specs.Law.{Law}
-use Rattle.wax_directory.specs.Shown.{Shown}
+use Rattle.std.specs.{Prelude.None, Iterator.{Count, IsFinite, size}}
+use Rattle.wax_tree.specs.{declared.behavior.WalkBehavior.WalkBehavior, Depths.{least, greatest}}
 use Rattle.wax_tree.specs.declared.steps.DepthRange.{DepthRange}
 use Rattle.wax_tree.specs.Plain.{Location, WalkScope, plain, count_shown}
 use Rattle.wax_tree.specs.Prefix.{ArePlain, path_from, walk_from}
-use Rattle.wax_walk.specs.Forest.{Pending, pending, nothing}
-use Rattle.wax_walk.specs.Course.{Course, all_ahead, stop, yields}
-use Rattle.wax_walk.specs.Course as course
-use Rattle.wax_walk.specs.Given.{Given, no_memory}
-use Rattle.wax_walk.specs.View.{MayTake, WalkView, is_above}
 use Rattle.wax_tree.specs.Courses.{AlongComes, IsNamed, plain_course}
+use Rattle.wax_directory.specs.{Law.Law, Shown.Shown}
+use Rattle.wax_walk.specs.{Forest.{Pending, pending, nothing}, Course.{Course, all_ahead, stop, yields}}
+use Rattle.wax_walk.specs.{Given.{Given, no_memory}, View.{MayTake, WalkView, is_above}}
+use Rattle.wax_walk.specs.Course as course
 
 -- the greatest depth; if there is no bound, the greatest `usize`
 abbrev pub or_greatest : Option ℕ → ℕ

@@ -1,18 +1,16 @@
 -- The course of the plain walk of a tree, and what may be ahead of a walk by its state.
 use Rattle.std.specs.Prelude.{◌≡◌, ℕ, ◌+◌, ◌-◌, ◌^◌, min, cond, nat_lt, List, [], ◌∷◌, ⊤}
 use Rattle.wax_directory.specs.declared.directory.FileType.{FileType}
-use Rattle.wax_directory.specs.declared.directory.FileType.TheVariants as F
 use Rattle.wax_directory.specs.History.{absent, at_end, found, listed, opened, refused, unseen}
 use Rattle.wax_directory.specs.Shown.{IsPlain, Items, Shown, a_folder, a_leaf, a_sealed, child_in, end}
 use Rattle.wax_directory.specs.Shown.{failing, folder, join, leaf, leaf_kind, misnamed, missing, named}
-use Rattle.wax_directory.specs.Shown.{no_item, no_name}
-use Rattle.wax_directory.specs.Shown.{not_text, sealed, unread}
+use Rattle.wax_directory.specs.Shown.{no_item, no_name, not_text, sealed, unread}
 use Rattle.wax_walk.specs.Course.{Course, asks, call, continued, stop, yields}
 use Rattle.wax_walk.specs.declared.error.FaultKind.TheVariants.{BadName, Listing, NotAFolder, NotFound}
-use Rattle.wax_walk.specs.declared.error.FaultKind.TheVariants.{NotText}
-use Rattle.wax_walk.specs.Given.{Given, fault}
-use Rattle.wax_tree.specs.Plain.{HasKind, Location, WalkScope, item_location, one_deeper}
-use Rattle.wax_tree.specs.Plain.{plain_entry, start_location}
+use Rattle.wax_walk.specs.{declared.error.FaultKind.TheVariants.NotText, Given.{Given, fault}}
+use Rattle.wax_tree.specs.Plain.{HasKind, Location, WalkScope, item_location, one_deeper, plain_entry}
+use Rattle.wax_tree.specs.Plain.{start_location}
+use Rattle.wax_directory.specs.declared.directory.FileType.TheVariants as F
 
 -- the entries of a folder have names that a path can hold, the misnamed items have none, at all depths
 abbrev pub AreNamed : Items → Type 0

@@ -3,10 +3,8 @@ use Rattle.std.specs.Prelude.{◌≡◌, ℕ, ◌+◌, List, [], ◌∷◌, ◌+
 use Rattle.wax_directory.specs.Shown.{IsNew, Items, Shown, a_leaf, a_folder, a_sealed, child_in, end, failing}
 use Rattle.wax_directory.specs.Shown.{folder, join, leaf, misnamed, missing, not_text, sealed, unread}
 use Rattle.wax_walk.specs.declared.error.FaultKind.TheVariants.{NotFound, NotAFolder, Listing}
-use Rattle.wax_walk.specs.Forest.{Forest, nothing, item}
-use Rattle.wax_walk.specs.Given.{Given, fault}
-use Rattle.wax_tree.specs.Plain.{WalkScope, Location, plain_at}
-use Rattle.wax_tree.specs.Prefix.{path_from, walk_from}
+use Rattle.wax_walk.specs.{Forest.{Forest, nothing, item}, Given.{Given, fault}}
+use Rattle.wax_tree.specs.{Plain.{WalkScope, Location, plain_at}, Prefix.{path_from, walk_from}}
 
 -- the names lead through folders, from what is shown to this
 abbrev pub NamesLead : Shown → List (List ℕ) → Shown → Type 0

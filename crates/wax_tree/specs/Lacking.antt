@@ -1,12 +1,9 @@
 -- A walk for whose start allocation may have failed.
 use Rattle.std.specs.Prelude.{◌≡◌, ◌⊎◌, ℕ, ◌+◌, Bool, cond, true, false}
 use Rattle.wax_directory.specs.Law.{Law}
-use Rattle.wax_walk.specs.Forest.{Pending}
-use Rattle.wax_walk.specs.Course.{Ahead, IsStartOf, stop, yields}
-use Rattle.wax_walk.specs.Given.{Given, no_memory}
+use Rattle.wax_walk.specs.{Forest.Pending, Course.{Ahead, IsStartOf, stop, yields}, Given.{Given, no_memory}}
 use Rattle.wax_walk.specs.View.{WalkView, is_above}
-use Rattle.wax_tree.specs.declared.walk_tree.WalkTree.{WalkTree}
-use Rattle.wax_tree.specs.Reaching.{MayFailAt, MayFailBelow}
+use Rattle.wax_tree.specs.{declared.walk_tree.WalkTree.WalkTree, Reaching.{MayFailAt, MayFailBelow}}
 use Rattle.wax_tree.specs.Stepping.{items_left}
 use Rattle.wax_tree.specs.Walking.{PlainToCome, HasStopped, allowance, names_left, begins, open_lists}
 use Rattle.wax_tree.specs.Walking.{MayBeAhead, entering}

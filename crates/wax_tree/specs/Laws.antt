@@ -1,8 +1,6 @@
 -- Proofs of laws that impls cite.
 use Rattle.std.specs.Prelude.{◌≡◌, ℕ, Bool, List}
-use Rattle.wax_walk.specs.Laws.{ruled_cancelling}
-use Rattle.wax_walk.specs.Ruled.{ruled_view}
-use Rattle.wax_walk.specs.View.{WalkView, CancelStep}
+use Rattle.wax_walk.specs.{Laws.ruled_cancelling, Ruled.ruled_view, View.{WalkView, CancelStep}}
 use Rattle.wax_tree.specs.Programs.{leading_mark}
 
 module _ {D C P : Type 0} (v w : WalkView D) (tests : C → List ℕ → Bool) (decides : P → List ℕ → Bool) where

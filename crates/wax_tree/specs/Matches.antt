@@ -3,12 +3,9 @@ use Rattle.std.specs.Prelude.{ℕ, List, Option, Some, None, Result, Ok, Err, ch
 use Rattle.wax_query.specs.Matched.{MatchedView, IsMatchOf}
 use Rattle.wax_filter.specs.declared.filter.separation.Separation.{Separation}
 use Rattle.wax_filter.specs.declared.filter.separation.Separation.TheVariants.{Filtrate, Residue}
-use Rattle.wax_filter.specs.declared.filter.tree_residue.TreeResidue.{TreeResidue}
-use Rattle.wax_filter.specs.Leaving.{residue_item}
-use Rattle.wax_walk.specs.declared.entry.TreeEntry.{TreeEntry}
-use Rattle.wax_walk.specs.declared.error.WalkError.{WalkError}
-use Rattle.wax_walk.specs.Entries.{facts_of}
-use Rattle.wax_walk.specs.Given.{Facts}
+use Rattle.wax_filter.specs.{declared.filter.tree_residue.TreeResidue.TreeResidue, Leaving.residue_item}
+use Rattle.wax_walk.specs.{declared.entry.TreeEntry.TreeEntry, declared.error.WalkError.WalkError}
+use Rattle.wax_walk.specs.{Entries.facts_of, Given.Facts}
 use Rattle.wax_tree.specs.declared.glob_walk.entry.GlobEntry.{GlobEntry}
 
 -- the entry as one of a plain walk, and what was captured of it

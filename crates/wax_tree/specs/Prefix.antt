@@ -4,8 +4,7 @@ use Rattle.std.specs.declared.alloc.Global.{Global}
 use Rattle.wax_directory.specs.Shown.{Shown, a_leaf, a_folder, a_sealed, missing, failing, IsPlain, join}
 use Rattle.wax_directory.specs.Shown.{child_in}
 use Rattle.wax_walk.specs.declared.error.FaultKind.TheVariants.{NotFound, NotAFolder, Listing}
-use Rattle.wax_walk.specs.Forest.{Forest, nothing, item}
-use Rattle.wax_walk.specs.Given.{Given, fault}
+use Rattle.wax_walk.specs.{Forest.{Forest, nothing, item}, Given.{Given, fault}}
 use Rattle.wax_tree.specs.Plain.{WalkScope, Location, item_location, one_deeper, plain_at}
 
 -- names that paths can hold

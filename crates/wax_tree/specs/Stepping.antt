@@ -1,30 +1,19 @@
 -- What a step of a walk does.
 use Rattle.std.specs.Prelude.{◌≡◌, ℕ, ◌+◌, ◌-◌, ◌*◌, ◌<◌, ◌≤◌, ◌⊎◌, true, false, cond, length, Option, Some}
-use Rattle.std.specs.Prelude.{None, List, [], ◌++◌, string_bytes, ⊤}
-use Rattle.std.specs.List.{Contains}
-use Rattle.wax_directory.specs.Counting.{no_counts}
-use Rattle.wax_directory.specs.declared.tally.Tally.{Tally}
-use Rattle.wax_directory.specs.Law.{Law, HoldsLast}
-use Rattle.wax_directory.specs.Shown.{IsPlain, Items, Shown, ShowsIn}
-use Rattle.wax_directory.specs.declared.directory.ListItem.{ListItem}
-use Rattle.wax_directory.specs.declared.directory.ListItem.TheVariants as I
+use Rattle.std.specs.{Prelude.{None, List, [], ◌++◌, string_bytes, ⊤}, List.Contains}
+use Rattle.wax_directory.specs.{Counting.no_counts, declared.tally.Tally.Tally, Law.{Law, HoldsLast}}
+use Rattle.wax_directory.specs.{Shown.{IsPlain, Items, Shown, ShowsIn}, declared.directory.ListItem.ListItem}
+use Rattle.wax_directory.specs.declared.directory.FileType.{FileType}
 use Rattle.wax_walk.specs.Course.{Ahead, DirectoryCall, Course, CutsShort, all_ahead, answers, asking}
-use Rattle.wax_walk.specs.Course.{continued, stop}
-use Rattle.wax_walk.specs.Course.{yields}
+use Rattle.wax_walk.specs.Course.{continued, stop, yields}
 use Rattle.wax_walk.specs.declared.error.FaultKind.TheVariants.{BadName, Listing, NotText}
 use Rattle.wax_walk.specs.Forest.{Forest, nothing, followed_by, Pending, pending}
-use Rattle.wax_walk.specs.Given.{Facts, Given, fault}
-use Rattle.wax_walk.specs.Opened.{items_listed}
+use Rattle.wax_walk.specs.{Given.{Facts, Given, fault}, Opened.items_listed}
 use Rattle.wax_walk.specs.View.{WalkView, Accounts, GivesOrStops, IsLast, IsMisplaced, Takes, is_above}
 use Rattle.wax_walk.specs.View.{fault_counts, IsErrorAt, IsFolderAt, items_lost, how_many, IsMemoryError}
 use Rattle.wax_walk.specs.View.{opens_one}
-use Rattle.wax_directory.specs.declared.directory.FileType.{FileType}
-use Rattle.wax_directory.specs.declared.directory.FileType.TheVariants as F
-use Rattle.wax_tree.specs.declared.location.Location as code
-use Rattle.wax_tree.specs.declared.steps.OpenFolder.{OpenFolder}
-use Rattle.wax_tree.specs.declared.steps.StartPoint.{StartPoint}
-use Rattle.wax_tree.specs.declared.steps.Step.{Step}
-use Rattle.wax_tree.specs.declared.steps.Step.TheVariants.{Gives, GoesOn, Ends}
+use Rattle.wax_tree.specs.{declared.steps.OpenFolder.OpenFolder, declared.steps.StartPoint.StartPoint}
+use Rattle.wax_tree.specs.{declared.steps.Step.Step, declared.steps.Step.TheVariants.{Gives, GoesOn, Ends}}
 use Rattle.wax_tree.specs.declared.steps.Steps.{Steps}
 use Rattle.wax_tree.specs.Courses.{AreNamed, FoundComes, IsNamed, entered_course, items_course}
 use Rattle.wax_tree.specs.Plain.{IsFolder, WalkScope, Location, item_location, items_forest, one_deeper}
@@ -33,6 +22,9 @@ use Rattle.wax_tree.specs.Reaching.{FolderSet, LeadsUnseen, OfEntered, ReachesFr
 use Rattle.wax_tree.specs.Walking.{if_some, step_given, cursors_of, Rest, HasStopped, allowance, names_left}
 use Rattle.wax_tree.specs.Walking.{ComesAhead, LevelsCome, entry_location, located, scope_of, tree_given}
 use Rattle.wax_tree.specs.Walking.{AtRest, PlainToCome, steps_view, MovesOn, open_lists, entering, begins}
+use Rattle.wax_directory.specs.declared.directory.ListItem.TheVariants as I
+use Rattle.wax_directory.specs.declared.directory.FileType.TheVariants as F
+use Rattle.wax_tree.specs.declared.location.Location as code
 
 -- the misses, failures and bad names of k are those of n, and those of at most `lost` items besides; n has no
 -- more leaves

@@ -1,19 +1,15 @@
 -- Proofs of the laws of the plain walk.
 use Rattle.std.proofs.Common.{◌≡◌, ◌≤◌, refl, sym, ap, subst, ◌∙◌, arith, inl, inr}
 use Rattle.std.specs.Prelude.{Option, Some, None, Bool, true, false, cond}
-use Rattle.wax_tree.specs.declared.steps.StartPoint.{StartPoint}
-use Rattle.wax_directory.specs.Law.{Law}
-use Rattle.wax_tree.specs.declared.steps.Steps.{Steps}
+use Rattle.wax_tree.specs.{declared.steps.StartPoint.StartPoint, declared.steps.Steps.Steps}
 use Rattle.wax_tree.specs.declared.walk_tree.WalkTree.{WalkTree}
 use Rattle.wax_tree.specs.Lacking.{AheadUnlessLacking, MayCome, lacks, goes, tree_view, gives_at_most}
-use Rattle.wax_tree.specs.declared.location.Location as code
 use Rattle.wax_tree.specs.Walking.{AheadUnless, EnteredComes, GoesAhead, HasStopped, IsAlone, MayBeAhead}
 use Rattle.wax_tree.specs.Walking.{PlainToCome, entering_after, scope_of}
-use Rattle.wax_directory.specs.Shown.{a_sealed}
+use Rattle.wax_directory.specs.{Law.Law, Shown.a_sealed}
 use Rattle.wax_walk.specs.Course.{Ahead, IsStartOf, Course, IsNothing, ahead, stop, unknown}
-use Rattle.wax_walk.specs.Forest.{Pending, cancelled}
-use Rattle.wax_walk.specs.Given.{Given}
-use Rattle.wax_walk.specs.View.{CancelStep}
+use Rattle.wax_walk.specs.{Forest.{Pending, cancelled}, Given.Given, View.CancelStep}
+use Rattle.wax_tree.specs.declared.location.Location as code
 
 none_entered : (b : Bool) (f : Option StartPoint) → cond b 0 (entering_after f None) ≡ 0
 none_entered true f = refl

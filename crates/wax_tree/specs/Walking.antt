@@ -1,26 +1,19 @@
 -- What is to come of a walk, by its state.
-use Rattle.std.specs.Prelude.{◌≡◌, ℕ, ◌+◌, ◌-◌, ◌^◌, ◌≤◌, Bool, true, false, cond, length, map, List, []}
-use Rattle.std.specs.Prelude.{◌∷◌, ◌++◌, Option, Some, None, Result, ◌⊎◌, ⊤}
-use Rattle.std.specs.List.{Contains}
-use Rattle.wax_directory.specs.Law.{Law}
-use Rattle.wax_directory.specs.Shown.{Items, Shown, a_folder, ShowsIn}
-use Rattle.wax_walk.specs.declared.error.WalkError.{WalkError}
-use Rattle.wax_walk.specs.declared.entry.TreeEntry.{TreeEntry}
+use Rattle.std.specs.Prelude.{◌≡◌, ℕ, ◌+◌, ◌-◌, ◌^◌, ◌≤◌, Bool, true, false, cond, length, map, List, [], ◌∷◌}
+use Rattle.std.specs.{Prelude.{◌++◌, Option, Some, None, Result, ◌⊎◌, ⊤}, List.Contains}
+use Rattle.wax_directory.specs.{Law.Law, Shown.{Items, Shown, a_folder, ShowsIn}}
+use Rattle.wax_walk.specs.{declared.error.WalkError.WalkError, declared.entry.TreeEntry.TreeEntry}
 use Rattle.wax_walk.specs.Entries.{facts_of, given_outcome}
 use Rattle.wax_walk.specs.Forest.{Forest, nothing, lists, followed_by, Pending, all_pending}
-use Rattle.wax_walk.specs.Given.{Facts, Given}
-use Rattle.wax_walk.specs.Course.{Ahead, IsStartOf, Course, ahead, continued, stop}
+use Rattle.wax_walk.specs.{Given.{Facts, Given}, Course.{Ahead, IsStartOf, Course, ahead, continued, stop}}
 use Rattle.wax_walk.specs.View.{WalkView, is_above}
 use Rattle.wax_tree.specs.Courses.{AlongComes, AreNamed, IsNamed, entered_course, items_course}
-use Rattle.wax_tree.specs.declared.location.Location as code
-use Rattle.wax_tree.specs.declared.steps.OpenFolder.{OpenFolder}
-use Rattle.wax_tree.specs.declared.steps.StartPoint.{StartPoint}
-use Rattle.wax_tree.specs.declared.steps.Step.{Step}
-use Rattle.wax_tree.specs.declared.steps.Step.TheVariants.{Gives}
+use Rattle.wax_tree.specs.{declared.steps.OpenFolder.OpenFolder, declared.steps.StartPoint.StartPoint}
+use Rattle.wax_tree.specs.{declared.steps.Step.Step, declared.steps.Step.TheVariants.Gives}
 use Rattle.wax_tree.specs.declared.steps.Steps.{Steps}
 use Rattle.wax_tree.specs.Plain.{IsFolder, WalkScope, Location, count, count_shown, items_forest, unlisted}
-use Rattle.wax_tree.specs.Prefix.{ArePlain, from_last, walk_from}
-use Rattle.wax_tree.specs.Reaching.{MayFailAt, MayFailBelow}
+use Rattle.wax_tree.specs.{Prefix.{ArePlain, from_last, walk_from}, Reaching.{MayFailAt, MayFailBelow}}
+use Rattle.wax_tree.specs.declared.location.Location as code
 
 abbrev pub if_some : {A : Type 0} → Option A → ℕ → ℕ
 if_some None n = 0

@@ -1,24 +1,20 @@
 -- The whole plain walk, of all depths, and what a walk of some depths yields of it.
-use Rattle.std.specs.Prelude.{◌≡◌, ℕ, ◌+◌, ◌-◌, ◌<◌, ◌≤◌, Bool, false, ◌&&◌, not, nat_lt, filter, List}
-use Rattle.std.specs.Prelude.{[], ◌∷◌, ◌++◌}
+use Rattle.std.specs.Prelude.{◌≡◌, ℕ, ◌+◌, ◌-◌, ◌<◌, ◌≤◌, Bool, false, ◌&&◌, not, nat_lt, filter, List, []}
+use Rattle.std.specs.Prelude.{◌∷◌, ◌++◌}
 use Rattle.wax_directory.specs.declared.directory.FileType.TheVariants.{Folder}
 use Rattle.wax_directory.specs.Shown.{Items, end, leaf, folder, sealed, misnamed, unread, not_text, Shown}
 use Rattle.wax_directory.specs.Shown.{a_leaf, a_folder, a_sealed, missing, failing, leaf_kind, join, child_in}
-use Rattle.wax_tree.specs.declared.steps.DepthRange.{DepthRange}
-use Rattle.wax_tree.specs.Begins.{scope_in}
-use Rattle.wax_tree.specs.Plain.{Location, start_location, item_location, one_deeper, count_shown, plain}
-use Rattle.wax_tree.specs.Plain.{plain_entry}
 use Rattle.wax_directory.specs.History.{Answer}
-use Rattle.wax_tree.specs.Courses.{IsNamed, plain_course}
+use Rattle.wax_tree.specs.{declared.steps.DepthRange.DepthRange, Begins.scope_in}
+use Rattle.wax_tree.specs.Plain.{Location, start_location, item_location, one_deeper, count_shown, plain}
+use Rattle.wax_tree.specs.{Plain.plain_entry, Courses.{IsNamed, plain_course}}
 use Rattle.wax_walk.specs.Collected.{IsCutShort}
 use Rattle.wax_walk.specs.Course.{Course, CutsShort, DirectoryCall, IsKnownFirst, IsStartOf, answers}
-use Rattle.wax_walk.specs.Course.{calls_of}
-use Rattle.wax_walk.specs.Course.{items_of}
+use Rattle.wax_walk.specs.Course.{calls_of, items_of}
 use Rattle.wax_walk.specs.declared.error.FaultKind.TheVariants.{NotFound, NotAFolder, Listing, BadName}
 use Rattle.wax_walk.specs.declared.error.FaultKind.TheVariants.{NotText, Budget}
 use Rattle.wax_walk.specs.Forest.{Pending, listings, nothing, pending}
-use Rattle.wax_walk.specs.Given.{Given, entry, fault, no_memory}
-use Rattle.wax_walk.specs.Opened.{items_listed, opened_folders}
+use Rattle.wax_walk.specs.{Given.{Given, entry, fault, no_memory}, Opened.{items_listed, opened_folders}}
 
 -- what is to come of a plain walk from a start where s is shown
 abbrev pub plain_pending : DepthRange → List ℕ → Shown → List (List ℕ) → Pending Given

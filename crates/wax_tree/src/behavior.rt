@@ -1,10 +1,10 @@
 //! How far a walk goes: the depths of what it yields, and how many items it takes.
 ghost use Rattle.std.specs.Prelude.{◌≡◌, ℕ, Option, Some, MatchOption, min, max};
 ghost use Rattle.std.specs.Int.NonZero.{non_zero_usize_get};
-ghost use Rattle.wax_tree.specs.Depths.{HasBounds, IsPast, IsUnbounded, IsUnboundedAt, behavior_at};
-ghost use Rattle.wax_tree.specs.Depths.{greatest, least, no_bound, raised};
-ghost use Rattle.wax_query.specs.Ranges.{bounds};
+ghost use Rattle.wax_tree.specs.Depths.{HasBounds, IsPast, IsUnbounded, IsUnboundedAt, behavior_at, greatest};
+ghost use Rattle.wax_tree.specs.Depths.{least, no_bound, raised};
 ghost use Rattle.wax_tree.specs.declared.behavior.DepthBehavior.TheVariants.{Unbounded, MinMax};
+ghost use Rattle.wax_query.specs.Ranges.{bounds};
 
 use std::num::NonZeroUsize;
 use wax_query::query::DepthVariance;
@@ -43,8 +43,7 @@ impl From<DepthMin> for NonZeroUsize {
 }
 
 impl TryFrom<usize> for DepthMin {
-    ghost use Rattle.std.specs.Prelude.{MatchResult};
-    ghost use Rattle.std.specs.Int.NonZero.{non_zero_usize_get};
+    ghost use Rattle.std.specs.{Prelude.MatchResult, Int.NonZero.non_zero_usize_get};
 
     type Error = ();
 
@@ -306,8 +305,7 @@ impl From<DepthBehavior> for WalkBehavior {
 }
 
 impl From<DepthMin> for WalkBehavior {
-    ghost use Rattle.wax_tree.specs.Depths.{behavior_at};
-    ghost use Rattle.wax_tree.specs.declared.behavior.DepthBehavior.TheVariants.{Min};
+    ghost use Rattle.wax_tree.specs.{Depths.behavior_at, declared.behavior.DepthBehavior.TheVariants.Min};
 
     ghost from_gives = { λ d r. r ≡ behavior_at (Min d) };
 
@@ -317,8 +315,7 @@ impl From<DepthMin> for WalkBehavior {
 }
 
 impl From<DepthMax> for WalkBehavior {
-    ghost use Rattle.wax_tree.specs.Depths.{behavior_at};
-    ghost use Rattle.wax_tree.specs.declared.behavior.DepthBehavior.TheVariants.{Max};
+    ghost use Rattle.wax_tree.specs.{Depths.behavior_at, declared.behavior.DepthBehavior.TheVariants.Max};
 
     ghost from_gives = { λ d r. r ≡ behavior_at (Max d) };
 
@@ -328,8 +325,7 @@ impl From<DepthMax> for WalkBehavior {
 }
 
 impl From<DepthMinMax> for WalkBehavior {
-    ghost use Rattle.wax_tree.specs.Depths.{behavior_at};
-    ghost use Rattle.wax_tree.specs.declared.behavior.DepthBehavior.TheVariants.{MinMax};
+    ghost use Rattle.wax_tree.specs.{Depths.behavior_at, declared.behavior.DepthBehavior.TheVariants.MinMax};
 
     ghost from_gives = { λ d r. r ≡ behavior_at (MinMax d) };
 

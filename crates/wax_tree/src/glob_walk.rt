@@ -1,17 +1,12 @@
 //! The walk of a glob.
 
-ghost use Rattle.std.specs.Prelude.{◌≡◌, IfOk, OnErr, chars, false, true};
-ghost use Rattle.std.specs.Iterator.{IsFinite};
+ghost use Rattle.std.specs.{Prelude.{◌≡◌, IfOk, OnErr, chars, false, true}, Iterator.IsFinite};
 ghost use Rattle.wax_query.specs.Matched.{IsMatchOf};
 ghost use Rattle.wax_filter.specs.Feeding.{NextFiltrate};
-ghost use Rattle.wax_tree.specs.Matches.{IsMatchedEntry, glob_facts, shown_entry};
-ghost use Rattle.wax_tree.specs.Programs.{leading_mark};
-ghost use Rattle.wax_walk.specs.Candidates.{of_candidate};
-ghost use Rattle.wax_walk.specs.Entries.{given_of, facts_of};
+ghost use Rattle.wax_tree.specs.{Matches.{IsMatchedEntry, glob_facts, shown_entry}, Programs.leading_mark};
+ghost use Rattle.wax_walk.specs.{Candidates.of_candidate, Entries.{given_of, facts_of}};
+ghost use Rattle.wax_walk.specs.{Known.{KnownItem, StaysKnown}, Ruled.ruled_view, View.IsSeenAs};
 ghost use Rattle.wax_walk.specs.Given as G;
-ghost use Rattle.wax_walk.specs.Known.{KnownItem, StaysKnown};
-ghost use Rattle.wax_walk.specs.Ruled.{ruled_view};
-ghost use Rattle.wax_walk.specs.View.{IsSeenAs};
 
 use crate::glob_walk::leading::names_may_match;
 use crate::walk_tree::WalkTree;
@@ -210,9 +205,7 @@ where
     C: NameTest,
 {
     ghost use Rattle.wax_tree.specs.Matches.{IsMatchedEntry, glob_facts};
-    ghost use Rattle.wax_walk.specs.Entries.{answer_of, facts_of};
-    ghost use Rattle.wax_walk.specs.Known.{KeepsKnown};
-    ghost use Rattle.wax_walk.specs.View.{FeedStep};
+    ghost use Rattle.wax_walk.specs.{Entries.{answer_of, facts_of}, Known.KeepsKnown, View.FeedStep};
 
     type Feed = GlobFeed;
 
@@ -280,10 +273,8 @@ where
     C: NameTest,
 {
     ghost use Rattle.std.proofs.Common.{ap, subst};
-    ghost use Rattle.wax_tree.specs.Laws.{leading_cancelling};
-    ghost use Rattle.wax_tree.specs.Matches.{IsMatchedEntry};
-    ghost use Rattle.wax_walk.specs.Entries.{facts_of};
-    ghost use Rattle.wax_walk.specs.Laws.{ruled_telling};
+    ghost use Rattle.wax_tree.specs.{Laws.leading_cancelling, Matches.IsMatchedEntry};
+    ghost use Rattle.wax_walk.specs.{Entries.facts_of, Laws.ruled_telling};
 
     type Entry = GlobEntry;
 

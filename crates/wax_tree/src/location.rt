@@ -1,8 +1,7 @@
 //! Locations of walks.
 
 ghost use Rattle.std.specs.Prelude.{◌≡◌, IfOk, string_bytes};
-ghost use Rattle.wax_tree.specs.Courses.{onward_location};
-ghost use Rattle.wax_tree.specs.Walking.{located};
+ghost use Rattle.wax_tree.specs.{Courses.onward_location, Walking.located};
 
 use std::alloc::{AllocError, Global};
 use wax_walk::WalkedPath;

@@ -1,12 +1,10 @@
 //! The plain walk as a list.
 
 ghost use Rattle.std.specs.Prelude.{◌≡◌, ◌≤◌, ◌+◌, ◌*◌, ◌++◌, List, [], ℕ, IfOk, length, map, ⊤};
-ghost use Rattle.wax_directory.specs.History.{Answer};
-ghost use Rattle.wax_directory.specs.Shown.{Shown};
+ghost use Rattle.wax_directory.specs.{History.Answer, Shown.Shown};
 ghost use Rattle.wax_tree.specs.Begins.{IsPassed, behavior_range, start_view};
 ghost use Rattle.wax_tree.specs.Whole.{plain_pending, EntriesAnswered, EntriesAre};
-ghost use Rattle.wax_walk.specs.Collected.{AreOfFolders, Took, Yielded};
-ghost use Rattle.wax_walk.specs.View.{is_above};
+ghost use Rattle.wax_walk.specs.{Collected.{AreOfFolders, Took, Yielded}, View.is_above};
 ghost use Rattle.wax_walk.specs.Entries.{given_outcome};
 
 use crate::behavior::WalkBehavior;

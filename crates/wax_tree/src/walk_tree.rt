@@ -1,13 +1,10 @@
 //! The plain walk.
 
-ghost use Rattle.std.specs.Prelude.{◌≡◌, ◌+◌, ◌*◌, IfOk, ⊤};
-ghost use Rattle.std.specs.Iterator.{at_most};
+ghost use Rattle.std.specs.{Prelude.{◌≡◌, ◌+◌, ◌*◌, IfOk, ⊤}, Iterator.at_most};
 ghost use Rattle.wax_filter.specs.Feeding.{NextFiltrate};
 ghost use Rattle.wax_tree.specs.Begins.{EndsWithin, Begins, BeginsAt, HasEnded, LacksMemory};
-ghost use Rattle.wax_tree.specs.Lacking.{tree_view, gives_at_most};
-ghost use Rattle.wax_tree.specs.Prefix.{from_last};
-ghost use Rattle.wax_walk.specs.Entries.{entry_in, facts_of, answer_of};
-ghost use Rattle.wax_walk.specs.View.{FeedStep};
+ghost use Rattle.wax_tree.specs.{Lacking.{tree_view, gives_at_most}, Prefix.from_last};
+ghost use Rattle.wax_walk.specs.{Entries.{entry_in, facts_of, answer_of}, View.FeedStep};
 
 use crate::location::Location;
 use crate::steps::{DepthRange, StartPoint, Steps};

@@ -2,19 +2,15 @@
 use Rattle.std.proofs.Common.{◌≡◌, Bool, ℕ, ◌+◌, ◌<◌, ◌≤◌, true, false, refl, sym, subst, ◌∙◌, arith, inl}
 use Rattle.std.proofs.Common.{inr, List, ap, ◌++◌}
 use Rattle.std.specs.Prelude.{Option, Some, None, ◌⊎◌}
-use Rattle.wax_directory.specs.Counting.{no_counts, plus, grown}
-use Rattle.wax_directory.specs.Law.{Law}
-use Rattle.wax_directory.specs.declared.tally.Tally.{Tally}
+use Rattle.wax_directory.specs.{Counting.{no_counts, plus, grown}, Law.Law, declared.tally.Tally.Tally}
 use Rattle.wax_walk.specs.declared.error.FaultKind.TheVariants.{NotFound, NotAFolder, Listing, BadName}
 use Rattle.wax_walk.specs.declared.error.FaultKind.TheVariants.{NotText, Budget}
 use Rattle.wax_walk.specs.Course.{DirectoryCall, answers, asking, unknown}
-use Rattle.wax_walk.specs.Given.{Facts, Given, Mark, entry, fault, no_memory, with_mark, is_cut}
-use Rattle.wax_walk.specs.Given.{kept, alone, with_tree}
-use Rattle.wax_walk.specs.View.{WalkView, CountsFaults, fault_counts, IsLast, IsMisplaced, Takes}
-use Rattle.wax_walk.specs.View.{items_lost, how_many, opens_one, IsMemoryError}
-use Rattle.wax_walk.specs.View.{Follows, MayTake, GivesOrStops, Accounts, FeedStep, IsErrorAt, IsFolderAt}
-use Rattle.wax_walk.specs.View.{MayFail, Places}
-use Rattle.wax_walk.specs.Forest.{Pending}
+use Rattle.wax_walk.specs.Given.{Facts, Given, Mark, entry, fault, no_memory, with_mark, is_cut, kept, alone}
+use Rattle.wax_walk.specs.Given.{with_tree}
+use Rattle.wax_walk.specs.View.{WalkView, CountsFaults, fault_counts, IsLast, IsMisplaced, Takes, items_lost}
+use Rattle.wax_walk.specs.View.{how_many, opens_one, IsMemoryError, Follows, MayTake, GivesOrStops, Accounts}
+use Rattle.wax_walk.specs.{View.{FeedStep, IsErrorAt, IsFolderAt, MayFail, Places}, Forest.Pending}
 use Rattle.wax_walk.specs.Opened.{items_listed}
 
 -- so many items were taken before

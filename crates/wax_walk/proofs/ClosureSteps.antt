@@ -3,15 +3,12 @@ use Rattle.std.proofs.Common.{◌≡◌, ◌∙◌, true, false, refl, sym, ap, 
 use Rattle.std.specs.Prelude.{Option, Some, None}
 use denote.Ref.{Bor}
 use Rattle.wax_directory.specs.Law.{Law}
-use Rattle.wax_walk.specs.declared.entry.TreeEntry.{TreeEntry}
-use Rattle.wax_walk.specs.declared.iterator.EntryResidue.{EntryResidue}
-use Rattle.wax_walk.specs.Forest.{cancelled}
-use Rattle.wax_walk.specs.Given.{Given, Facts, Mark, mark_by, with_mark, is_cut}
+use Rattle.wax_walk.specs.{declared.entry.TreeEntry.TreeEntry, declared.iterator.EntryResidue.EntryResidue}
+use Rattle.wax_walk.specs.{Forest.cancelled, Given.{Given, Facts, Mark, mark_by, with_mark, is_cut}}
 use Rattle.wax_walk.specs.Says.{IsMarkSaid, SaysByRule, closure_view}
 use Rattle.wax_walk.specs.View.{WalkView, FeedStep, CancelStep, GivesOrStops, opens_one}
 use Rattle.wax_walk.proofs.Accounting.{IsAsked, HasAnswered, step_ends, step_marked, opened_cut, opened_uncut}
-use Rattle.wax_walk.proofs.Accounting.{folder_uncut}
-use Rattle.wax_walk.proofs.Filtering.{layer_ends, layer_cuts, layer_passes}
+use Rattle.wax_walk.proofs.{Accounting.folder_uncut, Filtering.{layer_ends, layer_cuts, layer_passes}}
 use Rattle.wax_walk.proofs.Following.{begins_filtered, cuts_filtered, ends_filtered, passes_filtered}
 
 module _ {D C F : Type 0} (law : Law D C) (step : F → Bor TreeEntry → Option EntryResidue → F → Type 0) where

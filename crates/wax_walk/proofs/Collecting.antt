@@ -1,14 +1,11 @@
 -- A loop that takes all that a walk yields.
 use Rattle.std.proofs.Common.{◌≡◌, Bool, ℕ, ◌+◌, ◌<◌, ◌≤◌, true, false, cond, length, length-append, List, []}
 use Rattle.std.proofs.Common.{◌∷◌, ◌++◌, refl, sym, ap, subst, ◌∙◌, append_assoc, inl, inr, arith}
-use Rattle.std.specs.Prelude.{◌⊎◌, Option, Some, None, Result, Ok, Err, IfOk, filter, map}
-use Rattle.std.specs.List.{Contains}
 use Rattle.std.proofs.lemmas.List.{map-append}
 use Rattle.std.proofs.lemmas.List.Elements.{filter-append, Contains-append_left, Contains-push_cases}
 use Rattle.std.proofs.lemmas.List.Elements.{Contains-push}
-use Rattle.wax_directory.specs.Counting.{grown, plus}
-use Rattle.wax_directory.specs.Law.{Law}
-use Rattle.wax_directory.specs.declared.tally.Tally.{Tally}
+use Rattle.std.specs.{Prelude.{◌⊎◌, Option, Some, None, Result, Ok, Err, IfOk, filter, map}, List.Contains}
+use Rattle.wax_directory.specs.{Counting.{grown, plus}, Law.Law, declared.tally.Tally.Tally, History.Answer}
 use Rattle.wax_directory.proofs.Counts.{plus_assoc, plus_none}
 use Rattle.wax_filter.specs.declared.filter.separation.Separation.{Separation}
 use Rattle.wax_filter.specs.declared.filter.separation.Separation.TheVariants.{Filtrate, Residue}
@@ -18,25 +15,20 @@ use Rattle.wax_walk.specs.declared.error.WalkError.{WalkError}
 use Rattle.wax_walk.specs.declared.error.WalkError.TheVariants.{Fault, Memory}
 use Rattle.wax_walk.specs.declared.error.FaultKind.TheVariants.{NotAFolder, Budget}
 use Rattle.wax_walk.specs.Collected.{IsCutShort, Yielded, whole, Took, all_fault_counts, NoneLast}
-use Rattle.wax_walk.specs.Collected.{count_to_open}
-use Rattle.wax_walk.specs.Collected.{AreOfFolders, HasFolder, SpendsWithin, all_items_lost, NoMemoryError}
-use Rattle.wax_walk.specs.Collected as all
-use Rattle.wax_walk.specs.Entries.{given_of, given_outcome, given_residue}
+use Rattle.wax_walk.specs.Collected.{count_to_open, AreOfFolders, HasFolder, SpendsWithin, all_items_lost}
+use Rattle.wax_walk.specs.{Collected.NoMemoryError, Entries.{given_of, given_outcome, given_residue}}
 use Rattle.wax_walk.specs.Forest.{Forest, nothing, item, lists, followed_by, Pending, pending, all_pending}
 use Rattle.wax_walk.specs.Forest.{FirstIs, IsListed, listed_next, preorder, listings}
-use Rattle.wax_walk.specs.Given.{Given, Facts, fault, no_memory, is_kept}
-use Rattle.wax_walk.specs.Known.{kept_of}
+use Rattle.wax_walk.specs.{Given.{Given, Facts, fault, no_memory, is_kept}, Known.kept_of}
 use Rattle.wax_walk.specs.View.{WalkView, FeedStep, GivesOrStops, lacks_memory, over_budget, gives}
-use Rattle.wax_walk.specs.View.{CountsFaults, fault_counts, IsLast, IsMisplaced, Takes, is_to_open}
-use Rattle.wax_walk.specs.View.{IsErrorAt, IsFolderAt, MayFail, Places, items_lost, opens_one}
-use Rattle.wax_walk.specs.View.{IsMemoryError}
-use Rattle.wax_walk.specs.Course.{DirectoryCall, answers}
-use Rattle.wax_walk.specs.Opened.{items_listed}
-use Rattle.wax_directory.specs.History.{Answer}
+use Rattle.wax_walk.specs.View.{CountsFaults, fault_counts, IsLast, IsMisplaced, Takes, is_to_open, IsErrorAt}
+use Rattle.wax_walk.specs.View.{IsFolderAt, MayFail, Places, items_lost, opens_one, IsMemoryError}
+use Rattle.wax_walk.specs.{Course.{DirectoryCall, answers}, Opened.items_listed}
 use Rattle.wax_walk.proofs.Taking.{TakingCourse, answered_more, course_end, course_more, course_none}
 use Rattle.wax_walk.proofs.Taking.{listed_more}
 use Rattle.wax_walk.proofs.Accounting.{takes_within, takes_exactly, counts_faults_then, counts_then_none}
 use Rattle.wax_walk.proofs.Accounting.{counts_nothing, grown_then}
+use Rattle.wax_walk.specs.Collected as all
 
 append-nil : {A : Type 0} (xs : List A) → xs ++ [] ≡ xs
 append-nil [] = refl

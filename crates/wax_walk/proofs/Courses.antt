@@ -1,12 +1,10 @@
 -- Courses: their parts, and what a filter leaves of them.
 use Rattle.std.proofs.Common.{◌≡◌, ◌∙◌, Bool, true, false, List, [], ◌∷◌, ◌++◌, append_assoc, refl, sym, ap}
-use Rattle.std.proofs.Common.{subst, inl, inr}
+use Rattle.std.proofs.{Common.{subst, inl, inr}, lemmas.List.append-nil}
 use Rattle.std.specs.Prelude.{◌⊎◌}
-use Rattle.std.proofs.lemmas.List.{append-nil}
 use Rattle.wax_walk.specs.Course.{DirectoryCall, Course, stop, unknown, asks, yields, continued, asking}
-use Rattle.wax_walk.specs.Course.{items_of, calls_of}
-use Rattle.wax_walk.specs.Course.{IsKnownFirst, IsKnownWhole, IsStartOf, ComesBelow, IsFiltered, IsNothing}
-use Rattle.wax_walk.specs.Given.{Given, Mark, with_mark}
+use Rattle.wax_walk.specs.Course.{items_of, calls_of, IsKnownFirst, IsKnownWhole, IsStartOf, ComesBelow}
+use Rattle.wax_walk.specs.{Course.{IsFiltered, IsNothing}, Given.{Given, Mark, with_mark}}
 
 -- ---- parts
 

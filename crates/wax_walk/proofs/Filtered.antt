@@ -1,20 +1,15 @@
 -- What a rule leaves of a known course, and of the forest that comes of it.
 use Rattle.std.proofs.Common.{◌≡◌, ◌∙◌, ℕ, Bool, true, false, cond, List, [], ◌∷◌, ◌++◌, append_assoc, refl}
-use Rattle.std.proofs.Common.{sym, ap, subst, inl, inr}
-use Rattle.std.proofs.lemmas.List.{map-append}
+use Rattle.std.proofs.{Common.{sym, ap, subst, inl, inr}, lemmas.List.map-append}
 use Rattle.wax_directory.specs.History.{Answer}
 use Rattle.wax_walk.specs.Course.{ComesBelow, Course, DirectoryCall, IsFiltered, IsKnownWhole, IsStartOf}
 use Rattle.wax_walk.specs.Course.{answers, asks, calls_of, continued, filtered_course, items_of, stop}
 use Rattle.wax_walk.specs.Course.{unknown, yields}
 use Rattle.wax_walk.specs.Forest.{Forest, filtered, followed_by, item, listings, lists, nothing, preorder}
 use Rattle.wax_walk.specs.Given.{Facts, Given, Mark, alone, changed_by, cut_by, entry, fault, is_cut, kept}
-use Rattle.wax_walk.specs.Given.{no_memory}
-use Rattle.wax_walk.specs.Given.{with_mark, with_tree}
-use Rattle.wax_walk.specs.Opened.{opened_by, opened_folders}
+use Rattle.wax_walk.specs.{Given.{no_memory, with_mark, with_tree}, Opened.{opened_by, opened_folders}}
 use Rattle.wax_walk.specs.Pruned.{IsPrunedBy, Opening, all_folders, is_closed, itself, opened_forest}
-use Rattle.wax_walk.specs.Pruned.{opened_course, pruned}
-use Rattle.wax_walk.specs.Pruned.{pruned_course, these_folders}
-use Rattle.wax_walk.specs.Ruled.{IsMarkBy}
+use Rattle.wax_walk.specs.{Pruned.{opened_course, pruned, pruned_course, these_folders}, Ruled.IsMarkBy}
 
 -- ---- courses
 

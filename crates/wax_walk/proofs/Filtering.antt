@@ -1,10 +1,9 @@
 -- What comes after a filter, from what comes before it.
-use Rattle.std.proofs.Common.{◌≡◌, ℕ, Bool, true, false, cond, List, [], ◌∷◌, ◌++◌, refl, sym, ap}
-use Rattle.std.proofs.Common.{subst, ◌∙◌, arith}
-use Rattle.std.specs.Prelude.{Option, Some, None}
-use Rattle.std.specs.List.{Contains}
-use Rattle.wax_walk.specs.Given.{Facts, Mark, Given, entry, fault, no_memory, mark_by}
-use Rattle.wax_walk.specs.Given.{with_mark, is_cut, changed_by, cut_by}
+use Rattle.std.proofs.Common.{◌≡◌, ℕ, Bool, true, false, cond, List, [], ◌∷◌, ◌++◌, refl, sym, ap, subst, ◌∙◌}
+use Rattle.std.proofs.Common.{arith}
+use Rattle.std.specs.{Prelude.{Option, Some, None}, List.Contains}
+use Rattle.wax_walk.specs.Given.{Facts, Mark, Given, entry, fault, no_memory, mark_by, with_mark, is_cut}
+use Rattle.wax_walk.specs.Given.{changed_by, cut_by}
 use Rattle.wax_walk.specs.Forest.{Forest, nothing, item, lists, followed_by, Pending, pending, cancelled}
 use Rattle.wax_walk.specs.Forest.{all_pending, FirstIs, IsListed, listed_next, filtered, filtered_pending}
 use Rattle.wax_walk.specs.Pruned.{itself}

@@ -2,12 +2,10 @@
 use Rattle.std.proofs.Common.{◌≡◌, ◌∙◌, Bool, true, false, List, refl, sym, ap, subst, inl, inr}
 use Rattle.std.specs.Prelude.{Some, None}
 use Rattle.wax_walk.specs.Course.{Ahead, AheadFiltered, DirectoryCall, Course, CutsShort, ComesBelow}
-use Rattle.wax_walk.specs.Course.{IsFiltered, IsNothing}
-use Rattle.wax_walk.specs.Course.{IsStartOf, ahead, all_ahead, asking, asks, continued, yields, stop, unknown}
-use Rattle.wax_walk.specs.Given.{Given, Mark, entry, fault, no_memory, with_mark}
-use Rattle.wax_walk.specs.Laws.{filtered_nothing}
-use Rattle.wax_walk.specs.Candidates.{Candidate, of_candidate}
-use Rattle.wax_walk.specs.Ruled.{IsMarkBy, ruled_view}
+use Rattle.wax_walk.specs.Course.{IsFiltered, IsNothing, IsStartOf, ahead, all_ahead, asking, asks, continued}
+use Rattle.wax_walk.specs.Course.{yields, stop, unknown}
+use Rattle.wax_walk.specs.{Given.{Given, Mark, entry, fault, no_memory, with_mark}, Laws.filtered_nothing}
+use Rattle.wax_walk.specs.{Candidates.{Candidate, of_candidate}, Ruled.{IsMarkBy, ruled_view}}
 use Rattle.wax_walk.specs.View.{WalkView, CancelStep, Follows, IsSeenAs, MayTake, went_on, ended_so, was_cut}
 use Rattle.wax_walk.proofs.Courses.{begins_itself, filtered_asking, filtered_begun, filtered_parts}
 use Rattle.wax_walk.proofs.Courses.{filtered_unknown, filtered_widened}

@@ -1,7 +1,7 @@
 -- What is known of entries, through a filter and in a list.
 use Rattle.std.proofs.Common.{◌≡◌, List, [], ◌∷◌, ◌++◌, sym, subst}
-use Rattle.std.specs.Prelude.{Some, All, Result, Ok, Err}
 use Rattle.std.proofs.lemmas.List.Elements.{All-append, All-push, All-nil, All-weaker}
+use Rattle.std.specs.Prelude.{Some, All, Result, Ok, Err}
 use Rattle.wax_filter.specs.declared.filter.separation.Separation.{Separation}
 use Rattle.wax_filter.specs.declared.filter.separation.Separation.TheVariants.{Filtrate, Residue}
 use Rattle.wax_walk.specs.declared.error.WalkError.{WalkError}

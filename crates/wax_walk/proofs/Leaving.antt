@@ -1,12 +1,8 @@
 -- What a filter leaves of a forest is what it leaves of the list.
 use Rattle.std.proofs.Common.{◌≡◌, ℕ, ◌+◌, ◌<◌, ◌≤◌, Bool, true, false, ◌&&◌, ◌||◌, not, cond, nat_lt, List}
-use Rattle.std.proofs.Common.{[]}
-use Rattle.std.proofs.Common.{◌∷◌, ◌++◌, refl, sym, ap, ◌∙◌, append_assoc, arith}
-use Rattle.std.specs.Prelude.{⊤}
-use Rattle.std.specs.List.{list_all}
-use Rattle.std.proofs.lemmas.Bool.{lt-ltb}
-use Rattle.std.proofs.lemmas.Bool.Decides.{nat_tests}
-use Rattle.std.proofs.lemmas.List.Folds.{list_all-append}
+use Rattle.std.proofs.{Common.{[], ◌∷◌, ◌++◌, refl, sym, ap, ◌∙◌, append_assoc, arith}, lemmas.Bool.lt-ltb}
+use Rattle.std.proofs.{lemmas.Bool.Decides.nat_tests, lemmas.List.Folds.list_all-append}
+use Rattle.std.specs.{Prelude.⊤, List.list_all}
 use Rattle.wax_walk.specs.Forest.{Forest, nothing, item, lists, filtered, preorder}
 use Rattle.wax_walk.specs.Given.{Facts, Given, entry, fault, no_memory}
 use Rattle.wax_walk.specs.Left.{are_below, is_deeper, is_cancelled, left_after, opened_items}

@@ -1,11 +1,8 @@
 -- Paths and candidates along names.
 use Rattle.std.proofs.Common.{◌≡◌, ℕ, true, false, List, [], ◌∷◌, ◌++◌, suc, refl, ◌∙◌, append_assoc, arith}
-use Rattle.std.proofs.Common.{inl, inr}
-use Rattle.std.specs.Prelude.{All}
-use Rattle.std.specs.List.{Contains, join_with_byte}
-use Rattle.std.proofs.lemmas.Bool.{cases_Bool, false_from_ne_true}
-use Rattle.std.proofs.lemmas.Bool.Decides.{Decides-eqb}
-use Rattle.std.proofs.lemmas.List.Elements.{All-head, All-tail}
+use Rattle.std.proofs.{Common.{inl, inr}, lemmas.Bool.{cases_Bool, false_from_ne_true}}
+use Rattle.std.proofs.{lemmas.Bool.Decides.Decides-eqb, lemmas.List.Elements.{All-head, All-tail}}
+use Rattle.std.specs.{Prelude.All, List.{Contains, join_with_byte}}
 use Rattle.wax_directory.specs.Shown.{IsPlain, join}
 use Rattle.wax_query.proofs.Ends.{open_append}
 use Rattle.wax_query.specs.Below.{ends_open}

@@ -2,19 +2,14 @@
 use Rattle.std.proofs.Common.{◌≡◌, ◌∙◌, ◌&&◌, Bool, true, false, ℕ, List, refl, sym, ap, subst, cond}
 use Rattle.std.specs.Prelude.{Some, None, not, if◌then◌else◌}
 use Rattle.wax_directory.specs.Law.{Law}
-use Rattle.wax_walk.specs.Candidates.{Candidate, candidate_of, of_candidate}
-use Rattle.wax_walk.specs.Forest.{cancelled}
+use Rattle.wax_walk.specs.{Candidates.{Candidate, candidate_of, of_candidate}, Forest.cancelled}
 use Rattle.wax_walk.specs.Given.{Facts, Given, Mark, alone, entry, fault, is_cut, is_entry, kept, mark_by}
-use Rattle.wax_walk.specs.Given.{no_memory}
-use Rattle.wax_walk.specs.Given.{with_mark, with_tree}
-use Rattle.wax_walk.specs.Laws.{ruled_cancelling}
+use Rattle.wax_walk.specs.{Given.{no_memory, with_mark, with_tree}, Laws.ruled_cancelling}
 use Rattle.wax_walk.specs.Pruned.{IsPrunedBy, is_closed, keep_mark, opens_by, pruned_pending, pruned_view}
-use Rattle.wax_walk.specs.Pruned.{selected_view}
-use Rattle.wax_walk.specs.Ruled.{ruled_view}
+use Rattle.wax_walk.specs.{Pruned.selected_view, Ruled.ruled_view}
 use Rattle.wax_walk.specs.View.{CancelStep, FeedStep, GivesOrStops, IsFolderAt, WalkView, is_folder_kind}
 use Rattle.wax_walk.specs.View.{is_to_open}
-use Rattle.wax_walk.proofs.Accounting.{IsAsked, HasAnswered, step_ends, step_marked}
-use Rattle.wax_walk.proofs.Filtered.{kept_itself}
+use Rattle.wax_walk.proofs.{Accounting.{IsAsked, HasAnswered, step_ends, step_marked}, Filtered.kept_itself}
 use Rattle.wax_walk.proofs.Filtering.{itself_gives}
 use Rattle.wax_walk.proofs.Following.{begins_filtered, cuts_filtered, ends_filtered, passes_filtered}
 use Rattle.wax_walk.proofs.RuleSteps.{ruled_ends, ruled_lacks, ruled_passes, ruled_stays}

@@ -1,14 +1,11 @@
 -- Steps of a filter by a rule.
 use Rattle.std.proofs.Common.{◌≡◌, ◌∙◌, ◌+◌, Bool, true, false, [], refl, sym, ap, subst, inl, inr, cond}
-use Rattle.std.proofs.Common.{arith}
+use Rattle.std.proofs.{Common.arith, lemmas.List.append-nil}
 use Rattle.std.specs.Prelude.{Some, None}
-use Rattle.std.proofs.lemmas.List.{append-nil}
-use Rattle.wax_directory.specs.Law.{Law}
+use Rattle.wax_directory.specs.{Law.Law, declared.tally.Tally.Tally}
 use Rattle.wax_walk.specs.Candidates.{Candidate, of_candidate}
-use Rattle.wax_walk.specs.Course.{Ahead, AheadFiltered, ahead, answers, stop, unknown}
-use Rattle.wax_walk.specs.Forest.{cancelled}
+use Rattle.wax_walk.specs.{Course.{Ahead, AheadFiltered, ahead, answers, stop, unknown}, Forest.cancelled}
 use Rattle.wax_walk.specs.Opened.{items_listed}
-use Rattle.wax_directory.specs.declared.tally.Tally.{Tally}
 use Rattle.wax_walk.specs.Given.{Given, Mark, entry, fault, no_memory, mark_by, with_mark, is_cut, is_entry}
 use Rattle.wax_walk.specs.Ruled.{AheadRuled, IsMarkBy, ruled_view}
 use Rattle.wax_walk.specs.View.{WalkView, FeedStep, CancelStep, GivesOrStops, lacks_memory, opens_one}

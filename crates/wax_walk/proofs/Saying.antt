@@ -1,15 +1,11 @@
 use Rattle.std.proofs.Common.{◌≡◌, [], ◌∷◌, refl}
 use Rattle.std.specs.Prelude.{Option}
 use denote.Ref.{Bor}
-use Rattle.wax_walk.specs.declared.entry.TreeEntry.{TreeEntry}
-use Rattle.wax_walk.specs.declared.iterator.EntryResidue.{EntryResidue}
-use Rattle.wax_walk.specs.Given.{Facts, Mark, mark_by}
-use Rattle.wax_walk.specs.Said.{mark_of}
-use Rattle.wax_filter.specs.Leaving.{residue_item}
-use Rattle.wax_filter.specs.declared.filter.tree_residue.TreeResidue.{TreeResidue}
-use Rattle.wax_filter.specs.declared.filter.tree_residue.TreeResidue.TheVariants.{Node, Tree}
-use Rattle.wax_walk.specs.Entries.{facts_of, given_residue}
+use Rattle.wax_walk.specs.{declared.entry.TreeEntry.TreeEntry, declared.iterator.EntryResidue.EntryResidue}
+use Rattle.wax_walk.specs.{Given.{Facts, Mark, mark_by}, Said.mark_of, Entries.{facts_of, given_residue}}
 use Rattle.wax_walk.specs.Says.{SaysByRule}
+use Rattle.wax_filter.specs.{Leaving.residue_item, declared.filter.tree_residue.TreeResidue.TreeResidue}
+use Rattle.wax_filter.specs.declared.filter.tree_residue.TreeResidue.TheVariants.{Node, Tree}
 
 -- one call decides as the rule does, and later calls will too
 pub says_now : {F : Type 0} (step : F → Bor TreeEntry → Option EntryResidue → F → Type 0)

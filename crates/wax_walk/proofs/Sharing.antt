@@ -1,17 +1,13 @@
 -- The path of an item, which begins with the path of its folder and ends with its name.
 use Rattle.std.proofs.Common.{◌≡◌, ◌∙◌, ap, refl, sym, subst, inl, inr, arith, ℕ, ◌-◌, Bool, true, false}
-use Rattle.std.proofs.Common.{length, List, [], ◌∷◌, ◌++◌, cond, ◌==◌}
-use Rattle.std.specs.Prelude.{take, drop, slice_index}
-use Rattle.std.proofs.lemmas.Bool.{cases_lt}
-use Rattle.std.proofs.Math.Dec.{eqb-suc-zero}
-use Rattle.std.proofs.Math.Seq.{drop-append_seam}
+use Rattle.std.proofs.{Common.{length, List, [], ◌∷◌, ◌++◌, cond, ◌==◌}, lemmas.Bool.cases_lt}
+use Rattle.std.proofs.{Math.Dec.eqb-suc-zero, Math.Seq.drop-append_seam}
 use Rattle.std.proofs.lemmas.List.{append_assoc, drop-append-le, length-append, length-take-le}
-use Rattle.std.proofs.lemmas.List.{take-append-drop, take-append-le}
-use Rattle.std.proofs.lemmas.List.{get_or_append_left}
+use Rattle.std.proofs.lemmas.List.{take-append-drop, take-append-le, get_or_append_left}
 use Rattle.std.proofs.lemmas.Str.{IsCharBoundary-at_seam, IsCharBoundary-from_drop, IsUtf8-append}
 use Rattle.std.proofs.lemmas.Str.{IsUtf8-encode}
+use Rattle.std.specs.{Prelude.{take, drop, slice_index}, Str.{IsCharBoundary, IsUtf8}}
 use lib.Utf8.{encode}
-use Rattle.std.specs.Str.{IsCharBoundary, IsUtf8}
 use Rattle.wax_directory.specs.Shown.{join}
 use Rattle.wax_query.proofs.Ends.{open_append}
 use Rattle.wax_query.specs.Below.{ends_open}

@@ -1,15 +1,10 @@
 -- What a walk yielded, by another view of it.
 use Rattle.std.proofs.Common.{◌≡◌, ◌∙◌, ◌+◌, ◌<◌, ◌≤◌, ◌++◌, ℕ, List, arith, ap, inl, inr, subst}
-use Rattle.wax_directory.specs.Counting.{grown}
-use Rattle.wax_directory.specs.History.{Answer}
-use Rattle.wax_directory.specs.Law.{Law}
+use Rattle.wax_directory.specs.{Counting.grown, History.Answer, Law.Law}
 use Rattle.wax_walk.specs.Collected.{AreOfFolders, HasFolder, NoMemoryError, SpendsWithin, Took, TookCourse}
-use Rattle.wax_walk.specs.Collected.{Yielded, all_fault_counts, all_items_lost, count_to_open}
+use Rattle.wax_walk.specs.{Collected.{Yielded, all_fault_counts, all_items_lost, count_to_open}, Course.Ahead}
+use Rattle.wax_walk.specs.{Forest.Pending, Given.Given, View.{CountsFaults, IsSeenAs, MayFail, WalkView}}
 use Rattle.wax_walk.specs.Collected as collected
-use Rattle.wax_walk.specs.Course.{Ahead}
-use Rattle.wax_walk.specs.Forest.{Pending}
-use Rattle.wax_walk.specs.Given.{Given}
-use Rattle.wax_walk.specs.View.{CountsFaults, IsSeenAs, MayFail, WalkView}
 
 -- of a walk that yielded these items, `this` says no more than `that` does
 pub record IsTakenAs {D : Type 0} (this that : WalkView D) (xs : List Given) : Type 0 where

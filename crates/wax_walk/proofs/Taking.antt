@@ -1,18 +1,16 @@
 -- The course of what a loop has taken of a walk.
 use Rattle.std.proofs.Common.{◌≡◌, ◌∙◌, List, [], ◌∷◌, ◌++◌, append_assoc, refl, sym, ap, subst, inl, inr}
-use Rattle.std.proofs.Common.{◌+◌, arith}
+use Rattle.std.proofs.{Common.{◌+◌, arith}, lemmas.List.{append-nil, map-append}}
 use Rattle.std.specs.Prelude.{◌⊎◌, Some, None}
-use Rattle.std.proofs.lemmas.List.{append-nil, map-append}
 use Rattle.wax_directory.specs.History.{Answer}
-use Rattle.wax_walk.specs.declared.error.FaultKind.TheVariants as F
 use Rattle.wax_walk.specs.Collected.{TookCourse, whole, cut_short}
 use Rattle.wax_walk.specs.Course.{Ahead, IsStartOf, DirectoryCall, Course, CutsShort, IsKnownFirst}
-use Rattle.wax_walk.specs.Course.{IsKnownWhole, all_ahead}
-use Rattle.wax_walk.specs.Course.{answers, asking, calls_of, items_of, stop, unknown, yields}
-use Rattle.wax_walk.specs.Given.{Given, entry, fault, no_memory}
+use Rattle.wax_walk.specs.Course.{IsKnownWhole, all_ahead, answers, asking, calls_of, items_of, stop, unknown}
+use Rattle.wax_walk.specs.{Course.yields, Given.{Given, entry, fault, no_memory}}
 use Rattle.wax_walk.specs.Opened.{item_by, items_listed}
 use Rattle.wax_walk.specs.View.{WalkView, Follows, MayTake, went_on, ended_so, was_cut}
 use Rattle.wax_walk.proofs.Courses.{calls_asking, first_asking, items_asking, known_parts, whole_asking}
+use Rattle.wax_walk.specs.declared.error.FaultKind.TheVariants as F
 
 -- a course of the walk that goes on as c after these calls and items
 pub record GoesOnAs {D : Type 0} (walk : WalkView D) (calls : List DirectoryCall) (xs : List Given)

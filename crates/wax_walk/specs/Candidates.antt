@@ -1,8 +1,8 @@
 -- Candidates: what rules see of an entry.
 use Rattle.std.specs.Prelude.{ℕ, List, map, chars}
 use Rattle.wax_directory.specs.Names.{names_in_path}
-use Rattle.wax_walk.specs.declared.candidate.Candidate as code
 use Rattle.wax_walk.specs.Given.{Facts, Mark}
+use Rattle.wax_walk.specs.declared.candidate.Candidate as code
 
 -- an entry as rules see it, in characters: its names from the start, its text, and its depth
 pub record Candidate : Type 0 where

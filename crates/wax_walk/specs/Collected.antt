@@ -1,15 +1,12 @@
 -- What a walk yielded, to its end.
 use Rattle.std.specs.Prelude.{◌≡◌, Bool, ℕ, ◌+◌, ◌<◌, ◌≤◌, ◌⊎◌, cond, length, List, [], ◌∷◌, ◌++◌, Some, ⊤}
 use Rattle.std.specs.List.{Contains}
-use Rattle.wax_directory.specs.Counting.{no_counts, grown, plus}
-use Rattle.wax_directory.specs.History.{Answer}
-use Rattle.wax_directory.specs.Law.{Law}
+use Rattle.wax_directory.specs.{Counting.{no_counts, grown, plus}, History.Answer, Law.Law}
 use Rattle.wax_directory.specs.declared.tally.Tally.{Tally}
 use Rattle.wax_walk.specs.declared.error.FaultKind.TheVariants.{NotAFolder, Budget}
 use Rattle.wax_walk.specs.Course.{Course, CutsShort, IsKnownFirst, IsKnownWhole, answers, calls_of, items_of}
 use Rattle.wax_walk.specs.Forest.{Pending, all_pending, preorder, listings}
-use Rattle.wax_walk.specs.Given.{Facts, Given, fault, no_memory}
-use Rattle.wax_walk.specs.Opened.{items_listed}
+use Rattle.wax_walk.specs.{Given.{Facts, Given, fault, no_memory}, Opened.items_listed}
 use Rattle.wax_walk.specs.View.{WalkView, CountsFaults, IsLast, IsErrorAt, IsFolderAt, MayFail, fault_counts}
 use Rattle.wax_walk.specs.View.{is_to_open, items_lost, IsMemoryError, MayTake}
 

@@ -1,7 +1,6 @@
 -- The course of a walk: its calls of the directory, each with its answer, and the items between them.
 use Rattle.std.specs.Prelude.{◌≡◌, ◌⊎◌, ℕ, Bool, true, false, cond, List, [], ◌∷◌, ◌++◌, map, ⊤}
-use Rattle.wax_directory.specs.History.{Answer, listed}
-use Rattle.wax_directory.specs.Shown.{Listed}
+use Rattle.wax_directory.specs.{History.{Answer, listed}, Shown.Listed}
 use Rattle.wax_walk.specs.declared.error.FaultKind.TheVariants.{Budget}
 use Rattle.wax_walk.specs.Given.{Given, Mark, fault, no_memory, with_mark}
 

@@ -1,21 +1,19 @@
 -- What contracts see of entries and of errors.
 use Rattle.std.specs.Prelude.{List, ℕ, Option, Some, None, Result, Ok, Err, string_bytes}
 use Rattle.std.specs.declared.io.ErrorKind.{ErrorKind}
-use Rattle.std.specs.declared.io.ErrorKind.TheVariants as IoKind
 use Rattle.wax_filter.specs.declared.filter.separation.Separation.{Separation}
 use Rattle.wax_filter.specs.declared.filter.separation.Separation.TheVariants.{Filtrate, Residue}
 use Rattle.wax_filter.specs.declared.filter.tree_residue.TreeResidue.{TreeResidue}
 use Rattle.wax_filter.specs.declared.filter.tree_residue.TreeResidue.TheVariants.{Node, Tree}
 use Rattle.wax_filter.specs.Leaving.{residue_item}
-use Rattle.wax_walk.specs.declared.entry.TreeEntry.{TreeEntry}
-use Rattle.wax_walk.specs.declared.error.WalkError.{WalkError}
+use Rattle.wax_walk.specs.{declared.entry.TreeEntry.TreeEntry, declared.error.WalkError.WalkError}
 use Rattle.wax_walk.specs.declared.error.WalkError.TheVariants.{Fault, Memory}
-use Rattle.wax_walk.specs.declared.error.FaultKind.{FaultKind}
-use Rattle.wax_walk.specs.declared.error.FaultKind.TheVariants as F
-use Rattle.wax_walk.specs.declared.error.WalkErrorKind.{WalkErrorKind}
-use Rattle.wax_walk.specs.declared.error.WalkErrorKind.TheVariants as K
+use Rattle.wax_walk.specs.{declared.error.FaultKind.FaultKind, declared.error.WalkErrorKind.WalkErrorKind}
 use Rattle.wax_walk.specs.Paths.{PathTexts}
 use Rattle.wax_walk.specs.Given.{Facts, Given, entry, fault, no_memory, kept, alone, with_tree}
+use Rattle.std.specs.declared.io.ErrorKind.TheVariants as IoKind
+use Rattle.wax_walk.specs.declared.error.FaultKind.TheVariants as F
+use Rattle.wax_walk.specs.declared.error.WalkErrorKind.TheVariants as K
 
 -- the facts of an entry of a plain walk
 abbrev pub facts_of : TreeEntry → Facts

@@ -1,6 +1,5 @@
 -- What a walk has yet to yield.
-use Rattle.std.specs.Prelude.{◌≡◌, ℕ, List, [], ◌∷◌, ◌++◌, Option, Some, None, Bool, cond}
-use Rattle.std.specs.List.{Contains}
+use Rattle.std.specs.{Prelude.{◌≡◌, ℕ, List, [], ◌∷◌, ◌++◌, Option, Some, None, Bool, cond}, List.Contains}
 
 -- items in order, each with what is below it; and paths of folders, at the points where they are listed
 pub data Forest (A : Type 0) : Type 0 where

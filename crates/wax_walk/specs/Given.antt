@@ -1,8 +1,7 @@
 -- What a walk yields.
 use Rattle.std.specs.Prelude.{◌≡◌, ℕ, Bool, true, false, List}
 use Rattle.wax_directory.specs.declared.directory.FileType.{FileType}
-use Rattle.wax_walk.specs.declared.error.FaultKind.{FaultKind}
-use Rattle.wax_walk.specs.Forest.{Pending, filtered_pending}
+use Rattle.wax_walk.specs.{declared.error.FaultKind.FaultKind, Forest.{Pending, filtered_pending}}
 
 -- an entry: its path, the path where its walk starts, its candidate (the names from there, joined by `/`),
 -- its depth (how many they are), and its file type

@@ -1,18 +1,14 @@
 -- Proofs of laws that impls cite.
 use Rattle.std.specs.Prelude.{◌≡◌, ◌&&◌, List, ℕ, Bool, true, false, cond, Option, Some, None, Result, Ok}
-use Rattle.std.specs.Prelude.{Err}
-use Rattle.std.specs.Prelude.{◌⊎◌, ⊤}
+use Rattle.std.specs.Prelude.{Err, ◌⊎◌, ⊤}
 use Rattle.std.proofs.Common.{ap, refl, subst, sym, ◌∙◌, inl, inr}
 use denote.Ref.{Bor}
 use Rattle.wax_filter.specs.declared.filter.separation.Separation.{Separation}
 use Rattle.wax_filter.specs.declared.filter.separation.Separation.TheVariants.{Filtrate, Residue}
-use Rattle.wax_walk.specs.declared.entry.TreeEntry.{TreeEntry}
-use Rattle.wax_walk.specs.declared.error.WalkError.{WalkError}
-use Rattle.wax_walk.specs.declared.iterator.EntryResidue.{EntryResidue}
-use Rattle.wax_walk.specs.Candidates.{Candidate, of_candidate}
+use Rattle.wax_walk.specs.{declared.entry.TreeEntry.TreeEntry, declared.error.WalkError.WalkError}
+use Rattle.wax_walk.specs.{declared.iterator.EntryResidue.EntryResidue, Candidates.{Candidate, of_candidate}}
 use Rattle.wax_walk.specs.Course.{Ahead, AheadFiltered, Course, IsFiltered, IsNothing, ahead, asks, stop}
-use Rattle.wax_walk.specs.Course.{unknown, yields}
-use Rattle.wax_walk.specs.Forest.{Pending, cancelled}
+use Rattle.wax_walk.specs.{Course.{unknown, yields}, Forest.{Pending, cancelled}}
 use Rattle.wax_walk.specs.Given.{Given, Facts, Mark, ToComeFiltered}
 use Rattle.wax_walk.specs.Known.{KnownOutcome, KnownAnswer, KeepsKnown}
 use Rattle.wax_walk.specs.Pruned.{IsPrunedBy, keep_mark, opens_by, pruned_pending, pruned_view, selected_view}

@@ -1,6 +1,5 @@
 -- The texts of the entry that some names lead to.
-use Rattle.std.specs.Prelude.{◌≡◌, ℕ, List, [], ◌∷◌, All}
-use Rattle.std.specs.List.{join_with_byte}
+use Rattle.std.specs.{Prelude.{◌≡◌, ℕ, List, [], ◌∷◌, All}, List.join_with_byte}
 use Rattle.wax_directory.specs.Shown.{IsPlain, join}
 use Rattle.wax_walk.specs.Paths.{PathTexts, item_texts}
 

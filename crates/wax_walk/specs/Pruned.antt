@@ -3,8 +3,7 @@ use Rattle.std.specs.Prelude.{◌≡◌, Bool, false, ◌&&◌, not, if◌then�
 use Rattle.wax_walk.specs.Candidates.{Candidate, candidate_of}
 use Rattle.wax_walk.specs.Course.{AheadFiltered, Course, filtered_course}
 use Rattle.wax_walk.specs.Forest.{Forest, Pending, filtered, filtered_pending}
-use Rattle.wax_walk.specs.Given.{Facts, Given, Mark, alone, entry, fault, kept, no_memory}
-use Rattle.wax_walk.specs.Ruled.{ruled_view}
+use Rattle.wax_walk.specs.{Given.{Facts, Given, Mark, alone, entry, fault, kept, no_memory}, Ruled.ruled_view}
 use Rattle.wax_walk.specs.View.{WalkView, is_folder_kind}
 
 -- the item is a folder that isn't opened

@@ -1,9 +1,7 @@
 -- The view of a walk that is filtered by a rule.
 use Rattle.std.specs.Prelude.{◌≡◌, ◌⊎◌, Bool, true, false, cond}
-use Rattle.wax_walk.specs.Candidates.{Candidate, of_candidate}
-use Rattle.wax_walk.specs.Course.{Ahead, AheadFiltered, IsNothing}
-use Rattle.wax_walk.specs.Given.{Facts, Given, Mark, ToComeFiltered, is_cut, mark_by}
-use Rattle.wax_walk.specs.View.{WalkView}
+use Rattle.wax_walk.specs.{Candidates.{Candidate, of_candidate}, Course.{Ahead, AheadFiltered, IsNothing}}
+use Rattle.wax_walk.specs.{Given.{Facts, Given, Mark, ToComeFiltered, is_cut, mark_by}, View.WalkView}
 
 -- the mark is what the rule decides, and the item is cut by it
 abbrev pub IsMarkBy : (Facts → Mark) → Given → Mark → Bool → Type 0

@@ -1,11 +1,10 @@
 use Rattle.std.specs.Prelude.{◌≡◌, ⊤, IfOk, Option, Some, None, Result}
 use Rattle.wax_filter.specs.declared.filter.tree_residue.TreeResidue.{TreeResidue}
-use Rattle.wax_filter.specs.declared.filter.tree_residue.TreeResidue.TheVariants as residue
 use Rattle.wax_query.specs.declared.diagnostics.NoMemory.{NoMemory}
 use Rattle.wax_walk.specs.declared.iterator.EntryResidue.{EntryResidue}
-use Rattle.wax_walk.specs.declared.iterator.EntryResidue.TheVariants.{File, Tree}
-use Rattle.wax_walk.specs.Candidates.{Candidate}
+use Rattle.wax_walk.specs.{declared.iterator.EntryResidue.TheVariants.{File, Tree}, Candidates.Candidate}
 use Rattle.wax_walk.specs.Given.{Mark, kept, alone, with_tree}
+use Rattle.wax_filter.specs.declared.filter.tree_residue.TreeResidue.TheVariants as residue
 
 abbrev pub mark_of : Option EntryResidue → Mark
 mark_of None = kept

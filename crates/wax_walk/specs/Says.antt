@@ -1,14 +1,10 @@
 -- A closure whose result depends only on the entry.
 use Rattle.std.specs.Prelude.{◌≡◌, Bool, List, [], ◌∷◌, Option, ⊤}
 use denote.Ref.{Bor}
-use Rattle.wax_walk.specs.declared.entry.TreeEntry.{TreeEntry}
-use Rattle.wax_walk.specs.declared.iterator.EntryResidue.{EntryResidue}
-use Rattle.wax_walk.specs.Course.{AheadFiltered}
-use Rattle.wax_walk.specs.Forest.{Pending}
-use Rattle.wax_walk.specs.Given.{Facts, Mark, Given, ToComeFiltered, is_cut, mark_by}
-use Rattle.wax_walk.specs.Said.{mark_of}
-use Rattle.wax_walk.specs.View.{WalkView}
-use Rattle.wax_walk.specs.Entries.{facts_of}
+use Rattle.wax_walk.specs.{declared.entry.TreeEntry.TreeEntry, declared.iterator.EntryResidue.EntryResidue}
+use Rattle.wax_walk.specs.{Course.AheadFiltered, Forest.Pending}
+use Rattle.wax_walk.specs.{Given.{Facts, Mark, Given, ToComeFiltered, is_cut, mark_by}, Said.mark_of}
+use Rattle.wax_walk.specs.{View.WalkView, Entries.facts_of}
 
 -- a call: its argument and its result
 abbrev pub Call : Type 0

@@ -1,19 +1,16 @@
 -- What contracts see of a walk, and how a call of `feed` and cancelling change it.
-use Rattle.std.specs.Prelude.{◌≡◌, ℕ, ◌+◌, ◌<◌, ◌≤◌, ◌^◌, ◌-◌, min, List, Option, Some, None, ⊤}
-use Rattle.std.specs.Prelude.{Bool, true, false, cond, ◌&&◌, nat_lt, ◌⊎◌, ◌++◌}
-use Rattle.wax_directory.specs.Counting.{no_counts, grown}
-use Rattle.wax_directory.specs.declared.directory.FileType.{FileType}
-use Rattle.wax_directory.specs.declared.directory.FileType.TheVariants as F
-use Rattle.wax_directory.specs.Law.{Law}
+use Rattle.std.specs.Prelude.{◌≡◌, ℕ, ◌+◌, ◌<◌, ◌≤◌, ◌^◌, ◌-◌, min, List, Option, Some, None, ⊤, Bool, true}
+use Rattle.std.specs.Prelude.{false, cond, ◌&&◌, nat_lt, ◌⊎◌, ◌++◌}
+use Rattle.wax_directory.specs.{Counting.{no_counts, grown}, declared.directory.FileType.FileType, Law.Law}
 use Rattle.wax_directory.specs.declared.tally.Tally.{Tally}
 use Rattle.wax_walk.specs.declared.error.FaultKind.TheVariants.{NotFound, NotAFolder, Listing, BadName}
 use Rattle.wax_walk.specs.declared.error.FaultKind.TheVariants.{NotText, Budget}
 use Rattle.wax_walk.specs.Course.{Ahead, IsStartOf, DirectoryCall, Course, CutsShort, IsNothing, ahead}
-use Rattle.wax_walk.specs.Course.{all_ahead}
-use Rattle.wax_walk.specs.Course.{answers, asking, stop, unknown, yields}
+use Rattle.wax_walk.specs.Course.{all_ahead, answers, asking, stop, unknown, yields}
 use Rattle.wax_walk.specs.Forest.{Pending, all_pending, cancelled, FirstIs, IsListed}
 use Rattle.wax_walk.specs.Given.{Facts, Given, entry, fault, no_memory, kept, alone, with_tree}
 use Rattle.wax_walk.specs.Opened.{items_listed}
+use Rattle.wax_directory.specs.declared.directory.FileType.TheVariants as F
 
 -- what is to come; what may be ahead, by what the directory will answer; the directory; at most how many more
 -- items may be taken from listings; how many names are left to follow to where the walk begins; 1 if the

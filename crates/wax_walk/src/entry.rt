@@ -1,8 +1,7 @@
 //! Entries of walks.
 
 ghost use Rattle.std.specs.Prelude.{◌≡◌, string_bytes};
-ghost use Rattle.wax_walk.specs.Given.{Facts};
-ghost use Rattle.wax_walk.specs.Entries.{facts_of, entry_texts};
+ghost use Rattle.wax_walk.specs.{Given.Facts, Entries.{facts_of, entry_texts}};
 
 use crate::candidate::Candidate;
 use crate::walked_path::WalkedPath;

@@ -1,9 +1,7 @@
 //! Errors of walks.
 
-ghost use Rattle.std.specs.Prelude.{◌≡◌};
-ghost use Rattle.std.specs.Option.{option_map};
-ghost use Rattle.wax_walk.specs.Entries.{kind_of_fault, error_kind, error_path, error_depth};
-ghost use Rattle.wax_walk.specs.Entries.{io_kind_of};
+ghost use Rattle.std.specs.{Prelude.◌≡◌, Option.option_map};
+ghost use Rattle.wax_walk.specs.Entries.{kind_of_fault, error_kind, error_path, error_depth, io_kind_of};
 
 use std::io;
 use std::io::ErrorKind;

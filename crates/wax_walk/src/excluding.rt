@@ -1,14 +1,11 @@
 //! Filters of walks by a rule.
 
-ghost use Rattle.std.specs.Prelude.{◌≡◌, ◌⊎◌, IfOk, OnErr, true, false};
-ghost use Rattle.std.specs.Iterator.{IsFinite};
-ghost use Rattle.wax_filter.specs.Feeding.{NextFiltrate};
-ghost use Rattle.wax_filter.specs.Separating.{AtFiltrate};
+ghost use Rattle.std.specs.{Prelude.{◌≡◌, ◌⊎◌, IfOk, OnErr, true, false}, Iterator.IsFinite};
+ghost use Rattle.wax_filter.specs.{Feeding.NextFiltrate, Separating.AtFiltrate};
 ghost use Rattle.wax_walk.specs.Entries.{given_of, given_outcome};
 ghost use Rattle.wax_walk.specs.Candidates.{Candidate, in_characters, of_candidate};
 ghost use Rattle.wax_walk.specs.Given.{Mark, mark_by, is_cut, is_entry, with_mark};
-ghost use Rattle.wax_walk.specs.Known.{KeepsKnown, KeepsOnly};
-ghost use Rattle.wax_walk.specs.Said.{RuleStep, mark_of};
+ghost use Rattle.wax_walk.specs.{Known.{KeepsKnown, KeepsOnly}, Said.{RuleStep, mark_of}};
 
 use crate::candidate::Candidate;
 use crate::entry::Entry;
@@ -165,9 +162,7 @@ where
     I: FileIterator,
     P: Exclude,
 {
-    ghost use Rattle.wax_walk.specs.Entries.{answer_of};
-    ghost use Rattle.wax_walk.specs.Ruled.{ruled_view};
-    ghost use Rattle.wax_walk.specs.View.{FeedStep};
+    ghost use Rattle.wax_walk.specs.{Entries.answer_of, Ruled.ruled_view, View.FeedStep};
 
     type Feed = I::Feed;
 
@@ -222,8 +217,7 @@ where
     I: FileIterator,
     P: Exclude,
 {
-    ghost use Rattle.wax_walk.specs.Laws.{ruled_telling, ruled_cancelling};
-    ghost use Rattle.wax_walk.specs.Ruled.{ruled_view};
+    ghost use Rattle.wax_walk.specs.{Laws.{ruled_telling, ruled_cancelling}, Ruled.ruled_view};
 
     type Entry = I::Entry;
 

@@ -1,13 +1,9 @@
 //! Filters by a closure.
 
-ghost use Rattle.std.specs.Prelude.{◌≡◌};
-ghost use Rattle.std.specs.Iterator.{IsFinite};
+ghost use Rattle.std.specs.{Prelude.◌≡◌, Iterator.IsFinite};
 ghost use Rattle.wax_filter.specs.Feeding.{NextFiltrate};
-ghost use Rattle.wax_walk.specs.Entries.{given_of, answer_of};
-ghost use Rattle.wax_walk.specs.Given.{Facts, Mark, mark_by};
-ghost use Rattle.wax_walk.specs.Known.{KeepsKnown};
-ghost use Rattle.wax_walk.specs.Said.{mark_of};
-ghost use Rattle.wax_walk.specs.Says.{SaysByRule, closure_view};
+ghost use Rattle.wax_walk.specs.{Entries.{given_of, answer_of}, Given.{Facts, Mark, mark_by}};
+ghost use Rattle.wax_walk.specs.{Known.KeepsKnown, Said.mark_of, Says.{SaysByRule, closure_view}};
 ghost use Rattle.wax_walk.specs.View.{FeedStep};
 
 use crate::entry::{Entry, TreeEntry};

@@ -2,9 +2,7 @@
 
 ghost use Rattle.std.specs.Prelude.{◌≡◌, ◌≤◌, ◌++◌, All, List, IfOk, length, map, filter};
 ghost use Rattle.std.specs.Iterator.{IsFinite, size};
-ghost use Rattle.wax_walk.specs.Collected.{Took};
-ghost use Rattle.wax_walk.specs.Entries.{given_of, given_outcome};
-ghost use Rattle.wax_walk.specs.Given.{Given, is_kept};
+ghost use Rattle.wax_walk.specs.{Collected.Took, Entries.{given_of, given_outcome}, Given.{Given, is_kept}};
 ghost use Rattle.wax_walk.specs.Known.{KnownItem, KnownOutcome, kept_of};
 
 use crate::entry::Entry;

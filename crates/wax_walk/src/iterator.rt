@@ -1,12 +1,8 @@
 //! Walks that can be filtered.
 
 ghost use Rattle.std.specs.Prelude.{◌≡◌, List, ℕ, Option, Result, false};
-ghost use Rattle.wax_walk.specs.Forest.{Pending};
-ghost use Rattle.wax_walk.specs.Given.{Given};
-ghost use Rattle.wax_walk.specs.Known.{KeepsKnown, StaysKnown};
-ghost use Rattle.wax_walk.specs.Pruned.{selected_view};
-ghost use Rattle.wax_walk.specs.Ruled.{ruled_view};
-ghost use Rattle.wax_walk.specs.Says.{closure_view};
+ghost use Rattle.wax_walk.specs.{Forest.Pending, Given.Given, Known.{KeepsKnown, StaysKnown}};
+ghost use Rattle.wax_walk.specs.{Pruned.selected_view, Ruled.ruled_view, Says.closure_view};
 ghost use Rattle.wax_walk.specs.View.{WalkView, FeedStep, CancelStep, IsSeenAs};
 
 use crate::entry::{Entry, TreeEntry};
@@ -47,10 +43,9 @@ impl From<EntryResidue> for TreeResidue<()> {
 pub trait FileIterator: CancelWalk<
     Feed: Feed<Filtrate = Result<Self::Entry, WalkError>, Residue = TreeResidue<Self::Residue>>,
 > {
-    ghost use Rattle.wax_walk.specs.Entries.{answer_of};
+    ghost use Rattle.wax_walk.specs.{Entries.answer_of, declared.error.WalkError.WalkError};
     ghost use Rattle.wax_filter.specs.declared.filter.separation.Separation.{Separation};
     ghost use Rattle.wax_filter.specs.declared.filter.tree_residue.TreeResidue.{TreeResidue};
-    ghost use Rattle.wax_walk.specs.declared.error.WalkError.{WalkError};
 
     type Entry: Entry;
 

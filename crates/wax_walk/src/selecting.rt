@@ -1,15 +1,10 @@
 //! Filters of walks that open only some folders.
 
-ghost use Rattle.std.specs.Prelude.{◌≡◌, ◌&&◌, Bool, IfOk, OnErr, false, not, true};
-ghost use Rattle.std.specs.Iterator.{IsFinite};
+ghost use Rattle.std.specs.{Prelude.{◌≡◌, ◌&&◌, Bool, IfOk, OnErr, false, not, true}, Iterator.IsFinite};
 ghost use Rattle.wax_filter.specs.Feeding.{NextFiltrate};
-ghost use Rattle.wax_walk.specs.Candidates.{Candidate, in_characters, of_candidate};
-ghost use Rattle.wax_walk.specs.Entries.{given_of};
-ghost use Rattle.wax_walk.specs.Given.{is_entry, mark_by};
-ghost use Rattle.wax_walk.specs.Known.{KeepsKnown};
-ghost use Rattle.wax_walk.specs.Pruned.{is_closed, keep_mark, opens_by};
-ghost use Rattle.wax_walk.specs.Said.{mark_of};
-ghost use Rattle.wax_walk.specs.View.{is_folder_kind};
+ghost use Rattle.wax_walk.specs.{Candidates.{Candidate, in_characters, of_candidate}, Entries.given_of};
+ghost use Rattle.wax_walk.specs.{Given.{is_entry, mark_by}, Known.KeepsKnown};
+ghost use Rattle.wax_walk.specs.{Pruned.{is_closed, keep_mark, opens_by}, Said.mark_of, View.is_folder_kind};
 
 use crate::candidate::Candidate;
 use crate::entry::Entry;
@@ -151,9 +146,7 @@ where
     I: FileIterator,
     S: Select,
 {
-    ghost use Rattle.wax_walk.specs.Entries.{answer_of};
-    ghost use Rattle.wax_walk.specs.Pruned.{selected_view};
-    ghost use Rattle.wax_walk.specs.View.{FeedStep};
+    ghost use Rattle.wax_walk.specs.{Entries.answer_of, Pruned.selected_view, View.FeedStep};
 
     type Feed = I::Feed;
 
@@ -209,8 +202,7 @@ where
     I: FileIterator,
     S: Select,
 {
-    ghost use Rattle.wax_walk.specs.Laws.{selected_telling, selected_cancelling};
-    ghost use Rattle.wax_walk.specs.Pruned.{selected_view};
+    ghost use Rattle.wax_walk.specs.{Laws.{selected_telling, selected_cancelling}, Pruned.selected_view};
 
     type Entry = I::Entry;
 

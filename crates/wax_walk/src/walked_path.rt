@@ -1,8 +1,7 @@
 //! Paths of walks with their starts and candidates.
 
 ghost use Rattle.std.specs.Prelude.{◌≡◌, IfOk, IfSome, string_bytes};
-ghost use Rattle.wax_walk.specs.Paths.{PathTexts, item_texts};
-ghost use Rattle.wax_walk.specs.inner.Shared.{IsShared};
+ghost use Rattle.wax_walk.specs.{Paths.{PathTexts, item_texts}, inner.Shared.IsShared};
 
 use std::alloc::{AllocError, Global};
 use std::marker::Model;
@@ -27,8 +26,7 @@ pub struct WalkedPath {
 
 impl Model for WalkedPath {
     ghost use Rattle.std.specs.Prelude.{string_bytes};
-    ghost use Rattle.wax_walk.specs.Paths.{PathTexts};
-    ghost use Rattle.wax_walk.specs.inner.Texts.{FitsPath, candidate_text, root_text};
+    ghost use Rattle.wax_walk.specs.{Paths.PathTexts, inner.Texts.{FitsPath, candidate_text, root_text}};
 
     ghost Value = { PathTexts };
 

@@ -4,8 +4,7 @@ ghost use Rattle.wax.specs.GlobView.{IsMeant};
 ghost use Rattle.wax_query.specs.Parts.{NoLineEndsBefore};
 ghost use Rattle.wax_lazy.specs.Cost.{first_visits, path_visits};
 ghost use Rattle.wax_prefilter.specs.Below.{MeansBelow, goes_test, goes_tested};
-ghost use Rattle.wax_token.specs.Cost.{program_length};
-ghost use Rattle.wax_token.specs.Decided.{means_test, means_tested};
+ghost use Rattle.wax_token.specs.{Cost.program_length, Decided.{means_test, means_tested}};
 
 use crate::glob::Glob;
 use std::alloc::Global;
@@ -42,8 +41,7 @@ impl Drop for GlobMatcher<'_, '_> {
 
 impl<'g, 't> Model for GlobMatcher<'g, 't> {
     ghost use Rattle.std.specs.Prelude.{◌<◌, ◌↔◌, IfSome, IsTrue, List, chars, length, ℕ};
-    ghost use Rattle.wax.specs.GlobView.{GlobView, IsMeant, glob_code};
-    ghost use Rattle.wax.specs.Matching.{AcceptsMeant};
+    ghost use Rattle.wax.specs.{GlobView.{GlobView, IsMeant, glob_code}, Matching.AcceptsMeant};
     ghost use Rattle.wax_prefilter.specs.Within.{IsInFolder};
     ghost use Rattle.wax_token.specs.Cost.{program_length};
 

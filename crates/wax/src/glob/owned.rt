@@ -4,8 +4,7 @@ ghost use Rattle.wax.specs.GlobView.{IsMeant};
 ghost use Rattle.wax_query.specs.Parts.{NoLineEndsBefore};
 ghost use Rattle.wax_lazy.specs.Cost.{first_visits, path_visits};
 ghost use Rattle.wax_prefilter.specs.Below.{MeansBelow, goes_test, goes_tested};
-ghost use Rattle.wax_token.specs.Cost.{program_length};
-ghost use Rattle.wax_token.specs.Decided.{means_test, means_tested};
+ghost use Rattle.wax_token.specs.{Cost.program_length, Decided.{means_test, means_tested}};
 
 use crate::glob::Glob;
 use std::alloc::Global;

@@ -1,7 +1,6 @@
 //! Partition of a glob into its prefix and the rest.
 ghost use Rattle.std.specs.Prelude.{IfOk, chars, string_bytes};
-ghost use Rattle.wax.specs.Build.{IsEmptyGlob, IsTreeGlob};
-ghost use Rattle.wax.specs.Partition.{HasParts, HasPartsOr};
+ghost use Rattle.wax.specs.{Build.{IsEmptyGlob, IsTreeGlob}, Partition.{HasParts, HasPartsOr}};
 
 use crate::glob::{Glob, compiled};
 use std::alloc::Global;

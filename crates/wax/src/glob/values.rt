@@ -1,6 +1,5 @@
 //! Copies of globs, and how a glob is printed.
-ghost use Rattle.std.specs.Prelude.{◌≡◌, IfOk, Some, codes, encode_utf8_all};
-ghost use Rattle.std.specs.Fmt.{◌++?◌, debug_str};
+ghost use Rattle.std.specs.{Prelude.{◌≡◌, IfOk, Some, codes, encode_utf8_all}, Fmt.{◌++?◌, debug_str}};
 
 use crate::glob::{Glob, compiled};
 use std::alloc::Global;

@@ -2,20 +2,15 @@
 ghost use Rattle.std.specs.Prelude.{◌≡◌, ◌≤◌, ◌+◌, ◌*◌, ℕ, Bool, List, IfOk, MatchOption, length, map};
 ghost use Rattle.wax_components.specs.Depth.{Depth};
 ghost use Rattle.wax_facts.specs.Prefix.{Prefix};
-ghost use Rattle.wax_tree.specs.Matches.{IsMatchedEntry};
-ghost use Rattle.wax_exclude.specs.Prefix.{HasEmptyName};
-ghost use Rattle.wax_query.specs.Components.{component_total};
-ghost use Rattle.wax_query.specs.Ranges.{AtMost, Bounds};
-ghost use Rattle.wax_token.specs.Cost.{program_length};
-ghost use Rattle.wax_tree.specs.Begins.{EndsWithin, BeginsAt, behavior_range};
-ghost use Rattle.wax_tree.specs.Depths.{behavior_at};
-ghost use Rattle.wax_tree.specs.Prefix.{from_last};
+ghost use Rattle.wax_tree.specs.{Matches.IsMatchedEntry, Begins.{EndsWithin, BeginsAt, behavior_range}};
+ghost use Rattle.wax_tree.specs.{Depths.behavior_at, Prefix.from_last};
 ghost use Rattle.wax_tree.specs.declared.behavior.DepthBehavior.TheVariants.{Unbounded};
-ghost use Rattle.wax_walk.specs.Known.{StaysKnown};
-ghost use Rattle.wax.specs.GlobView.{HasCaptures, IsMeant};
-ghost use Rattle.wax.specs.GlobWalks.{BeginsBy, BeginsGlob, IsPlan};
-ghost use Rattle.wax_exclude.specs.BeginsRequest.{origin_from, within};
+ghost use Rattle.wax_exclude.specs.{Prefix.HasEmptyName, BeginsRequest.{origin_from, within}};
 ghost use Rattle.wax_exclude.specs.Pruned.{by_matches};
+ghost use Rattle.wax_query.specs.{Components.component_total, Ranges.{AtMost, Bounds}};
+ghost use Rattle.wax_token.specs.Cost.{program_length};
+ghost use Rattle.wax_walk.specs.Known.{StaysKnown};
+ghost use Rattle.wax.specs.{GlobView.{HasCaptures, IsMeant}, GlobWalks.{BeginsBy, BeginsGlob, IsPlan}};
 
 use crate::glob::Glob;
 use std::alloc::Global;
@@ -225,19 +220,15 @@ fn walk_in<'g, 't, D: Directory>(
 
 impl<'t> Glob<'t> {
     ghost use Rattle.std.specs.Prelude.{◌⊎◌, ◌∷◌, [], All, filter};
-    ghost use Rattle.wax_exclude.specs.GlobRequests.{AreRulesOf, KeepsWanted};
-    ghost use Rattle.wax_exclude.specs.Premises.{IsUnmeant};
+    ghost use Rattle.wax_exclude.specs.{GlobRequests.{AreRulesOf, KeepsWanted}, Premises.IsUnmeant};
+    ghost use Rattle.wax_exclude.specs.{Told.KeepsAnswered, Wanted.Filter};
     ghost use Rattle.wax_directory.specs.Shown.{Shown};
     ghost use Rattle.wax_token.specs.Reads.{Span};
     ghost use Rattle.wax_tree.specs.Prefix.{ArePlain};
-    ghost use Rattle.wax_walk.specs.Entries.{given_outcome};
-    ghost use Rattle.wax_walk.specs.Given.{Given, is_kept, no_memory};
+    ghost use Rattle.wax_walk.specs.{Entries.given_outcome, Given.{Given, is_kept, no_memory}};
     ghost use Rattle.wax_walk.specs.Known.{KnownOutcome};
-    ghost use Rattle.wax_exclude.specs.Told.{KeepsAnswered};
-    ghost use Rattle.wax_exclude.specs.Wanted.{Filter};
     ghost use Rattle.wax.specs.GlobWalks.{Beginning, FailsAtFolders, GaveWithin, HasBrokenPrefix};
-    ghost use Rattle.wax.specs.GlobWalks.{KeepsNothing};
-    ghost use Rattle.wax.specs.GlobWalks.{LeadsNowhere, request_of};
+    ghost use Rattle.wax.specs.GlobWalks.{KeepsNothing, LeadsNowhere, request_of};
 
     /// Collects the walk of the glob from `start` without what the rules exclude: returns what is
     /// kept, in order, errors included, and the directory.

@@ -1,8 +1,6 @@
 -- What is known of the only text of a tree.
 use Rattle.std.specs.Prelude.{◌≡◌, List, MatchOption, Option, IfSome, chars, ℕ}
-use Rattle.wax.specs.Language.{Span, Tree}
-use Rattle.wax.specs.Matching.{MeansText}
-use Rattle.wax.specs.Queries.{Text, Variant}
+use Rattle.wax.specs.{Language.{Span, Tree}, Matching.MeansText, Queries.{Text, Variant}}
 
 -- the bytes of the text that the tokens show, which alone the tree matches, if there is one
 abbrev pub ShowsText : Tree Span → Option (List ℕ) → Type 0

@@ -1,7 +1,6 @@
 -- What is read of an expression.
 use Rattle.std.specs.Prelude.{◌≡◌, IsUtf8, List, chars, ℕ}
-use Rattle.wax.specs.Language.{Reads, Span, Tokenized, Tree}
-use Rattle.wax.specs.Patterns.{Spells}
+use Rattle.wax.specs.{Language.{Reads, Span, Tokenized, Tree}, Patterns.Spells}
 
 -- the bytes are text that spells the tree of these tokens, which breaks no rule, and no other tree
 abbrev pub SpellsOnly : List ℕ → Tokenized Span → Type 0

@@ -1,8 +1,7 @@
 -- Which forms can't take a part of a text, by the letters with which they begin.
-use Rattle.std.specs.Prelude.{◌≡◌, ℕ, ◌+◌, ◌<◌, ◌≤◌, Bool, List, length, take, Some}
-use Rattle.std.specs.Prelude.{slice_get, slice_index_or}
-use Rattle.wax_lengths.specs.FirstLetters.{first_letter, group_of, is_folded}
-use Rattle.wax_lengths.specs.Forms.{TakenBy}
+use Rattle.std.specs.Prelude.{◌≡◌, ℕ, ◌+◌, ◌<◌, ◌≤◌, Bool, List, length, take, Some, slice_get}
+use Rattle.std.specs.Prelude.{slice_index_or}
+use Rattle.wax_lengths.specs.{FirstLetters.{first_letter, group_of, is_folded}, Forms.TakenBy}
 use Rattle.wax_lengths.specs.declared.form.Form.{Form}
 
 -- none of the forms from one index up to another takes a beginning of the text

@@ -1,11 +1,8 @@
 -- Rows of the places of a text: how many characters a piece takes there.
-use Rattle.std.specs.Prelude.{◌≡◌, ℕ, ◌+◌, ◌-◌, ◌≤◌, true, List, [], ◌∷◌, length}
-use Rattle.std.specs.Prelude.{take, drop, Option, Some, None, is_some, slice_get, slice_index_or}
-use Rattle.std.specs.Global.{Vec}
-use Rattle.wax_lengths.specs.Forms.{TakenBy}
-use Rattle.wax_capture.specs.inner.Splits.{IsChosenBy, Splits}
-use Rattle.wax_lengths.specs.declared.form.Form.{Form}
-use Rattle.wax_capture.specs.declared.piece.Piece.{Piece}
+use Rattle.std.specs.Prelude.{◌≡◌, ℕ, ◌+◌, ◌-◌, ◌≤◌, true, List, [], ◌∷◌, length, take, drop, Option, Some}
+use Rattle.std.specs.{Prelude.{None, is_some, slice_get, slice_index_or}, Global.Vec}
+use Rattle.wax_lengths.specs.{Forms.TakenBy, declared.form.Form.Form}
+use Rattle.wax_capture.specs.{inner.Splits.{IsChosenBy, Splits}, declared.piece.Piece.Piece}
 
 -- n characters are chosen for the first piece; where there is no piece, nothing is left of the text
 abbrev pub TakesPiece : List Piece → List ℕ → ℕ → Type 0

@@ -2,8 +2,7 @@
 use Rattle.std.specs.Prelude.{◌≡◌, ℕ, ◌+◌, ◌*◌, ◌≤◌, List, [], ◌∷◌, ◌++◌, length, map, take, drop}
 use Rattle.wax_lengths.specs.Prefers.{Prefers}
 use Rattle.wax_capture.specs.Pieces.{WayOf, captured_by, forms_of, size_of, skipped_by}
-use Rattle.wax_capture.specs.declared.piece.Capture.{Capture}
-use Rattle.wax_capture.specs.declared.piece.Piece.{Piece}
+use Rattle.wax_capture.specs.{declared.piece.Capture.Capture, declared.piece.Piece.Piece}
 
 -- each piece takes a part of the text, one after another
 abbrev pub Splits : List Piece → List ℕ → Type 0

@@ -1,14 +1,9 @@
 -- How far it was tried which part of a text each piece takes.
 use Rattle.std.specs.Prelude.{◌≡◌, ◌⊎◌, ℕ, ◌+◌, ◌<◌, ◌≤◌, Bool, true, List, [], ◌∷◌, ⊤, length, take, drop}
-use Rattle.wax_lengths.specs.Prefers.{Prefers}
-use Rattle.wax_capture.specs.Pieces.{WayOf}
-use Rattle.wax_lengths.specs.Forms.{TakenBy}
-use Rattle.wax_lengths.specs.Spans.{InSpan, looks}
-use Rattle.wax_lengths.specs.declared.form.Form.{Form}
+use Rattle.wax_lengths.specs.{Prefers.Prefers, Forms.TakenBy, Spans.{InSpan, looks}, declared.form.Form.Form}
 use Rattle.wax_lengths.specs.declared.span.LengthSpan.{LengthSpan}
-use Rattle.wax_capture.specs.inner.Splits.{AreChosen, FitsBy, Splits}
-use Rattle.wax_capture.specs.declared.piece.Piece.{Piece}
-use Rattle.wax_capture.specs.declared.trial.Frame.{Frame}
+use Rattle.wax_capture.specs.{Pieces.WayOf, inner.Splits.{AreChosen, FitsBy, Splits}}
+use Rattle.wax_capture.specs.{declared.piece.Piece.Piece, declared.trial.Frame.Frame}
 use Rattle.wax_capture.specs.declared.trial.Trial.{Trial}
 use Rattle.wax_capture.specs.declared.trial.Trial.TheVariants.{Chosen, Nothing, Unknown}
 

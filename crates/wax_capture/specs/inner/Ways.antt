@@ -1,9 +1,8 @@
 -- Which tokens have one way, and which are tree wildcards.
 use Rattle.std.specs.Prelude.{◌≡◌, ℕ, Bool, true, false, List, [], ◌∷◌}
-use Rattle.wax_program.specs.Machine.{PassesTest}
-use Rattle.wax_program.specs.declared.instruction.Test.{Test}
-use Rattle.wax_token.specs.Syntax.{literal, class, separator, one, zero_or_more, tree}
-use Rattle.wax_token.specs.Syntax.{Tree, leaf, alternation, concatenation, repetition}
+use Rattle.wax_program.specs.{Machine.PassesTest, declared.instruction.Test.Test}
+use Rattle.wax_token.specs.Syntax.{literal, class, separator, one, zero_or_more, tree, Tree, leaf}
+use Rattle.wax_token.specs.Syntax.{alternation, concatenation, repetition}
 
 -- whether it has one way
 abbrev pub is_single : {A : Type 0} → Tree A → Bool

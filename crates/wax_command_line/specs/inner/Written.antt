@@ -1,16 +1,10 @@
 -- What is written for a walk. Only private functions cite this file.
-use Rattle.std.specs.Prelude.{◌≡◌, ℕ, Bool, List, [], ◌++◌, Option}
-use Rattle.std.specs.Io.KnownBytes.{Appends}
-use Rattle.std.specs.List.{list_any}
-use Rattle.wax_directory.specs.History.{Answer}
-use Rattle.wax_directory.specs.Law.{Law}
+use Rattle.std.specs.{Prelude.{◌≡◌, ℕ, Bool, List, [], ◌++◌, Option}, Io.KnownBytes.Appends, List.list_any}
+use Rattle.wax_directory.specs.{History.Answer, Law.Law}
 use Rattle.wax_lines.specs.declared.lines.LinesError.{LinesError}
-use Rattle.wax_lines.specs.declared.lines.LinesError.TheVariants.{Memory}
-use Rattle.wax_lines.specs.Written.{WritesPart}
-use Rattle.wax_walk.specs.Collected.{EndsThere, Took, TookCourse}
-use Rattle.wax_walk.specs.Forest.{Pending, all_pending, preorder}
-use Rattle.wax_walk.specs.Given.{Given}
-use Rattle.wax_walk.specs.View.{WalkView}
+use Rattle.wax_lines.specs.{declared.lines.LinesError.TheVariants.Memory, Written.WritesPart}
+use Rattle.wax_walk.specs.{Collected.{EndsThere, Took, TookCourse}, Forest.{Pending, all_pending, preorder}}
+use Rattle.wax_walk.specs.{Given.Given, View.WalkView}
 use Rattle.wax_command_line.specs.Candidates.{candidate_lines, is_error}
 
 -- A line was put after the waiting bytes; the first of these were written, and the others wait. `held` is

@@ -2,8 +2,7 @@
 use Rattle.std.specs.Prelude.{ℕ, List}
 use Rattle.wax.specs.GlobView.{GlobView, HasCaptures, IsMeant}
 use Rattle.wax_lines.specs.Lines.{WritesCaptures, WritesMeant}
-use Rattle.wax_commands.specs.LineCommands.{LineCommand}
-use Rattle.wax_commands.specs.declared.run.Lines.{Lines}
+use Rattle.wax_commands.specs.{LineCommands.LineCommand, declared.run.Lines.Lines}
 use Rattle.wax_commands.specs.declared.run.Lines.TheVariants.{Matching, Captured}
 
 -- the bytes that may be written for a text

@@ -1,17 +1,10 @@
 -- The states of a program that letters lead to.
-use Rattle.std.specs.Prelude.{◌≡◌, ◌+◌, ◌<◌, ◌≤◌, ◌↔◌, ℕ, Bool, true, List, [], Option, Some, None, IsTrue}
-use Rattle.std.specs.Prelude.{◌⊎◌, length, map, nat_eq, slice_get, slice_index, slice_set}
-use Rattle.std.specs.Cmp.Lexicographic.{pointwise}
-use Rattle.std.specs.Global.{Vec}
-use Rattle.std.specs.HashMap.{HashMap, get}
-use Rattle.std.specs.Str.{all_scalars}
-use Rattle.wax_program.specs.declared.instruction.Instruction.{Instruction}
-use Rattle.wax_program.specs.Machine.{Accepts}
-use Rattle.wax_program.specs.Threads.{AnyAmong}
-use Rattle.wax_states.specs.Reached.{AreReached}
-use Rattle.wax_compare.specs.Limit.{IsAtPlaces, IsReachedState, bytes_of_states}
-use Rattle.wax_compare.specs.Selected.{CanSelect, IsSelected}
-use Rattle.wax_compare.specs.declared.automaton.Automaton.{Automaton}
+use Rattle.std.specs.Prelude.{◌≡◌, ◌+◌, ◌<◌, ◌≤◌, ◌↔◌, ℕ, Bool, List, [], Option, Some, None, IsTrue, ◌⊎◌}
+use Rattle.std.specs.Prelude.{length, map, slice_get, slice_index, slice_set}
+use Rattle.wax_program.specs.{declared.instruction.Instruction.Instruction, Machine.Accepts, Threads.AnyAmong}
+use Rattle.wax_states.specs.{Indexed.AreIndexed, Reached.AreReached}
+use Rattle.wax_compare.specs.Limit.{AllDiffer, IsReachedState, bytes_of_states}
+use Rattle.wax_compare.specs.{Selected.{CanSelect, IsSelected}, declared.automaton.Automaton.Automaton}
 use Rattle.wax_compare.specs.declared.automaton.ProgramState.{ProgramState}
 use Rattle.wax_compare.specs.declared.wanted.Criterion.{Criterion}
 use Rattle.wax_compare.specs.inner.Distinctions.{AreDistinctions, MarksOthers}
@@ -42,27 +35,9 @@ abbrev pub LeadsToState : List Instruction → List ProgramState → List ℕ �
 LeadsToState code states places c n =
     (n < length states) × AreReached code c places [] (state_places states n)
 
--- from either list of places the program accepts the same texts
-abbrev pub AcceptAlike : List Instruction → List ℕ → List ℕ → Type 0
-AcceptAlike code places others = (s : List ℕ) → AnyAmong code places s ↔ AnyAmong code others s
-
--- a text of characters leads to the places
-abbrev pub HasTextTo : List Instruction → List ℕ → Type 0
-HasTextTo code places = (text : List ℕ) × (all_scalars text ≡ true) × IsAtPlaces code text places
-
 -- the places of each state
 abbrev pub all_places : List ProgramState → List (List ℕ)
 all_places states = map (λ s. s.places.items) states
-
--- two lists of places are equal
-abbrev pub same_places : Vec ℕ → Vec ℕ → Bool
-same_places p q = pointwise nat_eq p.items q.items
-
--- the index finds the number of each state by its places, and no other number
-pub record IsIndexOf {S : Type 0} (states : List ProgramState) (index : HashMap (Vec ℕ) ℕ S) : Type 0 where
-  pub has : (t : ℕ) (s : ProgramState) → slice_get states t ≡ Some s → get same_places index s.places ≡ Some t
-  pub only : (p : Vec ℕ) (t : ℕ) → get same_places index p ≡ Some t
-      → (t < length states) × (state_places states t ≡ p.items)
 
 -- a state is reached, and it says rightly whether a text that ends in it is selected, and where letters lead,
 -- as far as it is known
@@ -82,7 +57,8 @@ pub record IsAutomatonOf (code : List Instruction) (letters : List ℕ) (r : Aut
   pub distinctions : AreDistinctions code letters r.distinctions
   pub rows : (t : ℕ) (s : ProgramState) → slice_get r.states.items t ≡ Some s
       → IsStateOf r.criterion code letters r.states.items s
-  pub index : IsIndexOf r.states.items r.index
+  pub index : AreIndexed r.index (all_places r.states.items)
+  pub differ : AllDiffer (all_places r.states.items)
   pub bytes : r.bytes ≤ bytes_of_states (length letters) (all_places r.states.items)
 
 -- the first state accepts what the program does

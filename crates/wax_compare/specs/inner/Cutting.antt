@@ -1,14 +1,11 @@
 -- Which cuts tests need.
 use Rattle.std.specs.Prelude.{◌≡◌, ◌+◌, ◌<◌, ◌≤◌, ℕ, List, Some, IfSome, Contains, All, slice_get}
-use Rattle.std.specs.Prelude.{slice_index, slice_index_or, ⊤}
-use Rattle.std.specs.Char.{IsScalar}
-use Rattle.std.specs.List.Sorted.{IsNonDecreasing}
+use Rattle.std.specs.{Prelude.{slice_index, slice_index_or, ⊤}, Char.IsScalar, List.Sorted.IsNonDecreasing}
 use Rattle.wax_compare.specs.Cuts.{CutApart, SameBlock}
 use Rattle.unicode.specs.CaseFolding.{fold_pairs}
 use Rattle.wax_token.specs.declared.token.Archetype.{Archetype}
 use Rattle.wax_token.specs.declared.token.Archetype.TheVariants.{Character, Range}
-use Rattle.wax_program.specs.declared.instruction.Instruction.{Instruction}
-use Rattle.wax_program.specs.declared.instruction.Test.{Test}
+use Rattle.wax_program.specs.{declared.instruction.Instruction.Instruction, declared.instruction.Test.Test}
 use Rattle.wax_program.specs.declared.instruction.Test.TheVariants.{Char, Folded, Class, NotSlash, Any, Never}
 use Rattle.wax_program.specs.Tests.{test_of}
 

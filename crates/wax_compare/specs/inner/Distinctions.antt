@@ -4,9 +4,7 @@ use Rattle.std.specs.Prelude.{Contains, length, slice_get, slice_index}
 use Rattle.wax_program.specs.declared.instruction.Instruction.{Instruction}
 use Rattle.wax_program.specs.declared.instruction.Instruction.TheVariants.{Check, Repeat, Components, Fork}
 use Rattle.wax_program.specs.declared.instruction.Instruction.TheVariants.{Jump, Back, End}
-use Rattle.wax_program.specs.Machine.{PassesTest}
-use Rattle.wax_program.specs.Steady.{Alike}
-use Rattle.wax_program.specs.Threads.{AnyAmong}
+use Rattle.wax_program.specs.{Machine.PassesTest, Steady.Alike, Threads.AnyAmong}
 use Rattle.wax_compare.specs.declared.distinctions.Distinctions.{Distinctions}
 use Rattle.wax_compare.specs.declared.distinctions.Exceptions.{Exceptions}
 

@@ -1,13 +1,9 @@
 -- Texts that go on from a pair of states.
 use Rattle.std.specs.Prelude.{◌≡◌, ◌==◌, ℕ, Bool, true, false, not, IsTrue, List, [], ◌∷◌, ⊤}
-use Rattle.wax_program.specs.declared.instruction.Instruction.{Instruction}
-use Rattle.wax_program.specs.Threads.{AnyAmong}
-use Rattle.wax_compare.specs.declared.wanted.Texts.{Texts}
-use Rattle.wax_compare.specs.declared.wanted.Texts.TheVariants.{All, Paths}
-use Rattle.wax_compare.specs.declared.wanted.Criterion.{Criterion}
-use Rattle.wax_compare.specs.declared.wanted.Wanted.{Wanted}
-use Rattle.wax_compare.specs.Comparison.{AsWanted}
-use Rattle.wax_compare.specs.Selected.{IsSelected}
+use Rattle.wax_program.specs.{declared.instruction.Instruction.Instruction, Threads.AnyAmong}
+use Rattle.wax_compare.specs.{declared.wanted.Texts.Texts, declared.wanted.Texts.TheVariants.{All, Paths}}
+use Rattle.wax_compare.specs.{declared.wanted.Criterion.Criterion, declared.wanted.Wanted.Wanted}
+use Rattle.wax_compare.specs.{Comparison.AsWanted, Selected.IsSelected}
 
 -- two programs, which texts each of them selects, and which are looked for
 pub record Task : Type 0 where

@@ -1,10 +1,8 @@
 -- Characters that pass the same tests of a program.
 use Rattle.std.specs.Prelude.{◌≡◌, ◌+◌, ◌*◌, ◌%◌, ◌^◌, ◌↔◌, ◌<◌, ◌⊎◌, ℕ, zero, suc, List, Some, IfSome}
 use Rattle.std.specs.Prelude.{length, slice_get, slice_index}
-use Rattle.wax_program.specs.declared.instruction.Instruction.{Instruction}
-use Rattle.wax_program.specs.Machine.{PassesTest}
-use Rattle.wax_program.specs.declared.instruction.Test.{Test}
-use Rattle.wax_program.specs.Tests.{test_of}
+use Rattle.wax_program.specs.{declared.instruction.Instruction.Instruction, Machine.PassesTest}
+use Rattle.wax_program.specs.{declared.instruction.Test.Test, Tests.test_of}
 use Rattle.wax_compare.specs.Cuts.{AreUnlike, HasStandIn}
 
 -- the test of the instruction at the place, if it has one, passes both characters or neither

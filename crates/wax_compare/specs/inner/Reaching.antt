@@ -1,14 +1,10 @@
 -- The pairs that were reached, and what is known of them.
 use Rattle.std.specs.Prelude.{◌≡◌, ◌+◌, ◌<◌, ◌≤◌, ◌⊎◌, ◌↔◌, ℕ, true, List, [], ◌∷◌, ◌++◌, Some, length}
-use Rattle.std.specs.Prelude.{slice_get}
-use Rattle.std.specs.Str.{all_scalars}
-use Rattle.std.specs.Char.{IsScalar}
+use Rattle.std.specs.{Prelude.slice_get, Str.all_scalars, Char.IsScalar}
 use Rattle.wax_program.specs.Threads.{AnyAmong}
 use Rattle.wax_states.specs.States.{LeadOn}
-use Rattle.wax_compare.specs.declared.pairs.Reached.{Reached}
-use Rattle.wax_compare.specs.declared.pairs.StatePair.{StatePair}
-use Rattle.wax_compare.specs.declared.automaton.ProgramState.{ProgramState}
-use Rattle.wax_compare.specs.Limit.{EndsSearch, IsAtPlaces}
+use Rattle.wax_compare.specs.{declared.pairs.Reached.Reached, declared.pairs.StatePair.StatePair}
+use Rattle.wax_compare.specs.{declared.automaton.ProgramState.ProgramState, Limit.{EndsSearch, IsAtPlaces}}
 use Rattle.wax_compare.specs.inner.Going.{Goes, GoesOnAmong, IsAllowed, Task, starts}
 use Rattle.wax_compare.specs.inner.Automata.{BeginsAsProgram, state_places}
 

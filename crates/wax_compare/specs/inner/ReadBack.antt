@@ -1,8 +1,7 @@
 -- Texts that are read back from a pair to the first one.
 use Rattle.std.specs.Prelude.{◌≡◌, ◌+◌, ◌<◌, ℕ, List, Some, length, slice_get}
 use Rattle.wax_compare.specs.declared.pairs.Reached.{Reached}
-use Rattle.wax_compare.specs.inner.Reaching.{AreReachedPairs, GoesAt, Readings}
-use Rattle.wax_compare.specs.inner.Visiting.{EndsAt}
+use Rattle.wax_compare.specs.{inner.Reaching.{AreReachedPairs, GoesAt, Readings}, inner.Visiting.EndsAt}
 
 -- each pair but the first one came from an earlier one
 abbrev pub AreEarlier : List Reached → Type 0

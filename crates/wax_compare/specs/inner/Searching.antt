@@ -1,16 +1,10 @@
 -- Steps of two programs at once.
 use Rattle.std.specs.Prelude.{◌≡◌, ◌≢◌, ◌<◌, ℕ, List, Option, Some, None, length, slice_index}
-use Rattle.wax_program.specs.declared.instruction.Instruction.{Instruction}
-use Rattle.wax_program.specs.Machine.{Accepts}
-use Rattle.wax_compare.specs.Comparison.{IsWanted}
-use Rattle.wax_compare.specs.Selected.{IsSelected}
-use Rattle.wax_compare.specs.declared.pairs.StatePair.{StatePair}
-use Rattle.wax_compare.specs.declared.search.Search.{Search}
-use Rattle.wax_compare.specs.Cuts.{StandsFor}
-use Rattle.wax_compare.specs.inner.Going.{IsAllowed}
+use Rattle.wax_program.specs.{declared.instruction.Instruction.Instruction, Machine.Accepts}
+use Rattle.wax_compare.specs.{Comparison.IsWanted, Selected.IsSelected, declared.pairs.StatePair.StatePair}
+use Rattle.wax_compare.specs.{declared.search.Search.Search, Cuts.StandsFor, inner.Going.IsAllowed}
 use Rattle.wax_compare.specs.inner.Automata.{IsAutomatonOf, StatesStay, state_marks}
-use Rattle.wax_compare.specs.inner.Distinctions.{IsUnmarked}
-use Rattle.wax_compare.specs.inner.Reaching.{EndsBy, IsPairStep, Readings}
+use Rattle.wax_compare.specs.{inner.Distinctions.IsUnmarked, inner.Reaching.{EndsBy, IsPairStep, Readings}}
 
 abbrev pub readings : List Instruction → List Instruction → Search → Readings
 readings code other s = record {
@@ -62,7 +56,7 @@ IsNextOrNone r letter from None = (c : ℕ) → StandsFor r.task.code r.task.oth
 IsNextOrNone r letter from (Some to) = IsNextPair r letter from to
 
 -- the letter isn't `/`, and neither state marks it
-pub record IsUsual (s : Search) (pair : StatePair) (number : ℕ) : Type 0 where
+pub record IsUndistinguished (s : Search) (pair : StatePair) (number : ℕ) : Type 0 where
   pub other : slice_index s.letters.items number ≢ 47
   pub first : IsUnmarked (state_marks s.first.states.items pair.first) number
   pub second : IsUnmarked (state_marks s.second.states.items pair.second) number

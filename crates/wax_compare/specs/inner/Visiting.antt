@@ -1,15 +1,12 @@
 -- What holds while pairs are followed by letters.
 use Rattle.std.specs.Prelude.{◌≡◌, ◌+◌, ◌*◌, ◌<◌, ◌≤◌, ◌⊎◌, ◌↔◌, ◌==◌, ◌&&◌, ℕ, Bool, IsTrue, List, [], ◌∷◌}
-use Rattle.std.specs.Prelude.{Some, length, slice_get, slice_index, ⊤}
-use Rattle.std.specs.Bool.{beq}
+use Rattle.std.specs.{Prelude.{Some, length, slice_get, slice_index, ⊤}, Bool.beq}
 use Rattle.std.specs.HashSet.{HashSet, contains}
 use Rattle.wax_program.specs.declared.instruction.Instruction.{Instruction}
 use Rattle.wax_compare.specs.declared.finding.Followed.{Followed}
 use Rattle.wax_compare.specs.declared.finding.Followed.TheVariants.{All, Ends, OverLimit}
-use Rattle.wax_compare.specs.declared.pairs.StatePair.{StatePair}
-use Rattle.wax_compare.specs.declared.pairs.Reached.{Reached}
-use Rattle.wax_compare.specs.declared.search.Search.{Search}
-use Rattle.wax_compare.specs.Cuts.{AreLetters, AreUnlike, StandsFor}
+use Rattle.wax_compare.specs.{declared.pairs.StatePair.StatePair, declared.pairs.Reached.Reached}
+use Rattle.wax_compare.specs.{declared.search.Search.Search, Cuts.{AreLetters, AreUnlike, StandsFor}}
 use Rattle.wax_compare.specs.inner.Reaching.{AreFollowed, AreReachedPairs, AreSamePairs, BeginAsPrograms}
 use Rattle.wax_compare.specs.inner.Reaching.{GoesAt, IsFollowedBy, Readings}
 use Rattle.wax_compare.specs.inner.Searching.{AreAutomataOf, readings}

@@ -1,13 +1,11 @@
 -- Profiles whose numbers stay at the greatest of 128 bits.
 use Rattle.std.specs.Prelude.{◌≡◌, ◌+◌, ◌-◌, ◌^◌, Bool, None, Option, Some, ℕ, false, min, true}
 use Rattle.wax_query.specs.Ranges.{Bounds}
-use Rattle.wax_components.specs.Depth.{usize_max}
-use Rattle.wax_components.specs.declared.profile.Profile.{Profile}
+use Rattle.wax_components.specs.{Depth.usize_max, declared.profile.Profile.Profile}
 use Rattle.wax_components.specs.declared.profiles.Profiles.{Profiles}
 use Rattle.wax_components.specs.inner.Intervals.{Interval, hull, or_zero, saturated_interval}
-use Rattle.wax_components.specs.inner.Profiles.{interval_at, concatenated, empty_text, only}
-use Rattle.wax_components.specs.inner.Profiles.{power_range, profile}
-use Rattle.wax_components.specs.inner.Profiles.{union}
+use Rattle.wax_components.specs.inner.Profiles.{interval_at, concatenated, empty_text, only, power_range}
+use Rattle.wax_components.specs.inner.Profiles.{profile, union}
 use Rattle.wax_components.specs.inner.TreeProfiles.{admits, admits_two, less_two}
 
 abbrev pub u128_max : ℕ

@@ -3,11 +3,9 @@ use Rattle.std.specs.Prelude.{◌+◌, ◌-◌, ◌&&◌, if◌then◌else◌, B
 use Rattle.wax_query.specs.Components.{slashes}
 use Rattle.wax_token.specs.Syntax.{Leaf, Tree, Trees, alternation, class, concatenation, leaf, literal, more}
 use Rattle.wax_token.specs.Syntax.{none, one, repetition, separator, tree, zero_or_more}
-use Rattle.wax_components.specs.declared.profile.Profile.{Profile}
-use Rattle.wax_components.specs.inner.Intervals.{Interval, hull, kept}
+use Rattle.wax_components.specs.{declared.profile.Profile.Profile, inner.Intervals.{Interval, hull, kept}}
 use Rattle.wax_components.specs.inner.Profiles.{concatenated, empty_text, no_text, only, power_range, profile}
-use Rattle.wax_components.specs.inner.Profiles.{single, union}
-use Rattle.wax_components.specs.inner.Shapes.{Shape, empty, ended, shape}
+use Rattle.wax_components.specs.{inner.Profiles.{single, union}, inner.Shapes.{Shape, empty, ended, shape}}
 
 -- all texts of a shape
 abbrev pub every_text : Shape → Interval

@@ -1,7 +1,6 @@
 -- What a node shows that is made from tails.
 use Rattle.std.specs.Prelude.{ℕ, cond, List, Option, Some, None}
-use Rattle.wax_directory.specs.declared.tree.Node.{Node}
-use Rattle.wax_directory.specs.Nodes.{reached, shown_reached}
+use Rattle.wax_directory.specs.{declared.tree.Node.Node, Nodes.{reached, shown_reached}}
 use Rattle.wax_directory.specs.PathTails.{PathTail, rests, holds_name, StandsBy}
 
 -- a name, unless it is one of these

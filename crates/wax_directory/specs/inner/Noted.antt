@@ -1,9 +1,8 @@
 -- What a note adds to the answers.
 use Rattle.std.specs.Prelude.{List, [], ◌∷◌}
-use Rattle.wax_directory.specs.declared.history.Note.{Note}
-use Rattle.wax_directory.specs.declared.history.Note.TheVariants as note
-use Rattle.wax_directory.specs.Answers.{listed_of}
+use Rattle.wax_directory.specs.{declared.history.Note.Note, Answers.listed_of}
 use Rattle.wax_directory.specs.History.{Answer, found, absent, unseen, opened, refused, listed, at_end}
+use Rattle.wax_directory.specs.declared.history.Note.TheVariants as note
 
 abbrev pub noted : Note → List Answer
 noted (note.Found path kind) = found path.now kind ∷ []

@@ -1,15 +1,13 @@
 -- What a look-up in a tree returns.
 use Rattle.std.specs.Prelude.{◌≡◌, ℕ, Bool, false, List, Option, Some, None, Result, Ok, Err, Vec}
-use Rattle.std.specs.Prelude.{string_bytes, slice_get, ⊤}
-use Rattle.std.specs.Str.{bytes_eq}
+use Rattle.std.specs.{Prelude.{string_bytes, slice_get, ⊤}, Str.bytes_eq}
 use Rattle.wax_directory.specs.declared.directory.DirectoryFault.{DirectoryFault}
 use Rattle.wax_directory.specs.declared.directory.DirectoryFault.TheVariants.{Failed, Memory}
-use Rattle.wax_directory.specs.declared.tree.Node.{Node}
-use Rattle.wax_directory.specs.declared.tree.TreeItem.{TreeItem}
+use Rattle.wax_directory.specs.{declared.tree.Node.Node, declared.tree.TreeItem.TreeItem}
 use Rattle.wax_directory.specs.declared.tree.Node.TheOpen.{TreeItem-F}
-use Rattle.wax_directory.specs.declared.tree.Node.TheOpen as O
 use Rattle.wax_directory.specs.declared.tree.Node.TheViews.{out-TreeItem}
 use Rattle.wax_directory.specs.Nodes.{node_at, child_at, entry_node, Reached, to_node, to_nothing, to_sealed}
+use Rattle.wax_directory.specs.declared.tree.Node.TheOpen as O
 
 abbrev pub layer_has_name : List ℕ → TreeItem-F Node TreeItem → Bool
 layer_has_name x (O.Entry name node) = bytes_eq (string_bytes name) x

@@ -1,22 +1,18 @@
 -- Where names lead in a tree, and what its nodes show.
-use Rattle.std.proofs.Common.{◌≡◌, ◌+◌, ℕ, suc, true, false, cond}
-use Rattle.std.proofs.Common.{List, [], ◌∷◌, ◌++◌, Option, Some, None, string_bytes, slice_get}
-use Rattle.std.proofs.Common.{refl, sym, ◌∙◌, ap, subst}
+use Rattle.std.proofs.Common.{◌≡◌, ◌+◌, ℕ, suc, true, false, cond, List, [], ◌∷◌, ◌++◌, Option, Some, None}
+use Rattle.std.proofs.Common.{string_bytes, slice_get, refl, sym, ◌∙◌, ap, subst}
 use Rattle.std.specs.Str.{bytes_eq}
-use Rattle.wax_directory.specs.declared.tree.Node.{Node}
-use Rattle.wax_directory.specs.declared.tree.TreeItem.{TreeItem}
+use Rattle.wax_directory.specs.{declared.tree.Node.Node, declared.tree.TreeItem.TreeItem}
 use Rattle.wax_directory.specs.declared.tree.Node.TheOpen.{Node-F, TreeItem-F}
-use Rattle.wax_directory.specs.declared.tree.Node.TheOpen as O
 use Rattle.wax_directory.specs.declared.tree.Node.TheViews.{out-Node, out-TreeItem, roll-Node, roll-TreeItem}
 use Rattle.wax_directory.specs.declared.tree.Node.TheViews.{roll-out-Node, roll-out-TreeItem}
 use Rattle.wax_directory.specs.declared.tree.Node.TheFolds.{fold-roll-Node, fold-roll-TreeItem}
-use Rattle.wax_directory.specs.Shown.{Items, end, folder, unread, not_text, Shown}
-use Rattle.wax_directory.specs.Shown.{a_leaf, a_folder, a_sealed}
-use Rattle.wax_directory.specs.Nodes.{with_entry, item_step, node_step, shown_of}
-use Rattle.wax_directory.specs.Nodes.{item_shown, items_shown, node_layer, entry_node, held_layer, held}
-use Rattle.wax_directory.specs.Nodes.{held_of, child_of, child_at, and_below, node_at}
-use Rattle.wax_directory.specs.Nodes.{HasDistinctNames, Reached, to_node, to_nothing, to_sealed, named_before}
-use Rattle.wax_directory.specs.Nodes.{named_in, below_layer, onward, reached}
+use Rattle.wax_directory.specs.Shown.{Items, end, folder, unread, not_text, Shown, a_leaf, a_folder, a_sealed}
+use Rattle.wax_directory.specs.Nodes.{with_entry, item_step, node_step, shown_of, item_shown, items_shown}
+use Rattle.wax_directory.specs.Nodes.{node_layer, entry_node, held_layer, held, held_of, child_of, child_at}
+use Rattle.wax_directory.specs.Nodes.{and_below, node_at, HasDistinctNames, Reached, to_node, to_nothing}
+use Rattle.wax_directory.specs.Nodes.{to_sealed, named_before, named_in, below_layer, onward, reached}
+use Rattle.wax_directory.specs.declared.tree.Node.TheOpen as O
 
 -- ---- places
 

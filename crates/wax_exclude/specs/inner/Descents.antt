@@ -1,9 +1,7 @@
 -- Marks of candidates, by their names.
 use Rattle.std.specs.Prelude.{◌≡◌, ℕ, Bool, List, ◌++◌, length}
-use Rattle.wax_tree.specs.Plain.{Location, item_location, one_deeper}
-use Rattle.wax_tree.specs.Prefix.{ArePlain}
-use Rattle.wax_walk.specs.Candidates.{Candidate}
-use Rattle.wax_walk.specs.Given.{Mark, with_tree}
+use Rattle.wax_tree.specs.{Plain.{Location, item_location, one_deeper}, Prefix.ArePlain}
+use Rattle.wax_walk.specs.{Candidates.Candidate, Given.{Mark, with_tree}}
 use Rattle.wax_query.specs.Below.{AreNames}
 use Rattle.wax_exclude.specs.Candidates.{candidate_at, text_at}
 

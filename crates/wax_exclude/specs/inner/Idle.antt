@@ -1,13 +1,9 @@
 -- How lines that decide nothing are found.
 use Rattle.std.specs.Prelude.{ℕ, List}
-use Rattle.wax_exclude.specs.Deciding.{SaysLines}
-use Rattle.wax_exclude.specs.Idle.{IsCoveredBy, IsLastOfSome, LineMeans}
-use Rattle.wax_exclude.specs.Ignored.{Line}
-use Rattle.wax_exclude.specs.Undecided.{IsUndecided}
-use Rattle.wax_exclude.specs.declared.idle.Covering.{Covering}
+use Rattle.wax_exclude.specs.{Deciding.SaysLines, Idle.{IsCoveredBy, IsLastOfSome, LineMeans}, Ignored.Line}
+use Rattle.wax_exclude.specs.{Undecided.IsUndecided, declared.idle.Covering.Covering}
 use Rattle.wax_exclude.specs.declared.idle.Covering.TheVariants.{By, Missing, Unknown}
-use Rattle.wax_program.specs.Closed.{IsClosed}
-use Rattle.wax_program.specs.declared.instruction.Instruction.{Instruction}
+use Rattle.wax_program.specs.{Closed.IsClosed, declared.instruction.Instruction.Instruction}
 use Rattle.wax_token.specs.Reads.{Span}
 
 -- the program accepts a text with the indexes of the lines that mean it, and no other numbers

@@ -1,11 +1,8 @@
 -- How lines mark entries, if they are stored by their alternatives.
 use Rattle.std.specs.Prelude.{ℕ, Bool, true, false, ◌&&◌, ◌||◌, if◌then◌else◌, List, [], ◌∷◌}
-use Rattle.wax_exclude.specs.Excluded.{some_test}
-use Rattle.wax_walk.specs.Candidates.{Candidate}
-use Rattle.wax_walk.specs.Given.{Mark}
-use Rattle.wax_exclude.specs.Covers.{covers_test}
-use Rattle.wax_exclude.specs.Marks.{covered_mark}
+use Rattle.wax_exclude.specs.{Excluded.some_test, Covers.covers_test, Marks.covered_mark}
 use Rattle.wax_exclude.specs.declared.split.SplitLine.{SplitLine}
+use Rattle.wax_walk.specs.{Candidates.Candidate, Given.Mark}
 
 -- the last line that matches the text decides; if there is none, the result is `was`
 abbrev pub ignored_by : Bool → List SplitLine → List ℕ → Bool

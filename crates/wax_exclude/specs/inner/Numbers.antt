@@ -1,20 +1,15 @@
 -- Numbers of lines: the greatest number of an alternative that matches decides what a list does.
-use Rattle.std.specs.Prelude.{◌≡◌, ◌↔◌, ◌⊎◌, ℕ, suc, ◌%◌, ◌==◌, ◌<◌, ◌≤◌, Bool, true, false, ◌&&◌, ◌||◌}
-use Rattle.std.specs.Prelude.{All, if◌then◌else◌, List, [], ◌∷◌, ◌++◌, Option, Some, None, drop, length}
-use Rattle.std.specs.Prelude.{◌+◌, nat_le, sum_by}
-use Rattle.wax_prefilter.specs.Literals.{LiteralsView, MayPass}
-use Rattle.wax_program.specs.Closed.{IsClosed}
-use Rattle.wax_program.specs.Machine.{Accepts, mark}
-use Rattle.wax_token.specs.Cost.{cost}
-use Rattle.wax_token.specs.Meaning.{Means}
-use Rattle.wax_token.specs.Reads.{Span}
-use Rattle.wax_token.specs.Syntax.{Tree}
-use Rattle.wax_token.specs.Words.{members}
+use Rattle.std.specs.Prelude.{◌≡◌, ◌↔◌, ◌⊎◌, ℕ, suc, ◌%◌, ◌==◌, ◌<◌, ◌≤◌, Bool, true, false, ◌&&◌, ◌||◌, All}
+use Rattle.std.specs.Prelude.{if◌then◌else◌, List, [], ◌∷◌, ◌++◌, Option, Some, None, drop, length, ◌+◌}
+use Rattle.std.specs.Prelude.{nat_le, sum_by}
+use Rattle.wax_prefilter.specs.{Facts.PrefilterView, Known.MatchesPass, Literals.{LiteralsView, MayPass}}
+use Rattle.wax_program.specs.{Closed.IsClosed, Machine.{Accepts, mark}}
+use Rattle.wax_token.specs.{Cost.cost, Meaning.Means, Reads.Span, Syntax.Tree, Words.members}
 use Rattle.wax_walk.specs.Given.{Mark, kept, alone, with_tree}
 use Rattle.wax_exclude.specs.Covers.{ends_wild, some_everything}
 use Rattle.wax_exclude.specs.declared.numbers.NumberedLines.{NumberedLines}
-use Rattle.wax_exclude.specs.declared.split.SplitLine.{SplitLine}
-use Rattle.wax_exclude.specs.inner.Listed.{none_reincludes}
+use Rattle.wax_exclude.specs.{declared.split.SplitLine.SplitLine, Ignored.Line, inner.Listed.none_reincludes}
+use Rattle.wax_exclude.specs.inner.Split.{split_of}
 
 -- ---- numbers
 
@@ -87,6 +82,13 @@ pub record KnowsLines (lines : List SplitLine) (numbered : NumberedLines) : Type
   pub fits : length numbered.matcher ≤ split_length lines
   pub means : (k : ℕ) (s : List ℕ)
       → Accepts numbered.matcher 0 (s ++ mark k ∷ []) ↔ HasMatch numbered.top 0 lines k s
+
+-- the only line ignores; its program is known, and each text that its glob matches passes
+pub record KnowsPattern (line : Line Span) (numbered : NumberedLines) (prefilter : PrefilterView) : Type 0
+  where
+    pub ignores : line.ignores ≡ true
+    pub lines : KnowsLines (split_of line ∷ []) numbered
+    pub passes : MatchesPass (members line.glob) prefilter
 
 -- the mark of an entry, with a name or not, by the greatest number that matches it
 abbrev pub numbered_mark : Bool → ℕ → Bool → Option ℕ → Mark

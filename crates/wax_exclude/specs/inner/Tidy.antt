@@ -1,8 +1,6 @@
 -- How the lines of an ignore list are removed that decide nothing.
 use Rattle.std.specs.Prelude.{◌≡◌, ℕ, List, Some, filter, filter_map, not, slice_get, ⊤}
-use Rattle.wax_exclude.specs.Idle.{is_known}
-use Rattle.wax_exclude.specs.Tidy.{indexes_of}
-use Rattle.wax_exclude.specs.declared.idle.IdleLine.{IdleLine}
+use Rattle.wax_exclude.specs.{Idle.is_known, Tidy.indexes_of, declared.idle.IdleLine.IdleLine}
 use Rattle.wax_exclude.specs.declared.idle.IdleReason.{IdleReason}
 use Rattle.wax_exclude.specs.declared.idle.IdleReason.TheVariants.{Covered, TakesNothingBack, Unknown}
 

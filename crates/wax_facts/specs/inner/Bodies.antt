@@ -1,11 +1,8 @@
 -- The sub-glob inside the last token of a glob, if its tokens are in the opened list.
 use Rattle.std.specs.Prelude.{◌≡◌, ℕ, List, zero, suc, if◌then◌else◌, ◌||◌, nat_lt, Option, Some, None}
 use Rattle.wax_token.specs.Syntax.{Tree, leaf, alternation, concatenation, repetition, Trees, none, more}
-use Rattle.wax_facts.specs.Prefix.{opened}
-use Rattle.wax_token.specs.Reads.{Span}
-use Rattle.wax_token.specs.Words.{annotation_of, members, trees}
-use Rattle.wax_facts.specs.Orderly.{Flat}
-use Rattle.wax_facts.specs.Rest.{after, begins_with_tree, owner}
+use Rattle.wax_token.specs.{Reads.Span, Words.{annotation_of, members, trees}}
+use Rattle.wax_facts.specs.{Prefix.opened, Orderly.Flat, Rest.{after, begins_with_tree, owner}}
 
 -- the only branch of an alternation, or the body of a repetition of exactly one copy
 abbrev pub open_body : {A : Type 0} → Tree A → Option (Tree A)

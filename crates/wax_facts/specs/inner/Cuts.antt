@@ -1,9 +1,8 @@
 -- What the rules ensure at the place where the prefix is cut.
 use Rattle.std.specs.Prelude.{◌≡◌, ◌≢◌, ℕ, ◌≤◌, Bool, true, false, List, []}
-use Rattle.wax_token.specs.Syntax.{Tree, Trees}
+use Rattle.wax_token.specs.{Syntax.{Tree, Trees}, Kinds.is_tree_leaf}
 use Rattle.wax_query.specs.Components.{EndsWithSlash}
 use Rattle.wax_facts.specs.Situated.{starts_with_leaf, some_starts_in, first_starts_in}
-use Rattle.wax_token.specs.Kinds.{is_tree_leaf}
 use Rattle.wax_facts.specs.Rest.{begins_with_tree, after}
 
 -- a `**` is reached through first tokens, bodies of repetitions and branches of alternations

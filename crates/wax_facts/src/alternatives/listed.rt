@@ -1,8 +1,7 @@
 //! Listing the alternatives of a token by reference.
-ghost use Rattle.std.specs.Prelude.{◌≡◌, ◌≢◌, ◌+◌, ◌<◌, ◌≤◌, ◌++◌, ◌∷◌, []};
-ghost use Rattle.std.specs.Prelude.{IfOk, IfSome, MatchOption, OnOk, length};
-ghost use Rattle.wax_token.specs.Syntax.{tree_size, trees_size};
-ghost use Rattle.wax_token.specs.Words.{trees};
+ghost use Rattle.std.specs.Prelude.{◌≡◌, ◌≢◌, ◌+◌, ◌<◌, ◌≤◌, ◌++◌, ◌∷◌, [], IfOk, IfSome, MatchOption, OnOk};
+ghost use Rattle.std.specs.Prelude.{length};
+ghost use Rattle.wax_token.specs.{Syntax.{tree_size, trees_size}, Words.trees};
 ghost use Rattle.wax_facts.specs.Alternatives.{MeansOneOf, alternatives, joined, levels, levels_each};
 ghost use Rattle.wax_facts.specs.inner.Opened.{own_levels};
 
@@ -18,8 +17,7 @@ pub struct Alternative<'a, 't, A> {
 }
 
 impl<'a, 't, A> Model for Alternative<'a, 't, A> {
-    ghost use Rattle.wax_token.specs.Syntax.{Tree};
-    ghost use Rattle.wax_token.specs.TreeCode.{tree_code};
+    ghost use Rattle.wax_token.specs.{Syntax.Tree, TreeCode.tree_code};
 
     ghost Value = { Tree A };
 

@@ -1,11 +1,7 @@
 //! Replacing branches by the only token in them.
-ghost use Rattle.std.specs.Prelude.{◌≡◌, ◌≢◌, ◌+◌, ◌<◌, ◌≤◌, ◌∷◌, []};
-ghost use Rattle.std.specs.Prelude.{MatchResult, length};
-ghost use Rattle.wax_token.specs.Syntax.{tree_size, trees_size};
-ghost use Rattle.wax_token.specs.View.{branch_tree};
-ghost use Rattle.wax_token.specs.Words.{trees};
-ghost use Rattle.wax_facts.specs.Alternatives.{levels, levels_each};
-ghost use Rattle.wax_facts.specs.inner.Opened.{own_levels};
+ghost use Rattle.std.specs.Prelude.{◌≡◌, ◌≢◌, ◌+◌, ◌<◌, ◌≤◌, ◌∷◌, [], MatchResult, length};
+ghost use Rattle.wax_token.specs.{Syntax.{tree_size, trees_size}, View.branch_tree, Words.trees};
+ghost use Rattle.wax_facts.specs.{Alternatives.{levels, levels_each}, inner.Opened.own_levels};
 
 use wax_token::token::{
     Alternation, BranchKind, Concatenation, Token, Topology, new_branch, new_leaf,

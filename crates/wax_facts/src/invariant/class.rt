@@ -1,6 +1,5 @@
 //! Classes that match only one character.
-ghost use Rattle.std.specs.Prelude.{◌≡◌, ◌≢◌, ◌∷◌, [], ℕ, MatchOption, true};
-ghost use Rattle.std.specs.List.{list_all};
+ghost use Rattle.std.specs.{Prelude.{◌≡◌, ◌≢◌, ◌∷◌, [], ℕ, MatchOption, true}, List.list_all};
 ghost use Rattle.wax_token.specs.Syntax.{class};
 ghost use Rattle.wax_facts.specs.InvariantText.{LeafText, NoText, is_only};
 

@@ -1,8 +1,6 @@
 //! Filters of a walk that may cancel what is below an item.
 
-ghost use Rattle.std.specs.Prelude.{◌≡◌, ◌⊎◌};
-ghost use Rattle.std.specs.Option.{option_map};
-ghost use Rattle.std.specs.Iterator.{IsFinite};
+ghost use Rattle.std.specs.{Prelude.{◌≡◌, ◌⊎◌}, Option.option_map, Iterator.IsFinite};
 ghost use Rattle.std.proofs.Common.{subst, sym, ◌∙◌};
 ghost use Rattle.wax_filter.specs.Feeding.{Feeds, ReturnsFor, ByEntry, NextFiltrate, entry_layer};
 

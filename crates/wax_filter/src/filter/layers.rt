@@ -1,7 +1,6 @@
 //! Filters as iterators, and iterators as filters.
 
-ghost use Rattle.std.specs.Prelude.{◌≡◌, Option};
-ghost use Rattle.std.specs.Iterator.{MakesProgress, IsFinite};
+ghost use Rattle.std.specs.{Prelude.{◌≡◌, Option}, Iterator.{MakesProgress, IsFinite}};
 ghost use Rattle.wax_filter.specs.Feeding.{NextFiltrate};
 
 use crate::filter::cancel::SeparatingFilter;

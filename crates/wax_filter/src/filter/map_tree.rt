@@ -1,7 +1,6 @@
 //! Walks whose items are mapped by a closure, which may cancel what is below an item.
 
-ghost use Rattle.std.specs.Prelude.{◌≡◌};
-ghost use Rattle.std.specs.Iterator.{IsFinite};
+ghost use Rattle.std.specs.{Prelude.◌≡◌, Iterator.IsFinite};
 ghost use Rattle.std.proofs.Common.{subst, sym, ◌∙◌};
 ghost use Rattle.wax_filter.specs.Feeding.{Feeds, ByItem, OnlyCancels, NextFiltrate};
 

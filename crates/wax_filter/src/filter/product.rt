@@ -1,7 +1,6 @@
 //! Items that are marked as kept or as excluded.
 
-ghost use Rattle.std.specs.Prelude.{◌≡◌, Option, Ok, Err, MatchResult};
-ghost use Rattle.std.specs.Option.{option_map};
+ghost use Rattle.std.specs.{Prelude.{◌≡◌, Option, Ok, Err, MatchResult}, Option.option_map};
 ghost use Rattle.wax_filter.specs.Leaving.{residue_item};
 ghost use Rattle.wax_filter.specs.declared.filter.tree_residue.TreeResidue.TheVariants.{Node, Tree};
 

@@ -1,8 +1,6 @@
 //! Items that are kept or excluded.
 
-ghost use Rattle.std.specs.Prelude.{◌≡◌, Option};
-ghost use Rattle.std.specs.Option.{option_map};
-ghost use Rattle.std.specs.Fn.{FnOnceReturnsAt};
+ghost use Rattle.std.specs.{Prelude.{◌≡◌, Option}, Option.option_map, Fn.FnOnceReturnsAt};
 ghost use Rattle.wax_filter.specs.Separating.{filtrate_of, AtFiltrate, AtResidue, LeavesOut, LeavesOutNode};
 ghost use Rattle.wax_filter.specs.Separating.{LeavesOutTree, MapsFiltrate, MapsLeftOut, RefersTo};
 ghost use Rattle.wax_filter.specs.Separating.{CancelsTree, Answers, SaysOf, SeparatesBy, CancelsBy};

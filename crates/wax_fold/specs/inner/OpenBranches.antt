@@ -4,8 +4,7 @@ use Rattle.std.specs.Prelude.{◌≡◌, ℕ, ◌+◌, List, [], ◌∷◌, ◌+
 use Rattle.std.specs.Option.{option_map}
 use Rattle.wax_token.specs.Syntax.{Tree}
 use Rattle.wax_fold.specs.declared.walk.folding.OpenBranch.{OpenBranch as AnOpenBranch}
-use Rattle.wax_fold.specs.Branches.{Branch, branch_of}
-use Rattle.wax_fold.specs.Folded.{Folding, listed_term, folded}
+use Rattle.wax_fold.specs.{Branches.{Branch, branch_of}, Folded.{Folding, listed_term, folded}}
 use Rattle.wax_fold.specs.inner.Opens.{Open, total}
 
 -- a branch, its chosen tokens that are still to come, and the terms of the others

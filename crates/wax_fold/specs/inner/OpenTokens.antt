@@ -2,10 +2,8 @@
 use Rattle.std.specs.Prelude.{◌≡◌, ℕ, ◌+◌, ◌*◌, List, [], ◌∷◌, ◌++◌, Option, Some, None, reverse}
 use Rattle.wax_token.specs.Syntax.{Tree, tree_size}
 use Rattle.wax_fold.specs.declared.walk.branch.BranchFold.{BranchFold}
-use Rattle.wax_fold.specs.declared.walk.mapping.OpenToken.{OpenToken as AnOpenToken}
-use Rattle.wax_fold.specs.Folded.{listed_term}
-use Rattle.wax_fold.specs.Mapped.{Mapping}
-use Rattle.wax_fold.specs.inner.Opens.{Open}
+use Rattle.wax_fold.specs.{declared.walk.mapping.OpenToken.OpenToken as AnOpenToken, Folded.listed_term}
+use Rattle.wax_fold.specs.{Mapped.Mapping, inner.Opens.Open}
 
 pub record OpenToken (A X : Type 0) : Type 0 where
   pub annotation : A

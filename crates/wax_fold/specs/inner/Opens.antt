@@ -1,6 +1,5 @@
 -- Branches whose tokens are being gone through, from the outermost on. No part of any fold's definition.
-use Rattle.std.specs.Prelude.{ℕ, ◌+◌, List, [], ◌∷◌, ◌++◌, Option, map}
-use Rattle.std.specs.List.{flat_map}
+use Rattle.std.specs.{Prelude.{ℕ, ◌+◌, List, [], ◌∷◌, ◌++◌, Option, map}, List.flat_map}
 use Rattle.wax_token.specs.Syntax.{Tree}
 use Rattle.wax_fold.specs.Folded.{listed_term}
 

@@ -2,8 +2,7 @@
 use denote.Ref.{Bor}
 use Rattle.std.specs.Prelude.{◌≡◌, ℕ, List, [], ◌∷◌, Option, Some, None, IsSome}
 use Rattle.wax_token.specs.Syntax.{Tree}
-use Rattle.wax_fold.specs.declared.walk.entry.WalkEntry.{WalkEntry}
-use Rattle.wax_fold.specs.Branches.{Branch}
+use Rattle.wax_fold.specs.{declared.walk.entry.WalkEntry.WalkEntry, Branches.Branch}
 use Rattle.wax_fold.specs.Walking.{Walking, walk_entry, roots}
 
 -- the tokens below the current one are put at the end

@@ -1,6 +1,5 @@
 //! Kinds of branches without their tokens.
-ghost use Rattle.std.specs.Prelude.{◌≡◌, ◌∷◌, [], IfOk};
-ghost use Rattle.std.specs.Option.{option_map};
+ghost use Rattle.std.specs.{Prelude.{◌≡◌, ◌∷◌, [], IfOk}, Option.option_map};
 ghost use Rattle.wax_token.specs.View.{branch_tree};
 ghost use Rattle.wax_fold.specs.Branches.{branch_of, composed, repeated};
 

@@ -1,8 +1,7 @@
 //! The trait of folds.
 ghost use Rattle.std.specs.Prelude.{◌≡◌, IfOk};
 ghost use Rattle.wax_token.specs.View.{leaf_of};
-ghost use Rattle.wax_fold.specs.Branches.{branch_of};
-ghost use Rattle.wax_fold.specs.Folded.{Folding};
+ghost use Rattle.wax_fold.specs.{Branches.branch_of, Folded.Folding};
 
 use crate::walk::sequence::Sequencer;
 use std::alloc::Global;

@@ -1,7 +1,6 @@
 //! Folding a token tree. A list of open branches replaces recursion.
 ghost use Rattle.std.specs.Prelude.{◌≡◌, ◌++◌, ◌∷◌, [], IfOk, Some, None, Option};
-ghost use Rattle.wax_fold.specs.Branches.{branch_of, picked, tokens_in};
-ghost use Rattle.wax_fold.specs.Folded.{folded};
+ghost use Rattle.wax_fold.specs.{Branches.{branch_of, picked, tokens_in}, Folded.folded};
 ghost use Rattle.wax_fold.specs.inner.BranchFolded.{branch_folded};
 ghost use Rattle.wax_fold.specs.inner.OpenBranches.{NextChild, closing, open_branch, with_term};
 

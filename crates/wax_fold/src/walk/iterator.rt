@@ -1,7 +1,6 @@
 //! Walks: iterators over the tokens of a tree, breadth first.
 ghost use Rattle.std.specs.Prelude.{◌≡◌, ◌++◌, ◌∷◌, ◌<◌, [], ℕ, MatchResult, OnOk, Option, Some, None, map};
-ghost use Rattle.std.specs.Iterator.{at_most};
-ghost use Rattle.std.specs.List.Sorted.{IsPermutation};
+ghost use Rattle.std.specs.{Iterator.at_most, List.Sorted.IsPermutation};
 ghost use Rattle.wax_token.specs.Syntax.{tree_size};
 ghost use Rattle.wax_fold.specs.Order.{disjuncts, children, conjuncts, level, placed, root_entry, tree_order};
 ghost use Rattle.wax_fold.specs.Branches.{branch_of};

@@ -1,8 +1,7 @@
 //! Mapping a token tree to a new one. A list of open branches replaces recursion.
 ghost use Rattle.std.specs.Prelude.{◌≡◌, ◌++◌, ◌∷◌, [], IfOk, Option, Some, None};
 ghost use Rattle.wax_token.specs.View.{branch_tree};
-ghost use Rattle.wax_fold.specs.Branches.{branch_of, tokens_in};
-ghost use Rattle.wax_fold.specs.Mapped.{mapped};
+ghost use Rattle.wax_fold.specs.{Branches.{branch_of, tokens_in}, Mapped.mapped};
 ghost use Rattle.wax_fold.specs.inner.OpenTokens.{NextToken, open_token, with_token};
 
 use crate::walk::branch::{BranchFold, decompose};

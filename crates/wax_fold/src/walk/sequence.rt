@@ -1,6 +1,5 @@
 //! Which tokens of a branch are visited, and in which order.
-ghost use Rattle.std.specs.Prelude.{◌≡◌, ◌∷◌, [], ℕ, List, IfOk, map};
-ghost use Rattle.std.specs.Option.{option_map};
+ghost use Rattle.std.specs.{Prelude.{◌≡◌, ◌∷◌, [], ℕ, List, IfOk, map}, Option.option_map};
 ghost use Rattle.wax_fold.specs.Folded.{listed_term};
 ghost use Rattle.wax_fold.specs.Branches.{Branch, branch_of, first_picked, last_picked, picked, tokens_in};
 

@@ -1,24 +1,17 @@
 -- What is kept between texts.
-use Rattle.std.specs.Prelude.{◌≡◌, ℕ, ◌+◌, ◌*◌, ◌<◌, ◌≤◌, ◌⊎◌, ◌↔◌, List, [], ◌∷◌, ◌++◌, Bool, None}
-use Rattle.std.specs.Prelude.{Contains, is_some, IfSome, IsFalse, IsTrue, Option, Some, length, replicate}
-use Rattle.std.specs.Prelude.{false, slice_get, true}
-use Rattle.wax_lazy.specs.declared.cache.Cache.{Cache}
-use Rattle.wax_lazy.specs.declared.cache.Chain.{Chain}
-use Rattle.wax_lazy.specs.declared.dfa.LazyDfa.{LazyDfa}
-use Rattle.wax_lazy.specs.inner.Rows.{AreRows}
-use Rattle.wax_lazy.specs.inner.Table.{AreWideCells, BeginsTexts, IsFailureState}
-use Rattle.wax_lazy.specs.inner.Table.{IsJoinOf, IsTable, KeepsStates, numbers_in, own_at}
-use Rattle.wax_program.specs.declared.instruction.Instruction.{Instruction}
-use Rattle.wax_program.specs.Places.{HoldsPlace}
-use Rattle.wax_program.specs.Last.{IsLastName, ReadsLast}
-use Rattle.wax_program.specs.Machine.{Accepts}
+use Rattle.std.specs.Prelude.{◌≡◌, ℕ, ◌+◌, ◌*◌, ◌<◌, ◌≤◌, ◌⊎◌, ◌↔◌, List, [], ◌∷◌, ◌++◌, Bool, None, Contains}
+use Rattle.std.specs.Prelude.{is_some, IfSome, IsFalse, IsTrue, Option, Some, length, replicate, false}
+use Rattle.std.specs.Prelude.{slice_get, true}
+use Rattle.wax_lazy.specs.{declared.cache.Cache.Cache, declared.cache.chains.Chain.Chain}
+use Rattle.wax_lazy.specs.{declared.dfa.LazyDfa.LazyDfa, inner.Rows.AreRows}
+use Rattle.wax_lazy.specs.inner.Table.{AreWideCells, BeginsTexts, IsFailureState, IsJoinOf, IsTable}
+use Rattle.wax_lazy.specs.inner.Table.{KeepsStates, numbers_in, own_at}
+use Rattle.wax_program.specs.{declared.instruction.Instruction.Instruction, Places.HoldsPlace}
+use Rattle.wax_program.specs.{Last.{IsLastName, ReadsLast}, Machine.Accepts}
 use Rattle.wax_program.specs.Onward.{AreFlagsOf, AreLevelsOf, HasLevel, LevelFlags, PlaceFlags, IsAhead}
-use Rattle.wax_program.specs.Onward.{flags_for}
+use Rattle.wax_program.specs.{Onward.flags_for, declared.onward.Ahead.Ahead, Threads.AnyAmong}
 use Rattle.wax_query.specs.declared.query.verdict.Verdict.{Verdict}
-use Rattle.wax_program.specs.declared.onward.Ahead.{Ahead}
-use Rattle.wax_program.specs.Threads.{AnyAmong}
-use Rattle.wax_states.specs.Alike.{AreLettersOf}
-use Rattle.wax_states.specs.declared.table.Next.{Next}
+use Rattle.wax_states.specs.{Alike.AreLettersOf, declared.table.Next.Next}
 use Rattle.wax_states.specs.declared.table.Next.TheVariants.{To, Nothing, Everything}
 use Rattle.wax_states.specs.declared.table.State.{State}
 use Rattle.wax_states.specs.States.{AreEmpty, HasState, LeadOn, places_at, places_or_none}

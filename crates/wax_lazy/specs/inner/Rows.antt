@@ -1,9 +1,8 @@
 -- What rows of cells say of a program.
-use Rattle.std.specs.Prelude.{◌≡◌, ℕ, ◌+◌, ◌*◌, ◌<◌, ◌⊎◌, List, [], ◌∷◌, ◌++◌, Some}
-use Rattle.std.specs.Prelude.{length, slice_get, slice_index}
-use Rattle.std.specs.Char.{encode_utf8}
-use Rattle.wax_lazy.specs.declared.rows.Begun.{Begun}
-use Rattle.wax_lazy.specs.declared.rows.Begun.TheVariants.{Zero, One, Two, Three}
+use Rattle.std.specs.Prelude.{◌≡◌, ℕ, ◌+◌, ◌*◌, ◌<◌, ◌⊎◌, List, [], ◌∷◌, ◌++◌, Some, length, slice_get}
+use Rattle.std.specs.{Prelude.slice_index, Char.encode_utf8}
+use Rattle.wax_lazy.specs.declared.rows.PartialChar.{PartialChar}
+use Rattle.wax_lazy.specs.declared.rows.PartialChar.TheVariants.{Zero, One, Two, Three}
 use Rattle.wax_lazy.specs.declared.rows.RowKey.{RowKey}
 use Rattle.wax_program.specs.declared.instruction.Instruction.{Instruction}
 use Rattle.wax_states.specs.declared.table.Next.{Next}
@@ -12,7 +11,7 @@ use Rattle.wax_states.specs.declared.table.State.{State}
 use Rattle.wax_states.specs.States.{IsDead, HasState, LeadsTo, TakesAll, places_at}
 
 -- the bytes of a character that were read
-abbrev pub begun_bytes : Begun → List ℕ
+abbrev pub begun_bytes : PartialChar → List ℕ
 begun_bytes Zero = []
 begun_bytes (One a) = a ∷ []
 begun_bytes (Two a b) = a ∷ b ∷ []

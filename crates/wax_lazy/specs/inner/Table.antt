@@ -1,14 +1,11 @@
 -- What a table of states says of a program.
 use Rattle.std.specs.Prelude.{◌≡◌, ℕ, ◌+◌, ◌*◌, ◌<◌, ◌≤◌, ◌⊎◌, ◌↔◌, ◌∷◌, List, [], Option, Some, None, IfSome}
-use Rattle.std.specs.Prelude.{Contains, IsTrue, length, slice_get, slice_index}
-use Rattle.std.specs.Global.{Vec}
-use Rattle.wax_lazy.specs.Cost.{most_kept}
-use Rattle.wax_program.specs.declared.instruction.Instruction.{Instruction}
-use Rattle.wax_program.specs.Machine.{Accepts, mark}
-use Rattle.wax_program.specs.Threads.{AnyAmong}
+use Rattle.std.specs.{Prelude.{Contains, IsTrue, length, slice_get, slice_index}, Global.Vec}
 use Rattle.std.specs.List.Sorted.{IsStrictlyIncreasing}
-use Rattle.wax_states.specs.Reached.{AreEndsMarked}
-use Rattle.wax_states.specs.declared.table.State.{State}
+use Rattle.wax_lazy.specs.Cost.{most_kept}
+use Rattle.wax_program.specs.{declared.instruction.Instruction.Instruction, Machine.{Accepts, mark}}
+use Rattle.wax_program.specs.Threads.{AnyAmong}
+use Rattle.wax_states.specs.{Reached.AreEndsMarked, declared.table.State.State}
 use Rattle.wax_states.specs.declared.table.WideCell.{WideCell}
 use Rattle.wax_states.specs.States.{IsDead, HasState, IsTransition, LeadsTo, places_at}
 

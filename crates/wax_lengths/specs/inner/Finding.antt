@@ -1,7 +1,6 @@
 -- Which lengths a function finds, and how often it looks at a character for that.
 use Rattle.std.specs.Prelude.{ℕ, ◌+◌, ◌≤◌, List, length}
-use Rattle.wax_lengths.specs.Spans.{AreLengths, looks}
-use Rattle.wax_lengths.specs.declared.span.LengthSpan.{LengthSpan}
+use Rattle.wax_lengths.specs.{Spans.{AreLengths, looks}, declared.span.LengthSpan.LengthSpan}
 
 -- The span holds the lengths of the beginnings of the text that are taken, and doesn't go past its end. The
 -- visits grow by at most `most`, including what picking from the span still looks at.

@@ -1,7 +1,6 @@
 -- Where names end, and the lengths of what tree wildcards mean.
 use Rattle.std.specs.Prelude.{ℕ, suc, ◌+◌, Bool, true, false, List, [], ◌∷◌, ◌==◌, if◌then◌else◌}
-use Rattle.wax_lengths.specs.declared.span.Marks.{Marks}
-use Rattle.wax_lengths.specs.declared.span.Marks.TheVariants.{All, AfterSlash}
+use Rattle.wax_lengths.specs.{declared.span.Marks.Marks, declared.span.Marks.TheVariants.{All, AfterSlash}}
 
 -- how many characters stand before the first `/`, or before the text's end
 abbrev pub name_len : List ℕ → ℕ

@@ -1,11 +1,9 @@
 -- How far a filter of lines has come. Only private functions cite this file.
 use Rattle.std.specs.Prelude.{◌≡◌, ◌≤◌, ℕ, List, [], ◌++◌, length, Option}
-use Rattle.std.specs.Io.KnownBytes.{Consumes, Appends, IsAtEnd}
-use Rattle.std.specs.Io.Iter.{u64_saturate}
+use Rattle.std.specs.{Io.KnownBytes.{Consumes, Appends, IsAtEnd}, Io.Iter.u64_saturate}
 use Rattle.wax_lines.specs.declared.lines.LinesError.{LinesError}
 use Rattle.wax_lines.specs.declared.lines.LinesError.TheVariants.{Read, Write, Memory}
-use Rattle.wax_lines.specs.declared.lines.sieve.Sieve.{Sieve}
-use Rattle.wax_lines.specs.Lines.{Filters, lines, StoppedWriting}
+use Rattle.wax_lines.specs.{declared.lines.sieve.Sieve.Sieve, Lines.{Filters, lines, StoppedWriting}}
 use Rattle.wax_lines.specs.inner.Sifted.{Sifted}
 
 abbrev pub SieveSifted : (List ℕ → List ℕ → Type 0) → List ℕ → List ℕ → Sieve → Type 0

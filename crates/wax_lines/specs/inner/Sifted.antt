@@ -1,7 +1,6 @@
 -- How far a filter of lines has come. Only private functions cite this file.
 use Rattle.std.specs.Prelude.{◌≡◌, ◌≢◌, ◌≤◌, ◌<◌, ◌⊎◌, ◌==◌, ℕ, ◌+◌, ◌-◌, Bool, List, [], ◌∷◌, ◌++◌, All}
-use Rattle.std.specs.Prelude.{length, slice_index}
-use Rattle.std.specs.Io.Iter.{u64_saturate}
+use Rattle.std.specs.{Prelude.{length, slice_index}, Io.Iter.u64_saturate}
 use Rattle.wax_lines.specs.Lines.{Filters}
 
 -- the byte is a line feed

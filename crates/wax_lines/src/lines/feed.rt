@@ -1,8 +1,6 @@
 //! Splits of bytes and of text at line feeds.
 ghost use Rattle.std.specs.Prelude.{◌≡◌, ◌≤◌, ◌++◌, ◌∷◌, List, ℕ, length, map, MatchOption};
-ghost use Rattle.std.specs.List.{position_or_len};
-ghost use Rattle.std.specs.Simd.Lanes.{mask_l};
-ghost use Rattle.std.specs.Str.{IsUtf8};
+ghost use Rattle.std.specs.{List.position_or_len, Simd.Lanes.mask_l, Str.IsUtf8};
 ghost use Rattle.wax_lines.specs.inner.Sifted.{EndsLines, HasNoNewline, IsAfterFeed, is_feed};
 
 use std::simd::prelude::*;

@@ -1,9 +1,7 @@
 //! The state of a filter of lines between two reads.
-ghost use Rattle.std.specs.Prelude.{◌≡◌, ◌≤◌, ◌<◌, ◌⊎◌, ℕ, List, [], ◌∷◌, ◌++◌, length};
-ghost use Rattle.std.specs.Prelude.{IfErr, IfSome, OnOk, OnErr, MatchOption};
-ghost use Rattle.std.specs.Io.KnownBytes.{Appends};
-ghost use Rattle.wax_lines.specs.Counts.{greatest_count};
-ghost use Rattle.wax_lines.specs.Lines.{Gives};
+ghost use Rattle.std.specs.Prelude.{◌≡◌, ◌≤◌, ◌<◌, ◌⊎◌, ℕ, List, [], ◌∷◌, ◌++◌, length, IfErr, IfSome, OnOk};
+ghost use Rattle.std.specs.{Prelude.{OnErr, MatchOption}, Io.KnownBytes.Appends};
+ghost use Rattle.wax_lines.specs.{Counts.greatest_count, Lines.Gives};
 ghost use Rattle.wax_lines.specs.inner.Sifted.{HasNoNewline, CountsMore};
 ghost use Rattle.wax_lines.specs.inner.Progress.{GivesNothing, SieveSifted, TakesIn, TakesInPart, TakesLast};
 ghost use Rattle.wax_lines.specs.Written.{WritesPart};

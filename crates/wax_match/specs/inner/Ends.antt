@@ -1,9 +1,7 @@
 -- Pieces of a program after which nothing follows: each way through them ends at the end of a pattern.
 use Rattle.std.specs.Prelude.{◌≡◌, ℕ, ◌+◌, ◌≤◌, List, [], ◌∷◌, ◌++◌, Some, length, slice_get}
-use Rattle.wax_match.specs.declared.encode.shared.WrittenEnd.{WrittenEnd}
-use Rattle.wax_match.specs.inner.Left.{EndMeans}
-use Rattle.wax_program.specs.Closed.{IsClosed}
-use Rattle.wax_program.specs.declared.instruction.Instruction.{Instruction}
+use Rattle.wax_match.specs.{declared.encode.shared.WrittenEnd.WrittenEnd, inner.Left.EndMeans}
+use Rattle.wax_program.specs.{Closed.IsClosed, declared.instruction.Instruction.Instruction}
 use Rattle.wax_program.specs.Machine.{Accepts, AcceptsIn, mark}
 
 -- the code has these instructions from a place on

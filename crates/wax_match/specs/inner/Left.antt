@@ -1,16 +1,13 @@
 -- What is left of patterns while they are written into one program.
 use Rattle.std.specs.Prelude.{◌≡◌, ◌++◌, ◌+◌, ◌<◌, ◌≤◌, ℕ, true, false, List, [], Contains, chars, length}
-use Rattle.std.specs.Prelude.{sum_by, take}
-use Rattle.std.specs.List.{slice_index_or}
+use Rattle.std.specs.{Prelude.{sum_by, take}, List.slice_index_or}
 use Rattle.wax_match.specs.declared.encode.left.Gap.{Gap}
 use Rattle.wax_match.specs.declared.encode.left.Gap.TheVariants.{Nothing, Star, Folders, Below, Anything}
 use Rattle.wax_match.specs.declared.encode.left.Lead.{Lead}
 use Rattle.wax_match.specs.declared.encode.left.Lead.TheVariants.{Letters, Wild, Token}
-use Rattle.wax_match.specs.declared.encode.left.Left.{Left}
-use Rattle.wax_match.specs.inner.LeadCode.{lead_code}
+use Rattle.wax_match.specs.{declared.encode.left.Left.Left, inner.LeadCode.lead_code}
 use Rattle.wax_match.specs.inner.LeftCost.{left_cost}
-use Rattle.wax_token.specs.Meaning.{HasNoSlash, Means, MeansEach, TreeMeans}
-use Rattle.wax_token.specs.Words.{trees}
+use Rattle.wax_token.specs.{Meaning.{HasNoSlash, Means, MeansEach, TreeMeans}, Words.trees}
 
 -- the same texts
 pub record AreSame (P Q : List ℕ → Type 0) : Type 0 where

@@ -1,9 +1,7 @@
 -- How many instructions are written for what is left of patterns, at most.
 use Rattle.std.specs.Prelude.{ℕ, ◌+◌, chars, length}
-use Rattle.wax_match.specs.declared.encode.left.Left.{Left}
-use Rattle.wax_match.specs.inner.LeadCode.{gap_code}
-use Rattle.wax_token.specs.Cost.{costs}
-use Rattle.wax_token.specs.Words.{trees}
+use Rattle.wax_match.specs.{declared.encode.left.Left.Left, inner.LeadCode.gap_code}
+use Rattle.wax_token.specs.{Cost.costs, Words.trees}
 
 -- its text, its wildcard and its tokens, its end, and a fork before it
 abbrev pub left_cost : Left → ℕ

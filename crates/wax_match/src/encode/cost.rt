@@ -1,11 +1,8 @@
 //! The cost of tokens, which is computed before any instruction is written.
-ghost use Rattle.std.specs.Prelude.{◌≡◌, ◌+◌, ◌-◌, ◌*◌, ◌^◌, ℕ, length, min};
-ghost use Rattle.std.specs.Str.{chars};
+ghost use Rattle.std.specs.{Prelude.{◌≡◌, ◌+◌, ◌-◌, ◌*◌, ◌^◌, ℕ, length, min}, Str.chars};
 ghost use Rattle.wax_match.specs.inner.Limits.{longest};
 ghost use Rattle.wax_token.specs.Cost.{branches_cost, copies_of, cost, costs, holds_tree, is_tree, leaf_cost};
-ghost use Rattle.wax_token.specs.Cost.{some_holds_tree};
-ghost use Rattle.wax_token.specs.View.{leaf_of};
-ghost use Rattle.wax_token.specs.Words.{trees};
+ghost use Rattle.wax_token.specs.{Cost.some_holds_tree, View.leaf_of, Words.trees};
 
 use wax_token::token::{BranchKind, LeafKind, Token, Topology, Wildcard};
 

@@ -1,11 +1,8 @@
 //! Programs of several patterns, each of which has an end of its own.
 ghost use Rattle.std.specs.Prelude.{◌≡◌, ◌↔◌, ◌≤◌, ◌+◌, ◌++◌, ◌∷◌, [], ℕ, IfOk, List, OnOk, length, sum_by};
-ghost use Rattle.wax_match.specs.Numbered.{MeansNumbered, numbered_length};
-ghost use Rattle.wax_match.specs.inner.Ends.{AreWritten};
-ghost use Rattle.wax_match.specs.inner.Left.{AreSame, SomeLeftMeans};
-ghost use Rattle.wax_match.specs.inner.LeftCost.{left_cost};
-ghost use Rattle.wax_program.specs.Closed.{IsClosed};
-ghost use Rattle.wax_program.specs.Machine.{Accepts, mark};
+ghost use Rattle.wax_match.specs.{Numbered.{MeansNumbered, numbered_length}, inner.Ends.AreWritten};
+ghost use Rattle.wax_match.specs.{inner.Left.{AreSame, SomeLeftMeans}, inner.LeftCost.left_cost};
+ghost use Rattle.wax_program.specs.{Closed.IsClosed, Machine.{Accepts, mark}};
 
 use crate::encode::FIRST_ROOM;
 use crate::encode::joining::{MOST_LEADS, sorted};

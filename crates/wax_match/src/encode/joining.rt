@@ -1,11 +1,9 @@
 //! Writing patterns into one program. What they begin with, and how they end, is written once.
 ghost use Rattle.std.specs.Prelude.{◌≡◌, ◌-◌, ◌+◌, ◌<◌, ◌≤◌, ◌++◌, ◌∷◌, All, IfOk, OnOk, length, sum_by};
-ghost use Rattle.std.specs.Prelude.{take};
-ghost use Rattle.std.specs.List.Sorted.{IsPermutation};
+ghost use Rattle.std.specs.{Prelude.take, List.Sorted.IsPermutation};
 ghost use Rattle.wax_match.specs.inner.Ends.{AreWritten, IsIn};
 ghost use Rattle.wax_match.specs.inner.Left.{IsAfterAt, IsLed, MeansBetween, OneLeftMeans, SomeLeftMeans};
-ghost use Rattle.wax_match.specs.inner.LeadCode.{lead_code};
-ghost use Rattle.wax_match.specs.inner.LeftCost.{left_cost};
+ghost use Rattle.wax_match.specs.{inner.LeadCode.lead_code, inner.LeftCost.left_cost};
 
 use crate::encode::left::{Gap, Lead, Left};
 use crate::encode::shared::WrittenEnd;

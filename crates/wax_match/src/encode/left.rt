@@ -4,8 +4,7 @@ ghost use Rattle.wax_match.specs.inner.LeadCode.{gap_code};
 ghost use Rattle.wax_match.specs.inner.Left.{AreSame, GapMeans, IsAfter, LeftMeans, SpeltMeans};
 ghost use Rattle.wax_match.specs.inner.LeftCost.{left_cost};
 ghost use Rattle.wax_token.specs.Cost.{cost, costs, leaf_cost};
-ghost use Rattle.wax_token.specs.Meaning.{LeafMeans, Means, MeansEach, TreeMeans};
-ghost use Rattle.wax_token.specs.View.{wildcard_leaf};
+ghost use Rattle.wax_token.specs.{Meaning.{LeafMeans, Means, MeansEach, TreeMeans}, View.wildcard_leaf};
 ghost use Rattle.wax_token.specs.Words.{trees};
 
 use wax_token::token::{ExpressionMetadata, LeafKind, Sides, Token, Wildcard};

@@ -1,7 +1,6 @@
 //! Ends of patterns, which those with the same number share.
 ghost use Rattle.std.specs.Prelude.{◌≡◌, ◌≤◌, ◌+◌, ◌++◌, [], All, IfOk, IsTrue, OnOk, length};
-ghost use Rattle.wax_match.specs.inner.Ends.{AreWritten, IsIn};
-ghost use Rattle.wax_match.specs.inner.LeadCode.{gap_code};
+ghost use Rattle.wax_match.specs.{inner.Ends.{AreWritten, IsIn}, inner.LeadCode.gap_code};
 ghost use Rattle.wax_match.specs.inner.Left.{EndMeans};
 
 use crate::encode::left::{Gap, is_same};

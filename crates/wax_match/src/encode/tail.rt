@@ -13,10 +13,9 @@ pub struct Tail {
 }
 
 impl Model for Tail {
-    ghost use Rattle.std.specs.Prelude.{List, reverse};
+    ghost use Rattle.std.specs.{Prelude.{List, reverse}, Coded.coded_list};
     ghost use Rattle.wax_program.specs.declared.instruction.Instruction.{Instruction};
     ghost use Rattle.wax_program.specs.contracts.instruction.Instruction as instruction;
-    ghost use Rattle.std.specs.Coded.{coded_list};
 
     ghost Value = { List Instruction };
 

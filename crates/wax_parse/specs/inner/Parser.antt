@@ -8,11 +8,11 @@ use Rattle.wax_token.specs.declared.token.Archetype.TheVariants.{Character, Rang
 use Rattle.wax_token.specs.declared.token.Evaluation.{Evaluation}
 use Rattle.wax_token.specs.declared.token.Evaluation.TheVariants.{Eager, Lazy}
 use Rattle.wax_token.specs.Syntax.{Leaf, literal, class, separator, one, zero_or_more, tree}
+use Rattle.wax_token.specs.Reads.{Place, Around, whole, in_alternation, in_repetition, is_one_of}
+use Rattle.wax_token.specs.Reads.{starts_with_one_of, escapable, class_escapable}
 use Rattle.wax_parse.specs.declared.parse.flags.Cursor.{Cursor}
 use Rattle.wax_parse.specs.declared.parse.surroundings.Around as code
 use Rattle.wax_parse.specs.declared.parse.surroundings.Around.TheVariants as around
-use Rattle.wax_token.specs.Reads.{Place, Around, whole, in_alternation, in_repetition, is_one_of}
-use Rattle.wax_token.specs.Reads.{starts_with_one_of, escapable, class_escapable}
 
 abbrev pub strip : ℕ → List ℕ → Option (List ℕ)
 strip c [] = None

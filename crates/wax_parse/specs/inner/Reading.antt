@@ -6,8 +6,7 @@ use Rattle.std.specs.Prelude.{chars, ◌≡◌, ◌≤◌, ◌<◌, length, Bool
 use Rattle.wax_token.specs.Syntax.{Tree, Trees, more}
 use Rattle.wax_token.specs.Reads.{Span, Place, utf8_len, Around, Past, IsEnd, nesting, deepest, ReadsToken}
 use Rattle.wax_token.specs.Reads.{ReadsTokens, ReadsGlob, ReadsBranches}
-use Rattle.wax_parse.specs.declared.parse.flags.Cursor.{Cursor}
-use Rattle.wax_parse.specs.declared.parse.surroundings.Scope.{Scope}
+use Rattle.wax_parse.specs.{declared.parse.flags.Cursor.Cursor, declared.parse.surroundings.Scope.Scope}
 use Rattle.wax_parse.specs.inner.Parser.{around_of, place}
 
 abbrev pub is_nil : {A : Type 0} → List A → Bool

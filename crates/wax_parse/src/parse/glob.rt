@@ -2,8 +2,7 @@
 //! and returns what it read and the cursor after it.
 ghost use Rattle.std.specs.Prelude.{◌≡◌, ◌≤◌, ◌<◌, ◌+◌, ◌-◌, ◌^◌, ◌∷◌, ◌++◌, [], Bool, IfOk, OnOk, chars};
 ghost use Rattle.wax_query.specs.Outcome.{MatchBuild};
-ghost use Rattle.wax_token.specs.Reads.{in_alternation, in_repetition, utf8_len};
-ghost use Rattle.wax_token.specs.Words.{trees};
+ghost use Rattle.wax_token.specs.{Reads.{in_alternation, in_repetition, utf8_len}, Words.trees};
 ghost use Rattle.wax_parse.specs.Accepted.{IsPlace, first_len};
 ghost use Rattle.wax_parse.specs.inner.Reading.{BranchesAt, GlobAt, HasProperSuffix, HasSuffix, IsRefusal};
 ghost use Rattle.wax_parse.specs.inner.Reading.{IsWithinScope, Sole, TokenAt, Unreadable};

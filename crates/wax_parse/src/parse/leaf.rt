@@ -1,8 +1,7 @@
 //! Reading leaves. Each function returns what it read and the cursor after it, or `None` if the
 //! text doesn't begin like that.
 ghost use Rattle.std.specs.Prelude.{◌≡◌, IfOk, MatchOption, Some, None, chars, codes};
-ghost use Rattle.wax_token.specs.Reads.{starts_with_one_of};
-ghost use Rattle.wax_token.specs.View.{leaf_of};
+ghost use Rattle.wax_token.specs.{Reads.starts_with_one_of, View.leaf_of};
 ghost use Rattle.wax_parse.specs.inner.Parser.{place, around_of, flags_end, after_tree, boundary_leaf};
 ghost use Rattle.wax_parse.specs.inner.Parser.{zero_or_more_leaf, inner_leaf, read_leaf, at};
 

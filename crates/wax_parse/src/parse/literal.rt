@@ -1,7 +1,6 @@
 //! Reading literals.
 ghost use Rattle.std.specs.Prelude.{◌≡◌, ◌++◌, List, ℕ, IfOk, MatchOption, Some, None, chars, string_bytes};
-ghost use Rattle.std.specs.Prelude.{true};
-ghost use Rattle.std.specs.Cow.{cow_str_bytes};
+ghost use Rattle.std.specs.{Prelude.true, Cow.cow_str_bytes};
 ghost use Rattle.wax_token.specs.View.{leaf_of};
 ghost use Rattle.wax_parse.specs.inner.Parser.{literal_run, literal_leaf, is_plain_text, StopsPlain};
 

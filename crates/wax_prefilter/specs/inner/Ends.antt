@@ -1,10 +1,8 @@
 -- Needles at the ends of lines. Only private functions cite this file.
 use Rattle.std.specs.Prelude.{◌≡◌, ◌<◌, ◌≤◌, ◌-◌, ℕ, List, [], ◌∷◌, ◌++◌, slice_index, get_or, length, take}
-use Rattle.std.specs.Prelude.{chars}
-use Rattle.std.specs.Str.{IsUtf8}
+use Rattle.std.specs.{Prelude.chars, Str.IsUtf8}
 use Rattle.wax_prefilter.specs.Facts.{FactView, NeedleView, ContainsOne, ContainsAt}
-use Rattle.wax_prefilter.specs.declared.line_end.EndPair.{EndPair}
-use Rattle.wax_prefilter.specs.declared.needle.Anchor.TheVariants.{End}
+use Rattle.wax_prefilter.specs.{declared.line_end.EndPair.EndPair, declared.needle.Anchor.TheVariants.End}
 use Rattle.wax_prefilter.specs.inner.Pairs.{PairIsAt}
 
 -- the needle is at the end of a text with which the bytes end

@@ -1,6 +1,5 @@
 -- The forms of a character in any case. Only private functions cite this file.
-use Rattle.std.specs.Prelude.{◌≡◌, ◌<◌, ℕ}
-use Rattle.std.specs.Char.{to_ascii_lowercase}
+use Rattle.std.specs.{Prelude.{◌≡◌, ◌<◌, ℕ}, Char.to_ascii_lowercase}
 use Rattle.wax_token.specs.Meaning.{SameFold}
 
 -- the character is of ASCII, and so are its forms in any case, which are the same in lower case

@@ -1,12 +1,8 @@
 -- Two bytes at a distance. Only private functions cite this file.
-use Rattle.std.specs.Prelude.{◌≡◌, ℕ, ◌+◌, ◌<◌, ◌==◌, List, [], ◌∷◌, ◌++◌, length, map, slice_index}
-use Rattle.std.specs.Prelude.{chars, Bool, true, false}
-use Rattle.std.specs.Char.{to_ascii_lowercase}
-use Rattle.std.specs.List.{Any}
-use Rattle.std.specs.Str.{IsUtf8}
+use Rattle.std.specs.Prelude.{◌≡◌, ℕ, ◌+◌, ◌<◌, ◌==◌, List, [], ◌∷◌, ◌++◌, length, map, slice_index, chars}
+use Rattle.std.specs.{Prelude.{Bool, true, false}, Char.to_ascii_lowercase, List.Any, Str.IsUtf8}
 use Rattle.wax_prefilter.specs.Facts.{ContainsAt, FactView, FactsHold, NeedleView}
-use Rattle.wax_prefilter.specs.declared.needle.Anchor.{Anchor}
-use Rattle.wax_prefilter.specs.declared.pair.Pair.{Pair}
+use Rattle.wax_prefilter.specs.{declared.needle.Anchor.Anchor, declared.pair.Pair.Pair}
 use Rattle.wax_prefilter.specs.declared.pair.SoughtPairs.{SoughtPairs}
 
 -- the byte as it is or, in any case, in lower case

@@ -5,10 +5,8 @@ use Rattle.wax_program.specs.Places.{HoldsPlace, Within, member_count}
 use Rattle.wax_program.specs.declared.instruction.Instruction.{Instruction}
 use Rattle.wax_program.specs.declared.instruction.Instruction.TheVariants.{Check, Repeat, Components, Fork}
 use Rattle.wax_program.specs.declared.instruction.Instruction.TheVariants.{Jump, Back, End}
-use Rattle.wax_program.specs.declared.instruction.Test.{Test}
-use Rattle.wax_program.specs.declared.onward.Ahead.{Ahead}
-use Rattle.wax_program.specs.declared.onward.Ahead.TheVariants.{Rest, Path, Below}
-use Rattle.wax_program.specs.Machine.{PassesTest}
+use Rattle.wax_program.specs.{declared.instruction.Test.Test, declared.onward.Ahead.Ahead}
+use Rattle.wax_program.specs.{declared.onward.Ahead.TheVariants.{Rest, Path, Below}, Machine.PassesTest}
 use Rattle.wax_program.specs.Onward.{AreFlagsOf, PlaceFlags, GoesOn, TakesOther, flags_for}
 
 -- what follows after `/`

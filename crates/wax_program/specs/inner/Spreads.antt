@@ -1,11 +1,9 @@
 -- Flags that spread to the places that lead to them.
 use Rattle.std.specs.Prelude.{◌≡◌, ◌+◌, ◌<◌, ◌≤◌, ◌⊎◌, ℕ, List, Option, Some, Contains, length, slice_get}
-use Rattle.wax_program.specs.Onward.{PlaceFlags}
-use Rattle.wax_program.specs.declared.instruction.Instruction.{Instruction}
+use Rattle.wax_program.specs.{Onward.PlaceFlags, declared.instruction.Instruction.Instruction}
 use Rattle.wax_program.specs.declared.instruction.Instruction.TheVariants.{Check, Repeat, Components, Fork}
 use Rattle.wax_program.specs.declared.instruction.Instruction.TheVariants.{Jump, Back, End}
-use Rattle.wax_program.specs.declared.onward.Ahead.{Ahead}
-use Rattle.wax_program.specs.inner.Jumps.{IsJump}
+use Rattle.wax_program.specs.{declared.onward.Ahead.Ahead, inner.Jumps.IsJump}
 use Rattle.wax_program.specs.inner.Leads.{Gains, Holds, HoldsAfter, HoldsByOther, LeadsAt, LeadsBy}
 use Rattle.wax_program.specs.inner.Leads.{flag_count, onward_by_slash}
 

@@ -1,9 +1,7 @@
 //! Sets of places, one bit each.
 ghost use Rattle.std.specs.Prelude.{◌≡◌, ◌+◌, ◌*◌, ◌/◌, ◌^◌, ◌<◌, ◌≤◌, ℕ, Bool, List, IfOk, MatchOption};
-ghost use Rattle.std.specs.Prelude.{length};
-ghost use Rattle.std.specs.Prelude.{slice_index_or, slice_set, true, false};
-ghost use Rattle.wax_program.specs.Bits.{bits_of};
-ghost use Rattle.wax_program.specs.Places.{HoldsPlace, IsEmpty};
+ghost use Rattle.std.specs.Prelude.{length, slice_index_or, slice_set, true, false};
+ghost use Rattle.wax_program.specs.{Bits.bits_of, Places.{HoldsPlace, IsEmpty}};
 
 use std::alloc::{AllocError, Global};
 use std::marker::Model;

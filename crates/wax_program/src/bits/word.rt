@@ -1,8 +1,7 @@
 //! Sets of places below 64, one bit each, in one word.
-ghost use Rattle.std.specs.Prelude.{◌≡◌, ◌<◌, ◌≤◌, ◌↔◌, ℕ, IsTrue, false, length};
-ghost use Rattle.std.specs.Prelude.{slice_index_or, slice_set, true};
-ghost use Rattle.wax_program.specs.Bits.{places_of};
-ghost use Rattle.wax_program.specs.Places.{HoldsPlace, IsEmpty};
+ghost use Rattle.std.specs.Prelude.{◌≡◌, ◌<◌, ◌≤◌, ◌↔◌, ℕ, IsTrue, false, length, slice_index_or, slice_set};
+ghost use Rattle.std.specs.Prelude.{true};
+ghost use Rattle.wax_program.specs.{Bits.places_of, Places.{HoldsPlace, IsEmpty}};
 
 use std::marker::Model;
 

@@ -1,8 +1,6 @@
 //! Spans, and the types that have one.
-ghost use Rattle.std.specs.Prelude.{◌≡◌, ◌≤◌, ◌^◌, ◌⊎◌, ℕ, MatchOption, Option};
-ghost use Rattle.std.specs.Borrow.{sem};
-ghost use Rattle.wax_query.specs.Lending.{LendsSpan};
-ghost use Rattle.wax_query.specs.Spans.{IsUnion, end_of, span_union};
+ghost use Rattle.std.specs.{Prelude.{◌≡◌, ◌≤◌, ◌^◌, ◌⊎◌, ℕ, MatchOption, Option}, Borrow.sem};
+ghost use Rattle.wax_query.specs.{Lending.LendsSpan, Spans.{IsUnion, end_of, span_union}};
 
 /// A part of an expression: the offset of its first byte, and its length in bytes.
 pub type Span = (usize, usize);

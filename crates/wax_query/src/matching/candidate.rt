@@ -1,10 +1,7 @@
 //! The texts that globs are matched against.
 ghost use Rattle.std.specs.Prelude.{◌≡◌, ℕ, List, Some, IfOk, chars, encode_utf8_all, nat_eq};
-ghost use Rattle.std.specs.Cmp.{partial_equiv_from_equiv};
-ghost use Rattle.std.specs.Cmp.Lexicographic.{pointwise, nat_list_eq_equiv};
-ghost use Rattle.std.specs.Cow.{cow_str_bytes};
-ghost use Rattle.std.specs.Fmt.{debug_str};
-ghost use Rattle.std.specs.Path.{path_bytes};
+ghost use Rattle.std.specs.{Cmp.partial_equiv_from_equiv, Cmp.Lexicographic.{pointwise, nat_list_eq_equiv}};
+ghost use Rattle.std.specs.{Cow.cow_str_bytes, Fmt.debug_str, Path.path_bytes};
 
 use crate::diagnostics::NoMemory;
 use std::alloc::{AllocError, Global};

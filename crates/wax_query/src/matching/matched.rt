@@ -1,8 +1,7 @@
 //! What a match captures.
 ghost use Rattle.std.specs.Prelude.{◌≡◌, [], MatchOption, IfOk, None, Some, chars, map, slice_get};
 ghost use Rattle.std.specs.List.{All};
-ghost use Rattle.wax_query.specs.Matched.{texts};
-ghost use Rattle.wax_query.specs.Parts.{IsPart, cut};
+ghost use Rattle.wax_query.specs.{Matched.texts, Parts.{IsPart, cut}};
 
 use crate::diagnostics::NoMemory;
 use crate::matching::candidate::CandidatePath;
@@ -20,12 +19,8 @@ pub struct MatchedText<'t> {
 }
 
 impl<'t> Model for MatchedText<'t> {
-    ghost use Rattle.std.specs.Prelude.{map};
-    ghost use Rattle.std.specs.List.{All};
-    ghost use Rattle.std.specs.Str.{chars};
-    ghost use Rattle.std.specs.Cow.{cow_str_bytes};
-    ghost use Rattle.wax_query.specs.Matched.{MatchedView, matched_code};
-    ghost use Rattle.wax_query.specs.Parts.{cut, IsPart};
+    ghost use Rattle.std.specs.{Prelude.map, List.All, Str.chars, Cow.cow_str_bytes};
+    ghost use Rattle.wax_query.specs.{Matched.{MatchedView, matched_code}, Parts.{cut, IsPart}};
 
     ghost Value = { MatchedView };
 

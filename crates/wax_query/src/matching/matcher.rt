@@ -1,8 +1,7 @@
 //! Matchers of many paths, and the programs that build them.
 ghost use Rattle.std.specs.Prelude.{◌≡◌, ℕ, Bool, List, Option, Some, None, IfOk, IsTrue, refl, true};
 ghost use Rattle.std.specs.Str.{all_scalars};
-ghost use Rattle.wax_query.specs.Parts.{NoLineEndsBefore};
-ghost use Rattle.wax_query.specs.Below.{IsBelowWithin};
+ghost use Rattle.wax_query.specs.{Parts.NoLineEndsBefore, Below.IsBelowWithin};
 
 use crate::diagnostics::NoMemory;
 use crate::matching::candidate::CandidatePath;

@@ -3,8 +3,7 @@ ghost use Rattle.std.specs.Prelude.{◌≡◌, ◌↔◌, ◌≤◌, ◌+◌, �
 ghost use Rattle.std.specs.Prelude.{Option, chars, length, true};
 ghost use Rattle.wax_query.specs.Matched.{IsMatchOf, cube_visits};
 ghost use Rattle.wax_query.specs.Components.{Bare, BeginsWithSlash, component_total};
-ghost use Rattle.wax_query.specs.Ranges.{AtMost, bounds};
-ghost use Rattle.wax_query.specs.Variances.{text_of};
+ghost use Rattle.wax_query.specs.{Ranges.{AtMost, bounds}, Variances.text_of};
 ghost use Rattle.wax_query.specs.declared.query.when.When.TheVariants.{Always};
 
 use crate::diagnostics::NoMemory;

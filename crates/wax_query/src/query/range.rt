@@ -1,11 +1,9 @@
 //! Ranges of whole numbers.
-ghost use Rattle.std.specs.Prelude.{◌≡◌, ◌<◌, ◌↔◌, IfSome, IsSome, IsTrue, SomeIff};
-ghost use Rattle.std.specs.Option.{ForSome};
-ghost use Rattle.wax_query.specs.Ranges.{AtMost, Bounds, Fits, IsVariant, IsRangeThatFits};
-ghost use Rattle.wax_query.specs.Ranges.{HoldsBoth, HoldsProducts, HoldsShifted, HoldsSums};
-ghost use Rattle.wax_query.specs.Ranges.{bound_number, bounds, given_bounds, ordered, present, shifted};
-ghost use Rattle.wax_query.specs.Ranges.{product_bounds, range_of, sum_bounds, union_bounds};
-ghost use Rattle.wax_query.specs.Ranges.{variant_bounds, variant_range};
+ghost use Rattle.std.specs.{Prelude.{◌≡◌, ◌<◌, ◌↔◌, IfSome, IsSome, IsTrue, SomeIff}, Option.ForSome};
+ghost use Rattle.wax_query.specs.Ranges.{AtMost, Bounds, Fits, IsVariant, IsRangeThatFits, HoldsBoth};
+ghost use Rattle.wax_query.specs.Ranges.{HoldsProducts, HoldsShifted, HoldsSums, bound_number, bounds};
+ghost use Rattle.wax_query.specs.Ranges.{given_bounds, ordered, present, shifted, product_bounds, range_of};
+ghost use Rattle.wax_query.specs.Ranges.{sum_bounds, union_bounds, variant_bounds, variant_range};
 ghost use Rattle.wax_query.specs.declared.query.variance.Variance.TheVariants.{Invariant};
 
 use super::variance::Boundedness::{Bounded, Unbounded};

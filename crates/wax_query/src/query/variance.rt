@@ -1,7 +1,6 @@
 //! Values that are either fixed for all matches of a glob or vary within bounds.
-ghost use Rattle.std.specs.Prelude.{◌≡◌, ◌↔◌, IfOk, IsNone, IsSome, IsTrue, Some};
-ghost use Rattle.std.specs.Prelude.{option_and_then, option_copied, option_map, string_bytes};
-ghost use Rattle.std.specs.Option.{ForSome};
+ghost use Rattle.std.specs.Prelude.{◌≡◌, ◌↔◌, IfOk, IsNone, IsSome, IsTrue, Some, option_and_then};
+ghost use Rattle.std.specs.{Prelude.{option_copied, option_map, string_bytes}, Option.ForSome};
 ghost use Rattle.wax_query.specs.Ranges.{bound_number, present};
 ghost use Rattle.wax_query.specs.Variances.{IsMapped, bound, variance_value, invariant, text_of};
 ghost use Rattle.wax_query.specs.Variances.{variance_copied, variant};

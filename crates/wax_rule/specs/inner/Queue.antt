@@ -1,21 +1,16 @@
 -- How the tokens are put into a row. No part of the rules' definition.
 use Rattle.std.specs.Prelude.{◌≡◌, ℕ, ◌-◌, take, drop, length, slice_get, List, [], ◌∷◌, Option, Some, None}
-use Rattle.std.specs.Prelude.{Bool, refl}
-use Rattle.std.specs.List.{flat_map}
+use Rattle.std.specs.{Prelude.{Bool, refl}, List.flat_map}
 use Rattle.std.specs.Coded.{Coded, code_by, coded_ℕ, coded_bool, coded_option, coded×}
-use Rattle.wax_token.specs.TreeCode.{tree_code}
-use Rattle.wax_token.specs.Reads.{Span}
+use Rattle.wax_token.specs.{TreeCode.tree_code, Reads.Span}
 use Rattle.wax_token.specs.Syntax.{Leaf, Tree, leaf, alternation, concatenation, repetition, Trees, none}
-use Rattle.wax_token.specs.Syntax.{more}
-use Rattle.wax_facts.specs.declared.rules.Side.{Side}
-use Rattle.wax_token.specs.Words.{annotation_of}
-use Rattle.wax_rule.specs.declared.rule.situated.Edge.{Edge}
-use Rattle.wax_rule.specs.declared.rule.situated.End.{End}
-use Rattle.wax_rule.specs.declared.rule.situated.End.TheVariants.{Start, Finish}
-use Rattle.wax_rule.specs.declared.rule.situated.Neighbour.{Neighbour}
-use Rattle.wax_facts.specs.Alternatives.{beside}
+use Rattle.wax_token.specs.{Syntax.more, Words.annotation_of}
+use Rattle.wax_facts.specs.{declared.rules.Side.Side, Alternatives.beside}
 use Rattle.wax_facts.specs.Situated.{Situated, starts_with_leaf, some_starts_in, ends_in, some_ends_in}
 use Rattle.wax_facts.specs.Situated.{start_side, end_side, right_of, situated_levels}
+use Rattle.wax_rule.specs.{declared.rule.situated.Edge.Edge, declared.rule.situated.End.End}
+use Rattle.wax_rule.specs.declared.rule.situated.End.TheVariants.{Start, Finish}
+use Rattle.wax_rule.specs.declared.rule.situated.Neighbour.{Neighbour}
 
 abbrev pub branches : Option Side → Option Side → Trees Span → List Situated
 branches left right none = []

@@ -1,11 +1,9 @@
 //! The rule of adjacent boundaries: two tokens side by side in a concatenation are both `/` or
 //! `**`.
 ghost use Rattle.std.specs.Prelude.{◌≡◌};
-ghost use Rattle.wax_token.specs.Words.{trees};
-ghost use Rattle.wax_token.specs.Kinds.{is_boundary_leaf};
+ghost use Rattle.wax_token.specs.{Words.trees, Kinds.{is_boundary_leaf, is_such}};
 ghost use Rattle.wax_query.specs.Spans.{span_union};
 ghost use Rattle.wax_facts.specs.Rules.{adjacent_span, boundary_breaks, adjacent_boundaries};
-ghost use Rattle.wax_token.specs.Kinds.{is_such};
 ghost use Rattle.wax_rule.specs.FirstBreak.{head_of};
 
 use super::{Break, RuleErrorKind, break_here};

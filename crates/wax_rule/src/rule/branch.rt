@@ -1,7 +1,6 @@
 //! The rules of branches: how a sub-glob may begin and end, by the branch around it and the
 //! branch's neighbours.
-ghost use Rattle.std.specs.Prelude.{◌≡◌};
-ghost use Rattle.std.specs.Option.{option_or};
+ghost use Rattle.std.specs.{Prelude.◌≡◌, Option.option_or};
 ghost use Rattle.wax_token.specs.Words.{trees};
 ghost use Rattle.wax_facts.specs.Rules.{terminal_of, side_has_boundary, has_zero_or_more, split_from};
 ghost use Rattle.wax_facts.specs.Rules.{shared_rows, alternation_rows, repetition_rows, own_rows};

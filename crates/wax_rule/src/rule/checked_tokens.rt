@@ -1,10 +1,6 @@
 //! Borrowing, owning, splitting and combining checked tokens.
-ghost use Rattle.std.specs.Prelude.{◌≡◌, IfOk, map};
-ghost use Rattle.std.specs.Cow.{cow_str_bytes};
-ghost use Rattle.std.specs.List.{Contains};
-ghost use Rattle.wax_token.specs.Reads.{Span};
-ghost use Rattle.wax_token.specs.Syntax.{Tree, alternation};
-ghost use Rattle.wax_token.specs.Words.{trees};
+ghost use Rattle.std.specs.{Prelude.{◌≡◌, IfOk, map}, Cow.cow_str_bytes, List.Contains};
+ghost use Rattle.wax_token.specs.{Reads.Span, Syntax.{Tree, alternation}, Words.trees};
 ghost use Rattle.wax_facts.specs.Alternatives.{MeansOneOf, alternatives};
 ghost use Rattle.wax_rule.specs.Keeping.{KeepsRules};
 

@@ -1,11 +1,8 @@
 //! The tokens of a glob that contain tokens in one list, breadth first, each with its neighbours.
 ghost use Rattle.std.specs.Prelude.{◌≡◌, ◌++◌, ◌∷◌, [], Bool, IfOk, OnOk, Option, Some, None, drop, ◌<◌, ◌≤◌};
-ghost use Rattle.std.specs.Prelude.{◌||◌, length, IfSome, IsNone};
-ghost use Rattle.std.specs.List.{flat_map};
-ghost use Rattle.wax_token.specs.View.{leaf_of};
-ghost use Rattle.wax_token.specs.Words.{trees};
+ghost use Rattle.std.specs.{Prelude.{◌||◌, length, IfSome, IsNone}, List.flat_map};
+ghost use Rattle.wax_token.specs.{View.leaf_of, Words.trees, Kinds.{is_boundary_leaf, is_zero_or_more_leaf}};
 ghost use Rattle.wax_facts.specs.Situated.{right_of, breadth_first};
-ghost use Rattle.wax_token.specs.Kinds.{is_boundary_leaf, is_zero_or_more_leaf};
 ghost use Rattle.wax_rule.specs.inner.Queue.{branches, siblings, children, only_branches, queue_children};
 ghost use Rattle.wax_rule.specs.inner.Queue.{neighbour_side, side_of, is_found_at, is_found_at_some};
 ghost use Rattle.wax_rule.specs.inner.Queue.{IsOutermost};

@@ -1,8 +1,6 @@
 //! Fixed sizes of tokens, in bytes. A character that can vary, as of `?` or a class, counts as 4.
 ghost use Rattle.std.specs.Prelude.{◌≡◌, IfOk, chars};
-ghost use Rattle.wax_token.specs.Reads.{utf8_len};
-ghost use Rattle.wax_token.specs.View.{leaf_of};
-ghost use Rattle.wax_token.specs.Words.{trees};
+ghost use Rattle.wax_token.specs.{Reads.utf8_len, View.leaf_of, Words.trees};
 ghost use Rattle.wax_facts.specs.Sizes.{are_of_size, common_size, fixed_size, is_oversized, leaf_size};
 ghost use Rattle.wax_facts.specs.Sizes.{saturated_size, size_of_copies, total_size};
 

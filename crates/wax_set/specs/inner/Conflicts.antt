@@ -2,14 +2,10 @@
 use Rattle.std.specs.Prelude.{◌≡◌, ◌↔◌, ◌<◌, ℕ, List, MatchOption, Option, Some, length, slice_get}
 use Rattle.wax_program.specs.Machine.{Accepts}
 use Rattle.wax_set.specs.Conflicts.{IsAmongConflicts, IsConflict, IsEarlierPair, IsSharedPath, PatternPair}
-use Rattle.wax_set.specs.Conflicts.{pair_of}
-use Rattle.wax_set.specs.Sets.{MeansAt}
+use Rattle.wax_set.specs.{Conflicts.pair_of, Sets.MeansAt}
 use Rattle.wax_set.specs.declared.set.conflicts.CompiledPattern.{CompiledPattern}
-use Rattle.wax_set.specs.declared.set.conflicts.Conflict.{Conflict}
-use Rattle.wax_set.specs.inner.Edges.{HasEdges}
-use Rattle.wax_token.specs.Reads.{Span}
-use Rattle.wax_token.specs.Syntax.{Tree, alternation}
-use Rattle.wax_token.specs.Words.{trees}
+use Rattle.wax_set.specs.{declared.set.conflicts.Conflict.Conflict, inner.Edges.HasEdges}
+use Rattle.wax_token.specs.{Reads.Span, Syntax.{Tree, alternation}, Words.trees}
 
 -- the tree of the set of these patterns
 abbrev pub set_tree : List (Tree Span) → Tree Span

@@ -1,6 +1,5 @@
 -- How texts begin and end. Only private functions cite this file.
-use Rattle.std.specs.Prelude.{◌≡◌, ◌++◌, ◌⊎◌, ℕ, List, String, [], chars, string_bytes}
-use Rattle.std.specs.List.{Any}
+use Rattle.std.specs.{Prelude.{◌≡◌, ◌++◌, ◌⊎◌, ℕ, List, String, [], chars, string_bytes}, List.Any}
 use Rattle.std.specs.declared.alloc.Global.{Global}
 use Rattle.wax_set.specs.declared.set.edges.Edges.{Edges}
 

@@ -1,9 +1,7 @@
 //! Errors of a build.
 ghost use Rattle.std.specs.Prelude.{◌≡◌, IfOk, chars, string_bytes};
-ghost use Rattle.wax_set.specs.Refusals.{IsRuleRefusal};
-ghost use Rattle.wax_set.specs.Locations.{error_labels};
-ghost use Rattle.wax_set.specs.Numbers.{build_number, rule_number};
-ghost use Rattle.wax_set.specs.Drawn.{picture as picture_of};
+ghost use Rattle.wax_set.specs.{Refusals.IsRuleRefusal, Locations.error_labels};
+ghost use Rattle.wax_set.specs.{Numbers.{build_number, rule_number}, Drawn.picture as picture_of};
 ghost use Rattle.wax_query.specs.Labels.{AreLabels};
 
 use crate::error::drawing::picture;

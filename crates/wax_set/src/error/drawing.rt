@@ -2,10 +2,8 @@
 ghost use Rattle.std.specs.Prelude.{◌≡◌, ◌<◌, ◌++◌, [], IfOk, OnOk, chars, codes, encode_utf8_all, map};
 ghost use Rattle.std.specs.Prelude.{replicate, string_bytes};
 ghost use Rattle.wax_query.specs.Labels.{seen};
-ghost use Rattle.wax_set.specs.Drawn.{columns_before as columns_of};
-ghost use Rattle.wax_set.specs.Drawn.{drawn_character as drawn_of};
-ghost use Rattle.wax_set.specs.Drawn.{label_line, label_lines, marks};
-ghost use Rattle.wax_set.specs.Drawn.{picture as picture_of};
+ghost use Rattle.wax_set.specs.Drawn.{columns_before as columns_of, drawn_character as drawn_of, label_line};
+ghost use Rattle.wax_set.specs.Drawn.{label_lines, marks, picture as picture_of};
 
 use std::alloc::{AllocError, Global};
 use wax_query::diagnostics::{NoMemory, Span};

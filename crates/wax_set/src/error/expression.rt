@@ -1,10 +1,7 @@
 //! Expressions that are read and checked.
-ghost use Rattle.std.specs.Prelude.{◌≡◌, IfOk, MatchResult, chars, length};
-ghost use Rattle.std.specs.Cow.{cow_str_bytes};
+ghost use Rattle.std.specs.{Prelude.{◌≡◌, IfOk, MatchResult, chars, length}, Cow.cow_str_bytes};
 ghost use Rattle.wax_set.specs.Expressions.{Refuses, Spells};
-ghost use Rattle.wax_token.specs.Reads.{Reads, Span};
-ghost use Rattle.wax_token.specs.Spelled.{LiesBetween};
-ghost use Rattle.wax_token.specs.Syntax.{Tree};
+ghost use Rattle.wax_token.specs.{Reads.{Reads, Span}, Spelled.LiesBetween, Syntax.Tree};
 
 use crate::error::build_error::{BuildError, rule_refused};
 use std::alloc::Global;

@@ -1,7 +1,6 @@
 //! Patterns of a set that match one path.
 ghost use Rattle.std.specs.Prelude.{◌≡◌, ◌+◌, ◌<◌, ◌≤◌, IfOk, OnOk, length};
-ghost use Rattle.wax_set.specs.Conflicts.{AreConflicts};
-ghost use Rattle.wax_set.specs.Sets.{MeansText};
+ghost use Rattle.wax_set.specs.{Conflicts.AreConflicts, Sets.MeansText};
 ghost use Rattle.wax_set.specs.inner.Conflicts.{AreCompiled, AreConflictsBefore, IsCompiledPattern};
 ghost use Rattle.wax_set.specs.inner.Conflicts.{IsPairDecided, set_tree};
 ghost use Rattle.wax_token.specs.Cost.{program_length};

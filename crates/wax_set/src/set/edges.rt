@@ -2,8 +2,7 @@
 ghost use Rattle.std.specs.Prelude.{◌≡◌, ℕ, Bool, List, IfOk, IfSome, IsTrue, chars, string_bytes, false};
 ghost use Rattle.wax_set.specs.Sets.{MeansText};
 ghost use Rattle.wax_set.specs.inner.Edges.{AreEnds, HasBeginning, HasEdges, HasEnd, HasOneEnd};
-ghost use Rattle.wax_token.specs.Meaning.{Means, MeansEach, MeansSome};
-ghost use Rattle.wax_token.specs.Words.{trees};
+ghost use Rattle.wax_token.specs.{Meaning.{Means, MeansEach, MeansSome}, Words.trees};
 
 use std::alloc::{AllocError, Global};
 use std::slice;

@@ -3,8 +3,7 @@ ghost use Rattle.std.specs.Prelude.{◌≡◌, ◌+◌, ◌≤◌, ◌↔◌, No
 ghost use Rattle.wax_set.specs.Sets.{AreMatches, MeansText};
 ghost use Rattle.wax_lazy.specs.Cost.{first_visits, path_visits};
 ghost use Rattle.wax_prefilter.specs.Below.{MeansBelow, goes_test, goes_tested};
-ghost use Rattle.wax_token.specs.Cost.{program_length};
-ghost use Rattle.wax_token.specs.Decided.{means_test, means_tested};
+ghost use Rattle.wax_token.specs.{Cost.program_length, Decided.{means_test, means_tested}};
 
 use crate::set::Any;
 use std::alloc::Global;
@@ -41,12 +40,9 @@ impl Drop for AnyMatcher<'_, '_> {
 }
 
 impl<'a, 't> Model for AnyMatcher<'a, 't> {
-    ghost use Rattle.wax_set.specs.Sets.{any_code};
+    ghost use Rattle.wax_set.specs.Sets.{any_code, AcceptsText, IsAlternation, IsNumbered};
     ghost use Rattle.std.specs.Prelude.{◌<◌, length};
-    ghost use Rattle.wax_set.specs.Sets.{AcceptsText, IsAlternation, IsNumbered};
-    ghost use Rattle.wax_token.specs.Cost.{program_length};
-    ghost use Rattle.wax_token.specs.Reads.{Span};
-    ghost use Rattle.wax_token.specs.Syntax.{Tree};
+    ghost use Rattle.wax_token.specs.{Cost.program_length, Reads.Span, Syntax.Tree};
 
     ghost Value = { Tree Span };
 

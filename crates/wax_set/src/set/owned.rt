@@ -4,8 +4,7 @@ ghost use Rattle.wax_set.specs.Sets.{AreMatches, MeansText};
 ghost use Rattle.wax_query.specs.Parts.{NoLineEndsBefore};
 ghost use Rattle.wax_lazy.specs.Cost.{first_visits, path_visits};
 ghost use Rattle.wax_prefilter.specs.Below.{MeansBelow, goes_test, goes_tested};
-ghost use Rattle.wax_token.specs.Cost.{program_length};
-ghost use Rattle.wax_token.specs.Decided.{means_test, means_tested};
+ghost use Rattle.wax_token.specs.{Cost.program_length, Decided.{means_test, means_tested}};
 
 use crate::set::Any;
 use std::alloc::Global;
@@ -30,8 +29,7 @@ impl Drop for OwnedAnyMatcher<'_> {
 
 impl<'t> Model for OwnedAnyMatcher<'t> {
     ghost use Rattle.wax_set.specs.Sets.{any_code};
-    ghost use Rattle.wax_token.specs.Reads.{Span};
-    ghost use Rattle.wax_token.specs.Syntax.{Tree};
+    ghost use Rattle.wax_token.specs.{Reads.Span, Syntax.Tree};
 
     ghost Value = { Tree Span };
 

@@ -1,10 +1,8 @@
 //! Walks of sets.
 ghost use Rattle.std.specs.Prelude.{◌≡◌, ◌+◌, ◌*◌, IfOk};
 ghost use Rattle.wax_set.specs.Walks.{BeginsSet};
-ghost use Rattle.wax_token.specs.Syntax.{alternation};
-ghost use Rattle.wax_token.specs.Words.{trees};
-ghost use Rattle.wax_tree.specs.Begins.{EndsWithin, behavior_range};
-ghost use Rattle.wax_tree.specs.Depths.{behavior_at};
+ghost use Rattle.wax_token.specs.{Syntax.alternation, Words.trees};
+ghost use Rattle.wax_tree.specs.{Begins.{EndsWithin, behavior_range}, Depths.behavior_at};
 ghost use Rattle.wax_tree.specs.declared.behavior.DepthBehavior.TheVariants.{Unbounded};
 
 use crate::set::{Any, branches_of};

@@ -1,8 +1,7 @@
 -- Sets of places that are also listed.
-use Rattle.std.specs.Prelude.{◌≡◌, ◌↔◌, ◌⊎◌, ℕ, ◌+◌, ◌<◌, ◌≤◌, Bool, not, ◌&&◌, List, [], ◌∷◌}
-use Rattle.std.specs.Prelude.{Contains, Some, length, slice_get}
-use Rattle.wax_program.specs.Places.{HoldsPlace, IsEmpty, Within, member_count}
-use Rattle.wax_program.specs.Threads.{Position}
+use Rattle.std.specs.Prelude.{◌≡◌, ◌↔◌, ◌⊎◌, ℕ, ◌+◌, ◌<◌, ◌≤◌, Bool, not, ◌&&◌, List, [], ◌∷◌, Contains, Some}
+use Rattle.std.specs.Prelude.{length, slice_get}
+use Rattle.wax_program.specs.{Places.{HoldsPlace, IsEmpty, Within, member_count}, Threads.Position}
 
 -- a set of places below `limit`: its flags, and its places in the order in which they were inserted
 pub record Listing : Type 0 where

@@ -1,15 +1,12 @@
 -- Which characters are marked, since tests distinguish them from others.
 use Rattle.std.specs.Prelude.{◌≡◌, ◌<◌, ℕ, Bool, true, Contains, IfSome, List, Some, get_or, nat_lt}
-use Rattle.std.specs.Prelude.{slice_get, ⊤}
-use Rattle.std.specs.List.{list_all}
+use Rattle.std.specs.{Prelude.{slice_get, ⊤}, List.list_all}
 use Rattle.unicode.specs.CaseFolding.{fold_pairs}
 use Rattle.wax_token.specs.declared.token.Archetype.{Archetype}
 use Rattle.wax_token.specs.declared.token.Archetype.TheVariants.{Character, Range}
-use Rattle.wax_program.specs.declared.instruction.Instruction.{Instruction}
-use Rattle.wax_program.specs.declared.instruction.Test.{Test}
+use Rattle.wax_program.specs.{declared.instruction.Instruction.Instruction, declared.instruction.Test.Test}
 use Rattle.wax_program.specs.declared.instruction.Test.TheVariants.{Char, Folded, Class, NotSlash, Any, Never}
-use Rattle.wax_program.specs.Places.{HoldsPlace}
-use Rattle.wax_program.specs.Tests.{test_of}
+use Rattle.wax_program.specs.{Places.HoldsPlace, Tests.test_of}
 
 -- what was marked still is
 abbrev pub KeepsMarked : List Bool → List Bool → Type 0

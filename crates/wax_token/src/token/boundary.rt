@@ -1,9 +1,7 @@
 //! Boundaries: the tokens between the components of a path.
 ghost use Rattle.std.specs.Prelude.{◌≡◌};
 ghost use Rattle.wax_token.specs.Kinds.{leaf_boundary, boundary_of, has_boundary, is_boundary};
-ghost use Rattle.wax_token.specs.Kinds.{some_has_boundary};
-ghost use Rattle.wax_token.specs.View.{leaf_of};
-ghost use Rattle.wax_token.specs.Words.{trees};
+ghost use Rattle.wax_token.specs.{Kinds.some_has_boundary, View.leaf_of, Words.trees};
 
 use super::{BranchKind, LeafKind, Token, Topology, Wildcard};
 

@@ -1,13 +1,10 @@
 //! How a branch combines its tokens: a match needs all of them, or one.
-ghost use Rattle.std.specs.Prelude.{◌≡◌, ◌↔◌, IsSome, Some, option_map};
-ghost use Rattle.std.specs.Borrow.{Lends, sem};
+ghost use Rattle.std.specs.{Prelude.{◌≡◌, ◌↔◌, IsSome, Some, option_map}, Borrow.{Lends, sem}};
 ghost use Rattle.std.specs.Option.{ForSome};
 ghost use Rattle.wax_query.specs.Variances.{IsMapped};
-ghost use Rattle.wax_token.specs.Compositions.{children_of, composition_copied, composition_of};
-ghost use Rattle.wax_token.specs.Compositions.{conjunctive, disjunctive, composition_value, on_inner};
-ghost use Rattle.wax_token.specs.View.{branch_tree};
-ghost use Rattle.wax_token.specs.Words.{trees};
-ghost use Rattle.wax_token.specs.contracts.token.composition.Composition.{the_row};
+ghost use Rattle.wax_token.specs.Compositions.{children_of, composition_copied, composition_of, conjunctive};
+ghost use Rattle.wax_token.specs.{Compositions.{disjunctive, composition_value, on_inner}, View.branch_tree};
+ghost use Rattle.wax_token.specs.{Words.trees, contracts.token.composition.Composition.the_row};
 
 use super::{Annotation, BranchKind, Token, Topology};
 

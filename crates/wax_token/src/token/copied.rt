@@ -1,8 +1,6 @@
 //! Owned copies of borrowed tokens.
-ghost use Rattle.std.specs.Prelude.{◌≡◌, IfOk};
-ghost use Rattle.std.specs.Cow.{cow_str_bytes};
-ghost use Rattle.wax_token.specs.View.{leaf_of};
-ghost use Rattle.wax_token.specs.Words.{trees};
+ghost use Rattle.std.specs.{Prelude.{◌≡◌, IfOk}, Cow.cow_str_bytes};
+ghost use Rattle.wax_token.specs.{View.leaf_of, Words.trees};
 
 use super::{
     Alternation, BranchKind, Class, Concatenation, LeafKind, Literal, Repetition, Token, Tokenized,

@@ -1,12 +1,9 @@
 //! Which kind of token a token is.
-ghost use Rattle.std.specs.Prelude.{◌≡◌, ◌↔◌, IsSome, IsTrue, Some, false, []};
-ghost use Rattle.std.specs.Prelude.{option_copied, option_map};
+ghost use Rattle.std.specs.Prelude.{◌≡◌, ◌↔◌, IsSome, IsTrue, Some, false, [], option_copied, option_map};
 ghost use Rattle.wax_token.specs.Kinds.{alternation_of, class_of, concatenation_of, literal_of};
 ghost use Rattle.wax_token.specs.Kinds.{is_alternation, is_branch, is_capturing, is_concatenation};
 ghost use Rattle.wax_token.specs.Kinds.{is_literal, is_separator, is_tree_wildcard, repetition_of};
-ghost use Rattle.wax_token.specs.Kinds.{wildcard_of};
-ghost use Rattle.wax_token.specs.View.{branch_tree};
-ghost use Rattle.wax_token.specs.Words.{is_leaf_tree, trees};
+ghost use Rattle.wax_token.specs.{Kinds.wildcard_of, View.branch_tree, Words.{is_leaf_tree, trees}};
 
 use super::{
     Alternation, BranchKind, Class, Concatenation, LeafKind, Literal, Repetition, Separator, Token,

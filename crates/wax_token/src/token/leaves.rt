@@ -1,9 +1,8 @@
 //! Which kind of leaf a leaf is.
 ghost use Rattle.std.specs.Prelude.{◌≡◌};
 ghost use Rattle.wax_token.specs.Kinds.{is_boundary_leaf, is_capturing_leaf, is_literal_leaf};
-ghost use Rattle.wax_token.specs.Kinds.{is_rooting_leaf};
-ghost use Rattle.wax_token.specs.Kinds.{is_separator_leaf, is_tree_leaf, is_zero_or_more_leaf};
-ghost use Rattle.wax_token.specs.View.{leaf_of};
+ghost use Rattle.wax_token.specs.Kinds.{is_rooting_leaf, is_separator_leaf, is_tree_leaf};
+ghost use Rattle.wax_token.specs.{Kinds.is_zero_or_more_leaf, View.leaf_of};
 
 use super::{LeafKind, Wildcard};
 

@@ -1,7 +1,6 @@
 //! Building tokens, and taking them apart.
 ghost use Rattle.std.specs.Prelude.{◌≡◌, false, []};
-ghost use Rattle.wax_token.specs.Syntax.{leaf, literal};
-ghost use Rattle.wax_token.specs.View.{leaf_of, branch_tree, topology_tree};
+ghost use Rattle.wax_token.specs.{Syntax.{leaf, literal}, View.{leaf_of, branch_tree, topology_tree}};
 
 use super::{BranchKind, LeafKind, Literal, Token, TokenTopology, Topology};
 use std::borrow::CowStr;

@@ -1,6 +1,5 @@
 //! Which characters a class contains.
-ghost use Rattle.std.specs.Prelude.{◌≡◌};
-ghost use Rattle.std.specs.List.{list_any, list_all};
+ghost use Rattle.std.specs.{Prelude.◌≡◌, List.{list_any, list_all}};
 ghost use Rattle.wax_token.specs.Meaning.{in_archetype, is_forward, in_class};
 
 use super::{Archetype, Class};

@@ -1,8 +1,6 @@
 //! Conversion of tokens that borrow texts to tokens that own them.
-ghost use Rattle.std.specs.Prelude.{◌≡◌, IfOk};
-ghost use Rattle.std.specs.Cow.{cow_str_bytes};
-ghost use Rattle.wax_token.specs.View.{leaf_of};
-ghost use Rattle.wax_token.specs.Words.{trees};
+ghost use Rattle.std.specs.{Prelude.{◌≡◌, IfOk}, Cow.cow_str_bytes};
+ghost use Rattle.wax_token.specs.{View.leaf_of, Words.trees};
 
 use super::{
     Alternation, BranchKind, Concatenation, LeafKind, Literal, Repetition, Token, Tokenized,

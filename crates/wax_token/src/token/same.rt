@@ -1,9 +1,7 @@
 //! Equality of tokens, spans included.
-ghost use Rattle.std.specs.Prelude.{◌≡◌, ◌↔◌, ℕ, IsTrue};
-ghost use Rattle.std.specs.Cmp.{partial_equiv_from_equiv};
-ghost use Rattle.wax_token.specs.Same.{is_same_expression, is_same_tree};
-ghost use Rattle.wax_token.specs.Same.{same_expression_equiv, same_tree_equiv};
-ghost use Rattle.wax_token.specs.View.{branch_tree, leaf_of, wildcard_leaf};
+ghost use Rattle.std.specs.{Prelude.{◌≡◌, ◌↔◌, ℕ, IsTrue}, Cmp.partial_equiv_from_equiv};
+ghost use Rattle.wax_token.specs.Same.{is_same_expression, is_same_tree, same_expression_equiv};
+ghost use Rattle.wax_token.specs.{Same.same_tree_equiv, View.{branch_tree, leaf_of, wildcard_leaf}};
 
 use super::{
     Archetype, BranchKind, Evaluation, ExpressionMetadata, LeafKind, Token, Tokenized, Topology,

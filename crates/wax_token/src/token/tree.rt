@@ -1,7 +1,6 @@
 //! Traits of types that contain a token, or a list of tokens.
 ghost use Rattle.std.specs.Prelude.{◌≡◌};
-ghost use Rattle.wax_token.specs.Syntax.{Tree, Trees};
-ghost use Rattle.wax_token.specs.Words.{members, trees};
+ghost use Rattle.wax_token.specs.{Syntax.{Tree, Trees}, Words.{members, trees}};
 
 use crate::token::{Annotation, Token, Tokenized};
 

@@ -1,16 +1,12 @@
 -- What an item of a folder becomes in a walk.
 use Rattle.std.specs.Prelude.{◌≡◌, ◌⊎◌, ℕ, List, true, false, string_bytes}
-use Rattle.wax_directory.specs.declared.directory.FileType.{FileType}
-use Rattle.wax_directory.specs.declared.directory.ListItem.{ListItem}
+use Rattle.wax_directory.specs.{declared.directory.FileType.FileType, declared.directory.ListItem.ListItem}
 use Rattle.wax_directory.specs.declared.directory.ListItem.TheVariants.{Name, Failed, NotText}
-use Rattle.wax_directory.specs.Names.{is_plain}
-use Rattle.wax_directory.specs.Shown.{join}
-use Rattle.wax_walk.specs.Entries.{facts_of}
-use Rattle.wax_walk.specs.declared.error.FaultKind.{FaultKind}
-use Rattle.wax_walk.specs.declared.error.FaultKind.TheVariants as K
+use Rattle.wax_directory.specs.{Names.is_plain, Shown.join}
+use Rattle.wax_walk.specs.{Entries.facts_of, declared.error.FaultKind.FaultKind}
 use Rattle.wax_tree.specs.declared.steps.FoundItem.{FoundItem}
-use Rattle.wax_tree.specs.declared.steps.FoundItem.TheVariants.{Entry, Fault}
-use Rattle.wax_tree.specs.Plain.{Location}
+use Rattle.wax_tree.specs.{declared.steps.FoundItem.TheVariants.{Entry, Fault}, Plain.Location}
+use Rattle.wax_walk.specs.declared.error.FaultKind.TheVariants as K
 
 -- the entry of this name and kind in the folder at this location
 abbrev pub IsEntry : Location → List ℕ → FileType → FoundItem → Type 0

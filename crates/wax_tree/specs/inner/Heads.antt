@@ -4,8 +4,7 @@ use Rattle.wax_directory.specs.declared.directory.FileType.TheVariants.{Folder}
 use Rattle.wax_directory.specs.Shown.{Items, end, leaf, folder, sealed, misnamed, unread, not_text, a_leaf}
 use Rattle.wax_directory.specs.Shown.{a_folder, a_sealed, leaf_kind}
 use Rattle.wax_walk.specs.declared.error.FaultKind.TheVariants.{Listing, BadName, NotText}
-use Rattle.wax_walk.specs.Forest.{Forest, nothing, item}
-use Rattle.wax_walk.specs.Given.{Given, fault}
+use Rattle.wax_walk.specs.{Forest.{Forest, nothing, item}, Given.{Given, fault}}
 use Rattle.wax_tree.specs.Plain.{WalkScope, Location, item_location, count, entry_forest}
 
 -- how many items are below the first of these

@@ -3,8 +3,7 @@
 
 ghost use Rattle.std.specs.Prelude.{◌≡◌, IfOk, false};
 ghost use Rattle.wax_tree.specs.Programs.{matches_below, matches_from, limit_below};
-ghost use Rattle.wax_walk.specs.Pruned.{selected_view};
-ghost use Rattle.wax_walk.specs.View.{IsSeenAs};
+ghost use Rattle.wax_walk.specs.{Pruned.selected_view, View.IsSeenAs};
 
 use crate::walk_tree::WalkTree;
 use std::alloc::Global;

@@ -1,6 +1,5 @@
 -- Paths that hold their starts and candidates.
-use Rattle.std.specs.Prelude.{◌≡◌, ℕ, List, length, take, drop}
-use Rattle.std.specs.Str.{IsCharBoundary}
+use Rattle.std.specs.{Prelude.{◌≡◌, ℕ, List, length, take, drop}, Str.IsCharBoundary}
 
 -- the path begins with that of the start, and ends with the candidate, which begins at this byte
 pub record IsShared (path root candidate : List ℕ) (start : ℕ) : Type 0 where

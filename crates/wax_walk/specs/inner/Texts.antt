@@ -1,6 +1,5 @@
 -- The start and the candidate of a path, as parts of it or as texts of their own.
-use Rattle.std.specs.Prelude.{ℕ, List, take, drop, string_bytes, ⊤}
-use Rattle.std.specs.Str.{IsCharBoundary}
+use Rattle.std.specs.{Prelude.{ℕ, List, take, drop, string_bytes, ⊤}, Str.IsCharBoundary}
 use Rattle.wax_walk.specs.declared.walked_path.Texts.{Texts}
 use Rattle.wax_walk.specs.declared.walked_path.Texts.TheVariants.{Within, Own}
 

@@ -1,6 +1,6 @@
 -- What lies at the handle is lent to `capture_held`, which gets the other arguments too.
 use Rattle.wax_c.proofs.Handles.{follows, passed, by_shr, shr_at, captures, glob}
-use Rattle.wax_c.proofs.captures.{capture_held.Met.met, wax_glob_captures.Statement.statement}
+use Rattle.wax_c.proofs.{captures.capture_held.Met.met, captures.wax_glob_captures.Statement.statement}
 use Rattle.wax_c.specs.Captures.{CapturesAs}
 use Rattle.wax_c.proofs.captures.wax_glob_captures.Code as code
 

@@ -1,7 +1,6 @@
 -- What lies at the handles is lent to `comparison_of_globs`, which gets the other arguments too.
-use Rattle.wax_c.proofs.Handles.{by_shr, shr_at, glob}
-use Rattle.wax_c.proofs.Pairs.{follows, passed, searching}
-use Rattle.wax_c.proofs.compared.{comparison_of_globs.Met.met, wax_glob_compare.Statement.statement}
+use Rattle.wax_c.proofs.{Handles.{by_shr, shr_at, glob}, Pairs.{follows, passed, searching}}
+use Rattle.wax_c.proofs.{compared.comparison_of_globs.Met.met, compared.wax_glob_compare.Statement.statement}
 use Rattle.wax.specs.GlobView.{IsMeant}
 use Rattle.wax_c.specs.Comparing.{CompareAs}
 use Rattle.wax_c.proofs.compared.wax_glob_compare.Code as code

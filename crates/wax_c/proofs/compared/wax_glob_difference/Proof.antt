@@ -1,7 +1,7 @@
 -- What lies at the handles is lent to `difference_of_globs`, which gets the other arguments too.
-use Rattle.wax_c.proofs.Handles.{by_shr, shr_at, glob}
-use Rattle.wax_c.proofs.Pairs.{follows, passed, searching}
-use Rattle.wax_c.proofs.compared.{difference_of_globs.Met.met, wax_glob_difference.Statement.statement}
+use Rattle.wax_c.proofs.{Handles.{by_shr, shr_at, glob}, Pairs.{follows, passed, searching}}
+use Rattle.wax_c.proofs.compared.difference_of_globs.Met.{met}
+use Rattle.wax_c.proofs.compared.wax_glob_difference.Statement.{statement}
 use Rattle.wax.specs.GlobView.{IsMeant}
 use Rattle.wax_c.specs.Comparing.{DifferenceAs}
 use Rattle.wax_c.proofs.compared.wax_glob_difference.Code as code

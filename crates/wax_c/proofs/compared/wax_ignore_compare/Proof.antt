@@ -1,7 +1,7 @@
 -- What lies at the handles is lent to `comparison_of_lists`, which gets the other arguments too.
-use Rattle.wax_c.proofs.Handles.{by_shr, shr_at, list}
-use Rattle.wax_c.proofs.Pairs.{follows, passed, searching}
-use Rattle.wax_c.proofs.compared.{comparison_of_lists.Met.met, wax_ignore_compare.Statement.statement}
+use Rattle.wax_c.proofs.{Handles.{by_shr, shr_at, list}, Pairs.{follows, passed, searching}}
+use Rattle.wax_c.proofs.compared.comparison_of_lists.Met.{met}
+use Rattle.wax_c.proofs.compared.wax_ignore_compare.Statement.{statement}
 use Rattle.wax_c.specs.{Comparing.CompareAs, ListHandles.Ignores}
 use Rattle.wax_c.proofs.compared.wax_ignore_compare.Code as code
 

@@ -1,7 +1,7 @@
 -- What lies at the handles is lent to `difference_of_lists`, which gets the other arguments too.
-use Rattle.wax_c.proofs.Handles.{by_shr, shr_at, list}
-use Rattle.wax_c.proofs.Pairs.{follows, passed, searching}
-use Rattle.wax_c.proofs.compared.{difference_of_lists.Met.met, wax_ignore_difference.Statement.statement}
+use Rattle.wax_c.proofs.{Handles.{by_shr, shr_at, list}, Pairs.{follows, passed, searching}}
+use Rattle.wax_c.proofs.compared.difference_of_lists.Met.{met}
+use Rattle.wax_c.proofs.compared.wax_ignore_difference.Statement.{statement}
 use Rattle.wax_c.specs.{Comparing.DifferenceAs, ListHandles.Ignores}
 use Rattle.wax_c.proofs.compared.wax_ignore_difference.Code as code
 

@@ -1,7 +1,6 @@
 -- What lies at the handles is lent to `overlap_of_lists`, which gets the other arguments too.
-use Rattle.wax_c.proofs.Handles.{by_shr, shr_at, list}
-use Rattle.wax_c.proofs.Pairs.{follows, passed, searching}
-use Rattle.wax_c.proofs.compared.{overlap_of_lists.Met.met, wax_ignore_overlap.Statement.statement}
+use Rattle.wax_c.proofs.{Handles.{by_shr, shr_at, list}, Pairs.{follows, passed, searching}}
+use Rattle.wax_c.proofs.{compared.overlap_of_lists.Met.met, compared.wax_ignore_overlap.Statement.statement}
 use Rattle.wax_c.specs.{Comparing.OverlapAs, ListHandles.Ignores}
 use Rattle.wax_c.proofs.compared.wax_ignore_overlap.Code as code
 

@@ -1,7 +1,6 @@
 -- What lies at the handles is lent to `comparison_of_sets`, which gets the other arguments too.
-use Rattle.wax_c.proofs.Handles.{by_shr, shr_at, set}
-use Rattle.wax_c.proofs.Pairs.{follows, passed, searching}
-use Rattle.wax_c.proofs.compared.{comparison_of_sets.Met.met, wax_set_compare.Statement.statement}
+use Rattle.wax_c.proofs.{Handles.{by_shr, shr_at, set}, Pairs.{follows, passed, searching}}
+use Rattle.wax_c.proofs.{compared.comparison_of_sets.Met.met, compared.wax_set_compare.Statement.statement}
 use Rattle.wax.specs.Matching.{MeansText}
 use Rattle.wax_c.specs.Comparing.{CompareAs}
 use Rattle.wax_c.proofs.compared.wax_set_compare.Code as code

@@ -1,6 +1,5 @@
 -- What `overlap`, `difference` or `compare` finds is what is asked for, and the other way round.
-use Rattle.std.proofs.Common.{chars, string_bytes, subst, sym}
-use Rattle.std.proofs.lemmas.Str.{IsUtf8-string_bytes}
+use Rattle.std.proofs.{Common.{chars, string_bytes, subst, sym}, lemmas.Str.IsUtf8-string_bytes}
 use Rattle.wax.specs.Comparing.{IsAnswer, IsShortest, IsWanted, KeepsLimitBy}
 use Rattle.wax_c.specs.inner.Searching.{IsAskedFor}
 use Rattle.wax_c.proofs.FoundPath.{both_at}

@@ -1,6 +1,5 @@
 -- The path that is found has at most so many characters, so its bytes fit.
-use Rattle.std.proofs.Common.{string_bytes, subst, ◌∙◌}
-use Rattle.std.proofs.lemmas.Str.{IsUtf8-string_bytes}
+use Rattle.std.proofs.{Common.{string_bytes, subst, ◌∙◌}, lemmas.Str.IsUtf8-string_bytes}
 use Rattle.wax_c.specs.inner.Searching.{IsAskedFor, IsSearchResult}
 use Rattle.wax_c.proofs.FoundPath.{has_room}
 use Rattle.wax_c.proofs.comparing.write_found.Goals as goal

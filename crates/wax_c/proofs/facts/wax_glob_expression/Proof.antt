@@ -1,6 +1,6 @@
 -- What lies at the handle is lent to `expression_held`, which gets the other arguments too.
 use Rattle.wax_c.proofs.Handles.{follows, passed, by_shr, shr_at, writing, glob}
-use Rattle.wax_c.proofs.facts.{expression_held.Met.met, wax_glob_expression.Statement.statement}
+use Rattle.wax_c.proofs.{facts.expression_held.Met.met, facts.wax_glob_expression.Statement.statement}
 use Rattle.wax_c.specs.Facts.{HasExpressionAs}
 use Rattle.wax_c.proofs.facts.wax_glob_expression.Code as code
 

@@ -1,6 +1,6 @@
 -- What lies at the handle is lent to `facts_held`, which gets the other arguments too.
 use Rattle.wax_c.proofs.Handles.{follows, passed, by_shr, shr_at, facts, glob, ◌≡◌, pos}
-use Rattle.wax_c.proofs.facts.{facts_held.Met.met, wax_glob_facts.Statement.statement}
+use Rattle.wax_c.proofs.{facts.facts_held.Met.met, facts.wax_glob_facts.Statement.statement}
 use Rattle.wax_c.specs.{Facts.AreFacts, contracts.facts.WaxFacts.the_row as Facts}
 use Rattle.wax_c.proofs.facts.wax_glob_facts.Code as code
 

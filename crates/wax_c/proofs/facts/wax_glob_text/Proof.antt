@@ -1,6 +1,6 @@
 -- What lies at the handle is lent to `text_held`, which gets the other arguments too.
-use Rattle.wax_c.proofs.Handles.{follows, passed, by_shr, shr_at, writing, glob}
-use Rattle.wax_c.proofs.facts.{text_held.Met.met, wax_glob_text.Statement.statement}
+use Rattle.wax_c.proofs.{Handles.{follows, passed, by_shr, shr_at, writing, glob}, facts.text_held.Met.met}
+use Rattle.wax_c.proofs.facts.wax_glob_text.Statement.{statement}
 use Rattle.wax_c.specs.Facts.{HasTextAs}
 use Rattle.wax_c.proofs.facts.wax_glob_text.Code as code
 

@@ -1,7 +1,7 @@
 -- What lies at the handle is lent to `fill_held`, which gets the other arguments too.
 use Rattle.std.proofs.Common.{◌+◌, length}
 use Rattle.wax_c.proofs.Handles.{follows, passed, by_shr, shr_at, listing, glob, u8}
-use Rattle.wax_c.proofs.globs.{fill_held.Met.met, wax_glob_filter.Statement.statement}
+use Rattle.wax_c.proofs.{globs.fill_held.Met.met, globs.wax_glob_filter.Statement.statement}
 use Rattle.wax_c.specs.Outcomes.{AreLines, FillsWithin}
 use Rattle.wax_c.proofs.globs.wax_glob_filter.Code as code
 

@@ -1,6 +1,6 @@
 -- Null is left alone. What lies at any other handle is dropped as a box.
-use Rattle.wax_c.proofs.Handles.{frees, boxes, glob, refl}
-use Rattle.wax_c.proofs.globs.{drop_glob.Met.met, wax_glob_free.Statement.statement}
+use Rattle.wax_c.proofs.{Handles.{frees, boxes, glob, refl}, globs.drop_glob.Met.met}
+use Rattle.wax_c.proofs.globs.wax_glob_free.Statement.{statement}
 use Rattle.wax_c.specs.GlobOwned.{maybe_glob_at}
 use Rattle.wax_c.proofs.globs.wax_glob_free.Code as code
 

@@ -1,6 +1,6 @@
 -- What lies at the handle is lent to `answer_below`, which gets the other arguments too.
-use Rattle.wax_c.proofs.Handles.{follows, passed, by_mut, mut_at, path, glob}
-use Rattle.wax_c.proofs.globs.{answer_below.Met.met, wax_glob_goes_on.Statement.statement}
+use Rattle.wax_c.proofs.{Handles.{follows, passed, by_mut, mut_at, path, glob}, globs.answer_below.Met.met}
+use Rattle.wax_c.proofs.globs.wax_glob_goes_on.Statement.{statement}
 use Rattle.wax_c.specs.Outcomes.{DecidesAs, SaysGoesOn}
 use Rattle.wax_c.proofs.globs.wax_glob_goes_on.Code as code
 

@@ -1,6 +1,6 @@
 -- What lies at the handle is lent to `answer_held`, which gets the other arguments too.
-use Rattle.wax_c.proofs.Handles.{follows, passed, by_mut, mut_at, path, glob}
-use Rattle.wax_c.proofs.globs.{answer_held.Met.met, wax_glob_is_match.Statement.statement}
+use Rattle.wax_c.proofs.{Handles.{follows, passed, by_mut, mut_at, path, glob}, globs.answer_held.Met.met}
+use Rattle.wax_c.proofs.globs.wax_glob_is_match.Statement.{statement}
 use Rattle.wax_c.specs.Outcomes.{DecidesAs, SaysMatch}
 use Rattle.wax_c.proofs.globs.wax_glob_is_match.Code as code
 

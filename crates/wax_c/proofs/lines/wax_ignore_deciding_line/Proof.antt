@@ -1,6 +1,6 @@
 -- What lies at the handle is lent to `tell_line`, which gets the other arguments too.
 use Rattle.wax_c.proofs.Handles.{follows, passed, by_shr, shr_at, placing, list, usize}
-use Rattle.wax_c.proofs.lines.{tell_line.Met.met, wax_ignore_deciding_line.Statement.statement}
+use Rattle.wax_c.proofs.{lines.tell_line.Met.met, lines.wax_ignore_deciding_line.Statement.statement}
 use Rattle.wax_c.specs.Lines.{FindsLineAs}
 use Rattle.wax_c.proofs.lines.wax_ignore_deciding_line.Code as code
 

@@ -1,8 +1,7 @@
 -- What lies at the handle is lent to `list_idle`, which gets the other arguments too.
 use Rattle.std.proofs.Common.{length}
-use Rattle.wax_c.proofs.Handles.{by_shr, shr_at, list, usize}
-use Rattle.wax_c.proofs.Numbered.{follows, passed, collecting}
-use Rattle.wax_c.proofs.lines.{list_idle.Met.met, wax_ignore_idle_lines.Statement.statement}
+use Rattle.wax_c.proofs.{Handles.{by_shr, shr_at, list, usize}, Numbered.{follows, passed, collecting}}
+use Rattle.wax_c.proofs.{lines.list_idle.Met.met, lines.wax_ignore_idle_lines.Statement.statement}
 use Rattle.wax_c.specs.Lines.{AreSure, ListsWithin}
 use Rattle.wax_c.proofs.lines.wax_ignore_idle_lines.Code as code
 

@@ -1,6 +1,6 @@
 -- What lies at the handle is lent to `answer_below`, which gets the other arguments too.
-use Rattle.wax_c.proofs.Handles.{follows, passed, by_shr, shr_at, path, list}
-use Rattle.wax_c.proofs.lists.{answer_below.Met.met, wax_ignore_excludes_below.Statement.statement}
+use Rattle.wax_c.proofs.{Handles.{follows, passed, by_shr, shr_at, path, list}, lists.answer_below.Met.met}
+use Rattle.wax_c.proofs.lists.wax_ignore_excludes_below.Statement.{statement}
 use Rattle.wax_c.specs.{ListHandles.SaysIgnoredBelow, Outcomes.DecidesAs}
 use Rattle.wax_c.proofs.lists.wax_ignore_excludes_below.Code as code
 

@@ -1,7 +1,7 @@
 -- What lies at the handle is lent to `fill_unignored`, which gets the other arguments too.
 use Rattle.std.proofs.Common.{◌+◌, length}
 use Rattle.wax_c.proofs.Handles.{follows, passed, by_mut, mut_at, listing, list, u8}
-use Rattle.wax_c.proofs.lists.{fill_unignored.Met.met, wax_ignore_filter.Statement.statement}
+use Rattle.wax_c.proofs.{lists.fill_unignored.Met.met, lists.wax_ignore_filter.Statement.statement}
 use Rattle.wax_c.specs.{ListHandles.AreUnignored, Outcomes.FillsWithin}
 use Rattle.wax_c.proofs.lists.wax_ignore_filter.Code as code
 

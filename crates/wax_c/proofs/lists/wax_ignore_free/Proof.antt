@@ -1,6 +1,6 @@
 -- Null is left alone. What lies at any other handle is dropped as a box.
-use Rattle.wax_c.proofs.Handles.{frees, boxes, list, refl}
-use Rattle.wax_c.proofs.lists.{drop_list.Met.met, wax_ignore_free.Statement.statement}
+use Rattle.wax_c.proofs.{Handles.{frees, boxes, list, refl}, lists.drop_list.Met.met}
+use Rattle.wax_c.proofs.lists.wax_ignore_free.Statement.{statement}
 use Rattle.wax_c.specs.ListOwned.{maybe_list_at}
 use Rattle.wax_c.proofs.lists.wax_ignore_free.Code as code
 

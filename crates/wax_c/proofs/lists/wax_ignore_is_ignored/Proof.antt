@@ -1,6 +1,6 @@
 -- What lies at the handle is lent to `answer_list`, which gets the other arguments too.
-use Rattle.wax_c.proofs.Handles.{follows, passed, by_mut, mut_at, path, list}
-use Rattle.wax_c.proofs.lists.{answer_list.Met.met, wax_ignore_is_ignored.Statement.statement}
+use Rattle.wax_c.proofs.{Handles.{follows, passed, by_mut, mut_at, path, list}, lists.answer_list.Met.met}
+use Rattle.wax_c.proofs.lists.wax_ignore_is_ignored.Statement.{statement}
 use Rattle.wax_c.specs.{ListHandles.SaysIgnored, Outcomes.DecidesAs}
 use Rattle.wax_c.proofs.lists.wax_ignore_is_ignored.Code as code
 

@@ -1,6 +1,5 @@
 -- The first line of the rest is counted, and then what is left of it.
-use Rattle.std.proofs.Common.{arith, length, subst, take, drop, ◌<◌, ◌+◌, ap, ◌∙◌}
-use Rattle.std.proofs.lemmas.List.{length-drop}
+use Rattle.std.proofs.{Common.{arith, length, subst, take, drop, ◌<◌, ◌+◌, ap, ◌∙◌}, lemmas.List.length-drop}
 use Rattle.wax_c.specs.NotText.{IsNotText}
 use Rattle.wax_c.proofs.NotText.{all_counted, more_counted}
 use Rattle.wax_c.proofs.not_text.count_not_text.Goals as goal

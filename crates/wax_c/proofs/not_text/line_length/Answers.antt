@@ -1,5 +1,4 @@
-use Rattle.std.proofs.Common.{◌∙◌, ap, length}
-use Rattle.std.proofs.lemmas.List.Sums.{prefix_len-le-length}
+use Rattle.std.proofs.{Common.{◌∙◌, ap, length}, lemmas.List.Sums.prefix_len-le-length}
 use Rattle.std.specs.Option.{unwrap_or}
 use Rattle.wax_c.proofs.NotText.{line_end}
 use Rattle.wax_c.proofs.not_text.line_length.Goals as goal

@@ -1,6 +1,6 @@
 -- What lies at the handle is lent to `partition_held`, which gets the other arguments too.
-use Rattle.wax_c.proofs.Handles.{follows, passed, by_shr, shr_at, parts, glob}
-use Rattle.wax_c.proofs.parts.{partition_held.Met.met, wax_glob_partition.Statement.statement}
+use Rattle.wax_c.proofs.{Handles.{follows, passed, by_shr, shr_at, parts, glob}, parts.partition_held.Met.met}
+use Rattle.wax_c.proofs.parts.wax_glob_partition.Statement.{statement}
 use Rattle.wax_c.specs.{contracts.handle.GlobHandle.the_row as Handle, GlobHandles.IsPartitioned}
 use Rattle.wax_c.proofs.parts.wax_glob_partition.Code as code
 

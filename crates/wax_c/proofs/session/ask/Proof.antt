@@ -1,38 +1,27 @@
 -- The handle is taken apart, what lies there is asked, and the handle is put together again.
-use Rattle.std.proofs.Common.{[], ◌∷◌, ◌++◌, ◌≡◌, refl, sym, ◌∙◌, subst, ap, List, Some, Option, ℤ}
-use Rattle.std.proofs.Common.{w32}
-use Rattle.wax_c.proofs.Exports.{Z}
-use Rattle.wax_c.proofs.Making.{handle_val}
+use Rattle.std.proofs.Common.{[], ◌∷◌, ◌++◌, ◌≡◌, refl, sym, ◌∙◌, subst, ap, List, Some, Option, ℤ, w32}
+use Rattle.wax_c.proofs.{Exports.Z, Making.handle_val}
 use Rattle.wax_c.proofs.Opening.{handle_good, handle_in, handle_out, or_held, pair_good, pair_in}
-use Rattle.wax_c.specs.{GlobOwned.glob_at, GlobOwned.owned_glob_at, Outcomes.DecidesAs, Outcomes.SaysMatch}
-use Rattle.wax.specs.GlobView.{GlobView}
+use Rattle.wax_c.proofs.{session.ask.Statement.statement, globs.wax_glob_is_match.Met.met}
+use Rattle.wax_c.specs.{GlobOwned.{glob_at, owned_glob_at}, Outcomes.{DecidesAs, SaysMatch}}
 use Rattle.wax_c.specs.contracts.handle.GlobHandle.{the_row as Handle}
+use Rattle.wax.specs.GlobView.{GlobView}
+use base.{Logic.{SProp, emp, ent, ex, id⊢, sep}, Fml.{ftrue, fsep, flft}}
+use contract.{Monad.{fact, fact_i}, Running.tables}
+use mir.{Syntax.named, Val.{Val, vstruct, of_list}}
+use prog.Wp.{WpFn}
+use types.Part.{agg, whole, sub}
+use types.ByLocal.{alloc_all, pass_all, free_all, look_at, get, get_in, sets, lands_last, env}
+use types.Kit.{‵, raw, ◌⊛◌, some, later, at_ret, ◌$◌, ◌∵◌, !, qed, done, move, drop, use0, use1, use2, split}
+use types.{Kit.{join, fsplit, fjoin, feq_i, pick, await, rewrite, suffices, show, frame}, Logic.sem}
+use types.Run.{enter, of_opd, no_more, and_then, first, blocks, exec, returns, stop, fld}
+use denote.{Slice.{ShrSlice, shr_slice_vals, shr_slice_Tells, shr_slice_Lawful}, Laws.{Is, shows}}
+use denote.{Signed.sint_Lawful, Struct.Tuple.Tuple, Builtin.{u8, i32}, RattleType.owns}
+use denote.{RawPtr.{ptr_val, rawptr_vals}, Steps.{nothing, heard, peeks}, Triple.Call.calls_at_last}
+use denote.{Triple.Clauses.lasts, Triple.Spec.{Back, triple_of}, Triple.Table.{entered, framed}}
 use Rattle.wax_c.specs.contracts.session.ask as f
-use Rattle.wax_c.proofs.session.ask.Statement.{statement}
 use Rattle.wax_c.proofs.session.ask.Code as code
 use Rattle.wax_c.specs.contracts.globs.wax_glob_is_match as g
-use Rattle.wax_c.proofs.globs.wax_glob_is_match.Met.{met}
-use base.Logic.{SProp, emp, ent, ex, id⊢, sep}
-use base.Fml.{ftrue, fsep, flft}
-use contract.{Monad.fact, Monad.fact_i, Running.tables}
-use mir.{Syntax.named, Val.Val, Val.vstruct, Val.of_list}
-use prog.Wp.{WpFn}
-use types.Part.{agg}
-use types.ByLocal.{alloc_all, pass_all, free_all, look_at, get, get_in, sets, lands_last, env}
-use types.Kit.{‵, raw, ◌⊛◌, some, later, at_ret, ◌$◌, ◌∵◌, !, qed, done, move, drop, use0, use1, use2}
-use types.Kit.{split, join, fsplit, fjoin, feq_i, pick, await, rewrite, suffices, show, frame}
-use types.Logic.{sem}
-use types.Run.{enter, of_opd, no_more, and_then, first, blocks, exec, returns, stop, fld}
-use types.Part.{whole, sub}
-use denote.Slice.{ShrSlice, shr_slice_vals, shr_slice_Tells, shr_slice_Lawful}
-use denote.Laws.{Is, shows}
-use denote.Signed.{sint_Lawful}
-use denote.Struct.Tuple.{Tuple}
-use denote.{Builtin.u8, Builtin.i32, RattleType.owns}
-use denote.{RawPtr.ptr_val, RawPtr.rawptr_vals}
-use denote.{Steps.nothing, Steps.heard, Steps.peeks, Triple.Call.calls_at_last}
-use denote.{Triple.Clauses.lasts, Triple.Spec.Back, Triple.Spec.triple_of}
-use denote.{Triple.Table.entered, Triple.Table.framed}
 use Rattle.std.proofs.alloc.Global.TheLaws as heap_laws
 
 pub ask_spec : {M : Type 1} → statement M

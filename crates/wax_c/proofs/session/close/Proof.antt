@@ -1,32 +1,24 @@
 -- The handle is taken apart, and what lies there is freed.
 use Rattle.std.proofs.Common.{[], ◌∷◌, ◌++◌, ◌≡◌, refl, sym, subst, ap, List, None}
-use Rattle.wax_c.proofs.Exports.{Returned}
-use Rattle.wax_c.proofs.Making.{handle_val}
-use Rattle.wax_c.proofs.Opening.{handle_good, handle_out, may_free}
-use Rattle.wax_c.specs.GlobOwned.{maybe_glob_at}
-use Rattle.wax_c.specs.contracts.handle.GlobHandle.{the_row as Handle}
-use Rattle.wax_c.specs.contracts.session.close as f
-use Rattle.wax_c.proofs.session.close.Statement.{statement}
-use Rattle.wax_c.proofs.session.close.Code as code
-use Rattle.wax_c.specs.contracts.globs.wax_glob_free as g
-use Rattle.wax_c.proofs.globs.wax_glob_free.Met.{met}
-use base.Logic.{SProp, emp, ent, ex, id⊢, sep}
-use base.Fml.{ftrue, fsep}
+use Rattle.wax_c.proofs.{Exports.Returned, Making.handle_val, Opening.{handle_good, handle_out, may_free}}
+use Rattle.wax_c.proofs.{session.close.Statement.statement, globs.wax_glob_free.Met.met}
+use Rattle.wax_c.specs.{GlobOwned.maybe_glob_at, contracts.handle.GlobHandle.the_row as Handle}
+use base.{Logic.{SProp, emp, ent, ex, id⊢, sep}, Fml.{ftrue, fsep}}
 use contract.{Monad.fact, Running.tables}
 use lib.Dec.{T}
-use mir.{Syntax.ty_unit, Val.Val, Val.vunit, Val.has_ty, Val.WT}
+use mir.{Syntax.ty_unit, Val.{Val, vunit, has_ty, WT}}
 use prog.Wp.{WpFn}
 use types.ByLocal.{alloc_all, pass_all, free_all, look_at, get, get_in, sets, lands_last, env}
-use types.Kit.{‵, raw, ◌⊛◌, some, later, at_ret, ◌$◌, ◌∵◌, !, qed, done, move, drop, use1, use2}
-use types.Kit.{split, join, fsplit, fjoin, feq_i, feq_l, pick, await, suffices, show, frame}
-use types.Logic.{sem}
+use types.Kit.{‵, raw, ◌⊛◌, some, later, at_ret, ◌$◌, ◌∵◌, !, qed, done, move, drop, use1, use2, split, join}
+use types.{Kit.{fsplit, fjoin, feq_i, feq_l, pick, await, suffices, show, frame}, Logic.sem}
 use types.Run.{enter, of_opd, unit_lit, no_more, and_then, first, blocks, exec, returns, stop, fld}
 use types.Part.{whole, sub}
-use denote.{Builtin.unit, RattleType.owns, RawPtr.null_ptr, RawPtr.ptr_val}
-use denote.{RawPtr.rawptr_vals}
-use denote.{Steps.nothing, Steps.only, Steps.heard, Triple.Call.calls_at_last, Triple.Clauses.lasts}
-use denote.{Triple.Spec.triple_of}
-use denote.{Triple.Table.entered, Triple.Table.framed}
+use denote.{Builtin.unit, RattleType.owns, RawPtr.{null_ptr, ptr_val, rawptr_vals}}
+use denote.{Steps.{nothing, only, heard}, Triple.Call.calls_at_last, Triple.Clauses.lasts}
+use denote.{Triple.Spec.triple_of, Triple.Table.{entered, framed}}
+use Rattle.wax_c.specs.contracts.session.close as f
+use Rattle.wax_c.proofs.session.close.Code as code
+use Rattle.wax_c.specs.contracts.globs.wax_glob_free as g
 
 pub close_spec : {M : Type 1} → statement M
 close_spec {M} 𝓤 𝓛 𝓜 𝓡 wired =

@@ -1,9 +1,7 @@
 use Rattle.std.proofs.Common.{◌≡◌, ◌∙◌, ◌∷◌, ◌++◌, [], ℤ, refl, sym, ap, subst, pos, w32}
-use mir.Val.{to_z, of_z}
-use mir.ValLaws.{to_z-of_z}
+use mir.{Val.{to_z, of_z}, ValLaws.to_z-of_z}
 use Rattle.wax_c.proofs.Asking.{asked_all, asked_next, opened}
-use Rattle.wax_c.specs.Outcomes.{DecidesAs, SaysMatch}
-use Rattle.wax_c.specs.Sessions.{AnswersEach}
+use Rattle.wax_c.specs.{Outcomes.{DecidesAs, SaysMatch}, Sessions.AnswersEach}
 use Rattle.wax_c.specs.declared.error.CallError.TheVariants.{Build}
 use Rattle.wax.specs.Language.{Memory}
 use Rattle.wax_c.proofs.session.session.Goals as goal

@@ -1,6 +1,6 @@
 -- What lies at the handle is lent to `facts_held`, which gets the other arguments too.
 use Rattle.wax_c.proofs.Handles.{follows, passed, by_shr, shr_at, facts, set, ◌≡◌, pos}
-use Rattle.wax_c.proofs.set_facts.{facts_held.Met.met, wax_set_facts.Statement.statement}
+use Rattle.wax_c.proofs.{set_facts.facts_held.Met.met, set_facts.wax_set_facts.Statement.statement}
 use Rattle.wax_c.specs.{Facts.AreFacts, contracts.facts.WaxFacts.the_row as Facts}
 use Rattle.wax_c.proofs.set_facts.wax_set_facts.Code as code
 

@@ -1,6 +1,6 @@
 -- What lies at the handle is lent to `text_held`, which gets the other arguments too.
-use Rattle.wax_c.proofs.Handles.{follows, passed, by_shr, shr_at, writing, set}
-use Rattle.wax_c.proofs.set_facts.{text_held.Met.met, wax_set_text.Statement.statement}
+use Rattle.wax_c.proofs.{Handles.{follows, passed, by_shr, shr_at, writing, set}, set_facts.text_held.Met.met}
+use Rattle.wax_c.proofs.set_facts.wax_set_text.Statement.{statement}
 use Rattle.wax_c.specs.Facts.{HasTextAs}
 use Rattle.wax_c.proofs.set_facts.wax_set_text.Code as code
 

@@ -1,7 +1,7 @@
 use Rattle.std.proofs.Common.{◌≡◌, ◌<◌, ◌≤◌, ◌+◌, ◌∷◌, ◌++◌, [], slice_get, get_or, take, drop, length, min}
 use Rattle.std.proofs.Common.{refl, ap, sym, ◌∙◌, subst, length-append, take_all, arith}
 use Rattle.std.specs.List.{AllZip}
-use Rattle.wax_c.specs.{Outcomes.IsGlobOf, Sets.cut_each, Sets.unbuilt, Sets.no_memory}
+use Rattle.wax_c.specs.{Outcomes.IsGlobOf, Sets.{cut_each, unbuilt, no_memory}}
 use Rattle.wax_c.proofs.CutEach.{AllZip-more, length-cut_each, part_next}
 use Rattle.wax_c.proofs.sets.globs_of.Goals as goal
 

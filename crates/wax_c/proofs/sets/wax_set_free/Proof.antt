@@ -1,6 +1,6 @@
 -- Null is left alone. What lies at any other handle is dropped as a box.
-use Rattle.wax_c.proofs.Handles.{frees, boxes, set, refl}
-use Rattle.wax_c.proofs.sets.{drop_set.Met.met, wax_set_free.Statement.statement}
+use Rattle.wax_c.proofs.{Handles.{frees, boxes, set, refl}, sets.drop_set.Met.met}
+use Rattle.wax_c.proofs.sets.wax_set_free.Statement.{statement}
 use Rattle.wax_c.specs.SetOwned.{maybe_set_at}
 use Rattle.wax_c.proofs.sets.wax_set_free.Code as code
 

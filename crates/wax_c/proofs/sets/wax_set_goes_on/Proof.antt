@@ -1,6 +1,6 @@
 -- What lies at the handle is lent to `answer_below`, which gets the other arguments too.
-use Rattle.wax_c.proofs.Handles.{follows, passed, by_mut, mut_at, path, set}
-use Rattle.wax_c.proofs.sets.{answer_below.Met.met, wax_set_goes_on.Statement.statement}
+use Rattle.wax_c.proofs.{Handles.{follows, passed, by_mut, mut_at, path, set}, sets.answer_below.Met.met}
+use Rattle.wax_c.proofs.sets.wax_set_goes_on.Statement.{statement}
 use Rattle.wax_c.specs.{Outcomes.DecidesAs, Sets.SaysSetGoesOn}
 use Rattle.wax_c.proofs.sets.wax_set_goes_on.Code as code
 

@@ -1,6 +1,6 @@
 -- What lies at the handle is lent to `answer_held`, which gets the other arguments too.
-use Rattle.wax_c.proofs.Handles.{follows, passed, by_mut, mut_at, path, set}
-use Rattle.wax_c.proofs.sets.{answer_held.Met.met, wax_set_is_match.Statement.statement}
+use Rattle.wax_c.proofs.{Handles.{follows, passed, by_mut, mut_at, path, set}, sets.answer_held.Met.met}
+use Rattle.wax_c.proofs.sets.wax_set_is_match.Statement.{statement}
 use Rattle.wax_c.specs.{Outcomes.DecidesAs, Sets.SaysSetMatch}
 use Rattle.wax_c.proofs.sets.wax_set_is_match.Code as code
 

@@ -1,6 +1,6 @@
 -- What lies at the handle is lent to `list_held`, which gets the other arguments too.
 use Rattle.wax_c.proofs.Handles.{follows, passed, by_mut, mut_at, listing, set, usize}
-use Rattle.wax_c.proofs.sets.{list_held.Met.met, wax_set_matches.Statement.statement}
+use Rattle.wax_c.proofs.{sets.list_held.Met.met, sets.wax_set_matches.Statement.statement}
 use Rattle.wax_c.specs.Sets.{ListsMatchesAs}
 use Rattle.wax_c.proofs.sets.wax_set_matches.Code as code
 

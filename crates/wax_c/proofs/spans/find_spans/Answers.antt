@@ -1,11 +1,8 @@
 -- The bytes of the path are those of its characters.
-use Rattle.std.proofs.Common.{◌≡◌, ◌∙◌, List, ℕ, chars, encode_utf8_all, IfOk, MatchOption, ap, subst}
-use Rattle.std.proofs.Common.{Option, Some, None, Result, Ok, Err, sym}
-use Rattle.std.proofs.lemmas.Str.{encodes-chars}
-use Rattle.std.specs.Global.{Vec}
-use Rattle.std.specs.Str.{IsUtf8}
-use Rattle.wax.specs.GlobView.{GlobView, HasSpans, IsMeant}
-use Rattle.wax.specs.Language.{Span}
+use Rattle.std.proofs.Common.{◌≡◌, ◌∙◌, List, ℕ, chars, encode_utf8_all, IfOk, MatchOption, ap, subst, Option}
+use Rattle.std.proofs.{Common.{Some, None, Result, Ok, Err, sym}, lemmas.Str.encodes-chars}
+use Rattle.std.specs.{Global.Vec, Str.IsUtf8}
+use Rattle.wax.specs.{GlobView.{GlobView, HasSpans, IsMeant}, Language.Span}
 use Rattle.wax_c.proofs.spans.find_spans.Goals as goal
 
 module _ (g : GlobView) (text path : List ℕ) (u : IsUtf8 text) (same : path ≡ chars text) where

@@ -1,8 +1,7 @@
 -- What lies at the handle is lent to `capturing_held`, which gets the other arguments too.
-use Rattle.wax_c.proofs.Handles.{follows, passed, by_shr, shr_at, items, glob}
-use Rattle.wax_c.proofs.spans.{capturing_held.Met.met, wax_glob_capturing.Statement.statement}
-use Rattle.wax_c.specs.{Outcomes.ListsAllAs, Spans.capturing_spans}
-use Rattle.wax_c.specs.contracts.globs.WaxSpan.{the_row as Span}
+use Rattle.wax_c.proofs.{Handles.{follows, passed, by_shr, shr_at, items, glob}, spans.capturing_held.Met.met}
+use Rattle.wax_c.proofs.spans.wax_glob_capturing.Statement.{statement}
+use Rattle.wax_c.specs.{Outcomes.ListsAllAs, Spans.capturing_spans, contracts.globs.WaxSpan.the_row as Span}
 use Rattle.wax_c.proofs.spans.wax_glob_capturing.Code as code
 
 pub wax_glob_capturing_spec : {M : Type 1} → statement M

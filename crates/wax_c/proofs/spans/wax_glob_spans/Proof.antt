@@ -1,6 +1,6 @@
 -- What lies at the handle is lent to `spans_held`, which gets the other arguments too.
-use Rattle.wax_c.proofs.Handles.{follows, passed, by_shr, shr_at, listing, glob}
-use Rattle.wax_c.proofs.spans.{spans_held.Met.met, wax_glob_spans.Statement.statement}
+use Rattle.wax_c.proofs.{Handles.{follows, passed, by_shr, shr_at, listing, glob}, spans.spans_held.Met.met}
+use Rattle.wax_c.proofs.spans.wax_glob_spans.Statement.{statement}
 use Rattle.wax_c.specs.{Spans.SpansAs, contracts.globs.WaxSpan.the_row as Span}
 use Rattle.wax_c.proofs.spans.wax_glob_spans.Code as code
 

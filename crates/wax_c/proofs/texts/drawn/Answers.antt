@@ -1,7 +1,6 @@
 use Rattle.std.proofs.Common.{◌≡◌, ℕ, List, Result, Ok, Err, IfOk, string_bytes}
-use Rattle.wax.specs.Headline.{MatchGlob}
-use Rattle.wax.specs.Language.{BuildError, Memory, error_labels, picture}
-use Rattle.wax_c.specs.{Texts.IsPicture, Texts.built, Texts.not_built, declared.error.CallError.CallError}
+use Rattle.wax.specs.{Headline.MatchGlob, Language.{BuildError, Memory, error_labels, picture}}
+use Rattle.wax_c.specs.{Texts.{IsPicture, built, not_built}, declared.error.CallError.CallError}
 use Rattle.wax_c.proofs.texts.drawn.Goals as goal
 
 of_error : {S : Type 0} (bytes_of : S → List ℕ) (e : List ℕ) (error : BuildError)

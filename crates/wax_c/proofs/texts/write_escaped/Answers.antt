@@ -1,8 +1,7 @@
 use Rattle.std.proofs.Common.{◌≤◌, ◌*◌, IsUtf8, ap, chars, length, sym, ◌∙◌, subst}
 use Rattle.std.specs.Cow.{cow_str_bytes}
 use Rattle.wax_c.specs.Texts.{IsEscaped}
-use Rattle.wax_c.proofs.Filled.{filled_of_text}
-use Rattle.wax_c.proofs.Room.{all_fit, escaped_bytes}
+use Rattle.wax_c.proofs.{Filled.filled_of_text, Room.{all_fit, escaped_bytes}}
 use Rattle.wax_c.proofs.texts.write_escaped.Goals as goal
 
 pub returns-in-Ok-escape-clause-fills : goal.returns-in-Ok-escape-clause-fills

@@ -1,6 +1,5 @@
 use Rattle.std.proofs.Common.{◌≡◌, ◌∙◌, ◌==◌, ℕ, List, chars, encode_utf8_all, length, pos, ap, sym}
-use Rattle.std.proofs.Common.{if◌then◌else◌, arith, inl, inr}
-use Rattle.std.proofs.lemmas.Bool.{cases_eq}
+use Rattle.std.proofs.{Common.{if◌then◌else◌, arith, inl, inr}, lemmas.Bool.cases_eq}
 use Rattle.std.proofs.lemmas.Str.{encodes-chars}
 use Rattle.std.specs.Str.{IsUtf8}
 use Rattle.wax_c.specs.Warnings.{warning_number}

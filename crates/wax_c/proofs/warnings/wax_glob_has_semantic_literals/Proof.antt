@@ -1,6 +1,7 @@
 -- What lies at the handle is lent to `semantic_held`, which gets the other arguments too.
 use Rattle.wax_c.proofs.Handles.{follows, passed, by_shr, shr_at, alone, glob}
-use Rattle.wax_c.proofs.warnings.{semantic_held.Met.met, wax_glob_has_semantic_literals.Statement.statement}
+use Rattle.wax_c.proofs.warnings.semantic_held.Met.{met}
+use Rattle.wax_c.proofs.warnings.wax_glob_has_semantic_literals.Statement.{statement}
 use Rattle.wax_c.specs.Warnings.{SaysSemanticAs}
 use Rattle.wax_c.proofs.warnings.wax_glob_has_semantic_literals.Code as code
 

@@ -1,6 +1,6 @@
 -- What lies at the handle is lent to `warn_held`, which gets the other arguments too.
-use Rattle.wax_c.proofs.Handles.{follows, passed, by_shr, shr_at, items, glob}
-use Rattle.wax_c.proofs.warnings.{warn_held.Met.met, wax_glob_warnings.Statement.statement}
+use Rattle.wax_c.proofs.{Handles.{follows, passed, by_shr, shr_at, items, glob}, warnings.warn_held.Met.met}
+use Rattle.wax_c.proofs.warnings.wax_glob_warnings.Statement.{statement}
 use Rattle.wax_c.specs.{Outcomes.ListsAllAs, Warnings.wax_warnings}
 use Rattle.wax_c.specs.contracts.warnings.WaxWarning.{the_row as Warning}
 use Rattle.wax_c.proofs.warnings.wax_glob_warnings.Code as code

@@ -1,7 +1,6 @@
 use Rattle.std.proofs.Common.{◌≡◌, ◌+◌, ◌-◌, ◌<◌, ◌++◌, ◌∷◌, [], ℕ, length, ltb, rules, arith}
 use Rattle.wax_token.specs.Cost.{cost}
-use Rattle.wax_capture.proofs.Built.{pieces_more, there}
-use Rattle.wax_capture.proofs.TokenWays.{refused_more}
+use Rattle.wax_capture.proofs.{Built.{pieces_more, there}, TokenWays.refused_more}
 use Rattle.wax_capture.proofs.build.pieces_of.Goals as goal
 
 pub loop-index-preserved : goal.loop-index-preserved

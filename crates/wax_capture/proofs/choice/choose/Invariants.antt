@@ -1,7 +1,5 @@
 use Rattle.std.proofs.Common.{ℕ, ◌+◌, ◌*◌, ◌<◌, ◌≤◌, List, length, take, drop}
-use Rattle.wax_capture.specs.Pieces.{forms_of, size_of}
-use Rattle.wax_capture.specs.inner.Rows.{Row}
-use Rattle.wax_capture.specs.inner.Splits.{FitsBy}
+use Rattle.wax_capture.specs.{Pieces.{forms_of, size_of}, inner.Rows.Row, inner.Splits.FitsBy}
 use Rattle.wax_capture.specs.declared.piece.Piece.{Piece}
 use Rattle.wax_capture.proofs.choice.choose.Given as goal
 

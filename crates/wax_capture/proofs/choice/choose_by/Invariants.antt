@@ -1,6 +1,5 @@
 use Rattle.std.proofs.Common.{◌+◌, ◌-◌, ◌*◌, ◌≤◌, length, drop}
-use Rattle.wax_lengths.specs.Forms.{form_size}
-use Rattle.wax_lengths.specs.Spans.{looks}
+use Rattle.wax_lengths.specs.{Forms.form_size, Spans.looks}
 use Rattle.wax_capture.proofs.Choosing.{Left}
 use Rattle.wax_capture.proofs.choice.choose_by.Given as goal
 

@@ -1,5 +1,4 @@
-use Rattle.std.proofs.Common.{rules, sym}
-use Rattle.std.proofs.lemmas.Str.{chars_from_encodes}
+use Rattle.std.proofs.{Common.{rules, sym}, lemmas.Str.chars_from_encodes}
 use Rattle.wax_capture.proofs.leaves.characters.Goals as goal
 
 pub returns : goal.returns

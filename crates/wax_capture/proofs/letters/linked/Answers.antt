@@ -1,9 +1,8 @@
 use Rattle.std.proofs.Math.Bool.{beq, not}
 use Rattle.std.proofs.Common.{◌≡◌, ◌+◌, ◌-◌, ◌<◌, ℕ, Bool, true, false, refl, List, Some, get_or, length}
 use Rattle.std.proofs.Common.{slice_get, arith, rules, sym, subst, ◌∙◌}
-use Rattle.wax_lengths.specs.declared.form.Form.{Form}
+use Rattle.wax_lengths.specs.{declared.form.Form.Form, FirstLetters.{first_letter, group_of, is_folded}}
 use Rattle.wax_lengths.proofs.Lists.{read_within, slice_read}
-use Rattle.wax_lengths.specs.FirstLetters.{first_letter, group_of, is_folded}
 use Rattle.wax_capture.specs.inner.Letters.{AreLinked}
 use Rattle.wax_capture.proofs.Linking.{links_more}
 use Rattle.wax_capture.proofs.letters.linked.Goals as goal

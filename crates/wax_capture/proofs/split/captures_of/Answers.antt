@@ -1,10 +1,7 @@
 use Rattle.std.proofs.Common.{◌≡◌, ◌+◌, ◌<◌, ◌++◌, ℕ, List, length, get_or, drop, take, arith, rules}
-use Rattle.wax_capture.specs.Pieces.{captured_by}
-use Rattle.wax_capture.specs.inner.Parts.{parts}
-use Rattle.wax_capture.specs.inner.Splits.{AreChosen, IsChosenBy, placed_by}
-use Rattle.wax_capture.specs.inner.Trials.{lengths_of}
-use Rattle.wax_capture.specs.declared.piece.Piece.{Piece}
-use Rattle.wax_capture.specs.declared.trial.Frame.{Frame}
+use Rattle.wax_capture.specs.{Pieces.captured_by, inner.Parts.parts}
+use Rattle.wax_capture.specs.{inner.Splits.{AreChosen, IsChosenBy, placed_by}, inner.Trials.lengths_of}
+use Rattle.wax_capture.specs.{declared.piece.Piece.Piece, declared.trial.Frame.Frame}
 use Rattle.wax_capture.proofs.Placing.{placed_end, taken_placed}
 use Rattle.wax_capture.proofs.Taking.{captured_end, chosen_at, chosen_length, taken_captured, taken_within}
 use Rattle.wax_capture.proofs.Trying.{length-lengths, lengths_at}

@@ -1,7 +1,6 @@
 use Rattle.std.proofs.Common.{ℕ, ◌≤◌, ◌++◌, List, length, drop}
 use Rattle.std.specs.List.{All}
-use Rattle.wax_capture.specs.inner.Parts.{IsWithin, parts}
-use Rattle.wax_capture.specs.inner.Splits.{AreChosen, CapturedBy, PlacedBy}
+use Rattle.wax_capture.specs.{inner.Parts.{IsWithin, parts}, inner.Splits.{AreChosen, CapturedBy, PlacedBy}}
 use Rattle.wax_capture.specs.inner.Trials.{lengths_of}
 use Rattle.wax_capture.proofs.split.captures_of.Given as goal
 

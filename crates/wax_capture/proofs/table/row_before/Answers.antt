@@ -1,7 +1,6 @@
 use Rattle.std.proofs.Common.{◌≡◌, ◌+◌, ◌∷◌, [], ◌++◌, ℕ, List, length, arith, rules}
 use Rattle.wax_capture.specs.Pieces.{forms_of, size_of}
-use Rattle.wax_capture.proofs.Counting.{reads_place}
-use Rattle.wax_capture.proofs.Rows.{row_push, row_whole}
+use Rattle.wax_capture.proofs.{Counting.reads_place, Rows.{row_push, row_whole}}
 use Rattle.wax_capture.proofs.table.row_before.Goals as goal
 
 pub loop-at-preserved : goal.loop-at-preserved

@@ -1,8 +1,6 @@
 use Rattle.std.proofs.Common.{◌≡◌, ◌+◌, ◌*◌, ◌≤◌, ◌∷◌, List, length}
 use Rattle.wax_capture.proofs.Rows.{RowTo}
-use Rattle.wax_capture.specs.Pieces.{forms_of, size_of}
-use Rattle.wax_capture.specs.inner.Rows.{Row}
-use Rattle.wax_capture.specs.declared.piece.Piece.{Piece}
+use Rattle.wax_capture.specs.{Pieces.{forms_of, size_of}, inner.Rows.Row, declared.piece.Piece.Piece}
 use Rattle.wax_capture.proofs.table.row_before.Given as goal
 
 abbrev pub invariant-loop-at : goal.invariant-loop-at

@@ -1,10 +1,7 @@
 use Rattle.std.proofs.Common.{◌≡◌, ◌+◌, ◌<◌, ◌≤◌, ◌++◌, ◌∷◌, [], ℕ, List, length, get_or, drop, ap, sym, ◌∙◌}
-use Rattle.std.proofs.Common.{arith, rules}
-use Rattle.std.proofs.lemmas.Option.{get_or_from_slice_get}
+use Rattle.std.proofs.{Common.{arith, rules}, lemmas.Option.get_or_from_slice_get}
 use Rattle.wax_lengths.proofs.Lists.{slice_got}
-use Rattle.wax_capture.specs.inner.Rows.{IsCell}
-use Rattle.wax_capture.specs.inner.Splits.{IsChosenBy}
-use Rattle.wax_capture.specs.inner.Trials.{lengths_of}
+use Rattle.wax_capture.specs.{inner.Rows.IsCell, inner.Splits.IsChosenBy, inner.Trials.lengths_of}
 use Rattle.wax_capture.specs.declared.trial.Frame.{Frame}
 use Rattle.wax_capture.proofs.Trying.{lengths_push}
 use Rattle.wax_capture.proofs.Taking.{cell_chosen, cell_read, cell_some, lengths_end, row_long, taken_lengths}

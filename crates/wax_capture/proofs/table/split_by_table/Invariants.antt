@@ -1,6 +1,5 @@
 use Rattle.std.proofs.Common.{ℕ, ◌≤◌, ◌++◌, List, length, drop}
-use Rattle.wax_capture.specs.inner.Splits.{AreChosen, Splits}
-use Rattle.wax_capture.specs.inner.Trials.{lengths_of}
+use Rattle.wax_capture.specs.{inner.Splits.{AreChosen, Splits}, inner.Trials.lengths_of}
 use Rattle.wax_capture.proofs.table.split_by_table.Given as goal
 
 abbrev pub invariant-loop-index : goal.invariant-loop-index

@@ -1,11 +1,9 @@
 use Rattle.std.proofs.Common.{◌≡◌, ◌+◌, ◌-◌, ◌*◌, ◌<◌, ◌++◌, ◌∷◌, [], ℕ, Some, length, drop, sym, ap, arith}
-use Rattle.std.proofs.Common.{rules, refl, slice_get, subst, ◌∙◌}
-use Rattle.std.proofs.lemmas.Option.{slice_get_read}
-use Rattle.wax_capture.specs.inner.Rows.{Row}
-use Rattle.wax_capture.specs.inner.Splits.{all_sizes}
+use Rattle.std.proofs.{Common.{rules, refl, slice_get, subst, ◌∙◌}, lemmas.Option.slice_get_read}
+use Rattle.wax_capture.specs.{inner.Rows.Row, inner.Splits.all_sizes}
 use Rattle.wax_capture.proofs.Counting.{all_some, reads_fewer, reads_step}
-use Rattle.wax_lengths.proofs.Lists.{slice_read}
 use Rattle.wax_capture.proofs.Rows.{row_next, rows_none, rows_push}
+use Rattle.wax_lengths.proofs.Lists.{slice_read}
 use Rattle.wax_capture.proofs.table.table.Goals as goal
 
 pub loop-index-init : goal.loop-index-init

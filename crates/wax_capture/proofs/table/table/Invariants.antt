@@ -1,6 +1,5 @@
 use Rattle.std.proofs.Common.{◌≡◌, ◌+◌, ◌*◌, ◌≤◌, length, drop}
-use Rattle.wax_capture.specs.inner.Rows.{ArePieceRows}
-use Rattle.wax_capture.specs.inner.Splits.{all_sizes}
+use Rattle.wax_capture.specs.{inner.Rows.ArePieceRows, inner.Splits.all_sizes}
 use Rattle.wax_capture.proofs.table.table.Given as goal
 
 abbrev pub invariant-loop-index : goal.invariant-loop-index

@@ -1,9 +1,8 @@
 use Rattle.std.proofs.Common.{◌≡◌, ◌≤◌, ℕ, List, drop, length, length-drop, arith}
-use Rattle.wax_lengths.specs.declared.form.Form.{Form}
-use Rattle.wax_lengths.specs.declared.span.LengthSpan.{LengthSpan}
+use Rattle.wax_lengths.specs.{declared.form.Form.Form, declared.span.LengthSpan.LengthSpan}
 use Rattle.wax_capture.proofs.Choosing.{left_all, left_last, span_sound}
-use Rattle.wax_capture.proofs.trial.lengths_left.Goals as goal
 use Rattle.wax_capture.proofs.trial.lengths_left.Goals.{then-is_last, else-is_last}
+use Rattle.wax_capture.proofs.trial.lengths_left.Goals as goal
 
 pub returns-clause-left : goal.returns-clause-left
 returns-clause-left c =

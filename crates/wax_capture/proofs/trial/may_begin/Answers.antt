@@ -1,7 +1,6 @@
 use Rattle.std.proofs.Common.{◌≤◌, ℕ, List, drop, length, arith, rules}
 use Rattle.wax_capture.specs.Pieces.{forms_of}
-use Rattle.wax_capture.proofs.Choosing.{none_at_all}
-use Rattle.wax_capture.proofs.Trying.{none_passed}
+use Rattle.wax_capture.proofs.{Choosing.none_at_all, Trying.none_passed}
 use Rattle.wax_capture.proofs.trial.may_begin.Goals as goal
 
 pub returns : goal.returns

@@ -1,17 +1,14 @@
 use Rattle.std.proofs.Common.{◌≡◌, ◌+◌, ◌*◌, ◌≤◌, ℕ, List, [], ◌∷◌, ◌++◌, length, drop, drop-drop, ap, sym}
-use Rattle.std.proofs.Common.{◌∙◌, subst, arith, rules}
-use Rattle.std.proofs.lemmas.Bool.{MatchBool-at_false, MatchBool-at_true}
+use Rattle.std.proofs.{Common.{◌∙◌, subst, arith, rules}, lemmas.Bool.{MatchBool-at_false, MatchBool-at_true}}
 use Rattle.wax_lengths.specs.Spans.{looks}
 use Rattle.wax_capture.specs.inner.Splits.{AreChosen, Splits, all_sizes}
-use Rattle.wax_capture.specs.inner.Trials.{HasRoom, HasTaken, lengths_of}
-use Rattle.wax_capture.specs.declared.piece.Piece.{Piece}
+use Rattle.wax_capture.specs.{inner.Trials.{HasRoom, HasTaken, lengths_of}, declared.piece.Piece.Piece}
 use Rattle.wax_capture.specs.declared.trial.Frame.{Frame}
 use Rattle.wax_capture.proofs.Counting.{reads_next, reads_piece}
 use Rattle.wax_capture.proofs.Trying.{Stands, Took, after_last, at_next, lengths_push, at_piece, none_first}
 use Rattle.wax_capture.proofs.Trying.{stands_here, stands_last, stands_pop, stands_push, took_all}
-use Rattle.wax_capture.proofs.Trying.{took_within}
+use Rattle.wax_capture.proofs.{Trying.took_within, trial.split_by_trial.Goals.then-not-branch+in-Some}
 use Rattle.wax_capture.proofs.trial.split_by_trial.Goals as goal
-use Rattle.wax_capture.proofs.trial.split_by_trial.Goals.{then-not-branch+in-Some}
 use Rattle.wax_capture.proofs.trial.split_by_trial.Goals.{
   else-not-branch+then-index-pieces-2+then-may_begin+in_ok-push,
 }

@@ -1,6 +1,5 @@
 use Rattle.std.proofs.Common.{◌≡◌, ◌+◌, ◌*◌, ◌≤◌, ◌∷◌, List, length, drop}
-use Rattle.wax_capture.specs.inner.Splits.{all_sizes}
-use Rattle.wax_capture.specs.inner.Trials.{HasRoom, IsOpen, Trail, characters_taken}
+use Rattle.wax_capture.specs.{inner.Splits.all_sizes, inner.Trials.{HasRoom, IsOpen, Trail, characters_taken}}
 use Rattle.wax_capture.specs.declared.piece.Piece.{Piece}
 use Rattle.wax_capture.proofs.trial.split_by_trial.Given as goal
 

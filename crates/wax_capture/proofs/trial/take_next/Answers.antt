@@ -1,16 +1,12 @@
 use Rattle.std.proofs.Common.{◌≡◌, ◌+◌, ◌≤◌, ℕ, List, Some, length, take, drop, slice_get, refl, sym, ◌∙◌}
-use Rattle.std.proofs.Common.{subst, arith, rules}
-use Rattle.std.proofs.Math.Nat.{mul-le-mul_right}
-use Rattle.wax_capture.specs.Pieces.{forms_of, size_of}
-use Rattle.wax_lengths.specs.Forms.{form_size}
-use Rattle.wax_lengths.specs.Spans.{looks}
-use Rattle.wax_capture.specs.inner.Letters.{ArePassed}
-use Rattle.wax_capture.specs.inner.Trials.{HasTaken, IsOpen}
-use Rattle.wax_capture.specs.declared.trial.Frame.{Frame}
+use Rattle.std.proofs.{Common.{subst, arith, rules}, Math.Nat.mul-le-mul_right}
+use Rattle.wax_capture.specs.{Pieces.{forms_of, size_of}, inner.Letters.ArePassed}
+use Rattle.wax_capture.specs.{inner.Trials.{HasTaken, IsOpen}, declared.trial.Frame.Frame}
+use Rattle.wax_lengths.specs.{Forms.form_size, Spans.looks}
 use Rattle.wax_capture.proofs.Choosing.{none_at_all}
 use Rattle.wax_capture.proofs.Counting.{reads_fewer, reads_way, size_of_further, size_of_one, size_of_some}
-use Rattle.wax_lengths.proofs.Lists.{slice_read}
 use Rattle.wax_capture.proofs.Trying.{NoneTo, none_passed, open_none, open_takes, opens_next}
+use Rattle.wax_lengths.proofs.Lists.{slice_read}
 use Rattle.wax_capture.proofs.trial.take_next.Goals as goal
 
 pub returns-then-take_left-clause-taken : goal.returns-then-take_left-clause-taken

@@ -1,8 +1,6 @@
 use Rattle.std.proofs.Common.{◌≡◌, true, [], ◌+◌, ◌-◌, ◌*◌, ◌≤◌, ℕ, List, length, take, drop}
-use Rattle.wax_capture.specs.Pieces.{forms_of, size_of}
+use Rattle.wax_capture.specs.{Pieces.{forms_of, size_of}, inner.Trials.IsOpen, declared.piece.Piece.Piece}
 use Rattle.wax_lengths.specs.Spans.{looks}
-use Rattle.wax_capture.specs.inner.Trials.{IsOpen}
-use Rattle.wax_capture.specs.declared.piece.Piece.{Piece}
 use Rattle.wax_capture.proofs.Trying.{NoneTo}
 use Rattle.wax_capture.proofs.trial.take_next.Given as goal
 

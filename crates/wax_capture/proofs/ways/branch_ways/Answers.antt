@@ -1,10 +1,8 @@
-use Rattle.std.proofs.Common.{◌≡◌, ◌≤◌, ◌++◌, ◌∷◌, [], ℕ, length, rules, arith, ap}
-use Rattle.std.proofs.lemmas.List.{length_push}
+use Rattle.std.proofs.{Common.{◌≡◌, ◌≤◌, ◌++◌, ◌∷◌, [], ℕ, length, rules, arith, ap}, lemmas.List.length_push}
 use Rattle.wax_token.specs.Cost.{cost}
 use Rattle.wax_lengths.specs.Forms.{form_size}
 use Rattle.wax_capture.specs.Pieces.{forms_of}
-use Rattle.wax_capture.proofs.Branches.{sizes_push, stands, ways_all, ways_push}
-use Rattle.wax_capture.proofs.TokenWays.{refused_more}
+use Rattle.wax_capture.proofs.{Branches.{sizes_push, stands, ways_all, ways_push}, TokenWays.refused_more}
 use Rattle.wax_capture.proofs.ways.branch_ways.Goals as goal
 
 pub loop-branch-preserved : goal.loop-branch-preserved

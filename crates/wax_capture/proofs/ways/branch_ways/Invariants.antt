@@ -1,6 +1,5 @@
 use Rattle.std.proofs.Common.{◌≡◌, ◌≤◌, length, take}
-use Rattle.wax_token.specs.Cost.{branches_cost}
-use Rattle.wax_token.specs.Words.{trees}
+use Rattle.wax_token.specs.{Cost.branches_cost, Words.trees}
 use Rattle.wax_capture.specs.Pieces.{size_of}
 use Rattle.wax_capture.proofs.Branches.{WaysTo}
 use Rattle.wax_capture.proofs.ways.branch_ways.Given as goal

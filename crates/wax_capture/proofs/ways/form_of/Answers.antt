@@ -1,5 +1,4 @@
-use Rattle.std.proofs.Common.{◌-◌, ◌<◌, ◌≤◌, length, rules, arith}
-use Rattle.std.proofs.Math.Nat.{max-le}
+use Rattle.std.proofs.{Common.{◌-◌, ◌<◌, ◌≤◌, length, rules, arith}, Math.Nat.max-le}
 use Rattle.wax_token.specs.Cost.{cost}
 use Rattle.wax_capture.proofs.ways.form_of.Goals as goal
 

@@ -1,8 +1,5 @@
 use Rattle.std.proofs.Common.{◌≡◌, ◌↔◌, Bool, ℕ, List, rules, subst, sym}
-use Rattle.wax_token.specs.Meaning.{LeafMeans, Means}
-use Rattle.wax_token.specs.Syntax.{repetition}
-use Rattle.wax_token.specs.View.{leaf_of}
-use Rattle.wax_token.specs.Words.{annotation_of}
+use Rattle.wax_token.specs.{Meaning.{LeafMeans, Means}, Syntax.repetition, View.leaf_of, Words.annotation_of}
 use Rattle.wax_lengths.specs.Forms.{IsRunOf}
 use Rattle.wax_capture.specs.inner.Ways.{PassesOne}
 use Rattle.wax_capture.proofs.Runs.{run_means}

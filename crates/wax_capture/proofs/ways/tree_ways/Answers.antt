@@ -1,6 +1,6 @@
 use Rattle.std.proofs.Common.{◌≡◌, ◌∷◌, [], rules}
-use Rattle.wax_lengths.specs.declared.form.Form.TheVariants as form
 use Rattle.wax_capture.proofs.TokenWays.{tree_two_ways}
+use Rattle.wax_lengths.specs.declared.form.Form.TheVariants as form
 use Rattle.wax_capture.proofs.ways.tree_ways.Goals as goal
 
 pub returns-clause-ways : goal.returns-clause-ways

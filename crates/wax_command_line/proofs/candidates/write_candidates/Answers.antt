@@ -1,7 +1,5 @@
-use Rattle.std.proofs.Common.{arith, rules, refl, subst, ap, ◌≡◌, ◌∙◌}
-use Rattle.std.specs.Prelude.{Some, None, ◌||◌}
-use Rattle.std.proofs.lemmas.Bool.{or_parts}
-use Rattle.std.specs.Io.KnownBytes.{Appends}
+use Rattle.std.proofs.{Common.{arith, rules, refl, subst, ap, ◌≡◌, ◌∙◌}, lemmas.Bool.or_parts}
+use Rattle.std.specs.{Prelude.{Some, None, ◌||◌}, Io.KnownBytes.Appends}
 use Rattle.wax_lines.specs.Written.{WritesPart}
 use Rattle.wax_walk.specs.Entries.{given_of}
 use Rattle.wax_command_line.proofs.Lines.{err_holds, stops_writing, writing_end, writing_last, writing_more}

@@ -1,12 +1,10 @@
 use Rattle.std.proofs.Common.{map, refl, subst, ◌∙◌}
-use Rattle.std.specs.Prelude.{filter}
-use Rattle.std.specs.Io.KnownBytes.{Appends}
+use Rattle.std.specs.{Prelude.filter, Io.KnownBytes.Appends}
 use Rattle.wax_exclude.specs.GlobRequests.{request_excluding, request_pending, walk_for}
 use Rattle.wax_exclude.proofs.Telling.{answered_before, keeps_answered, keeps_told}
-use Rattle.wax_exclude.proofs.Wanting.{all_gave, keeps_wanted, filters_come, took_less}
+use Rattle.wax_exclude.proofs.{Wanting.{all_gave, keeps_wanted, filters_come, took_less}, Shown.well_named}
 use Rattle.wax_walk.proofs.Collecting.{map_ok}
 use Rattle.wax_walk.specs.Given.{is_kept}
-use Rattle.wax_exclude.proofs.Shown.{well_named}
 use Rattle.wax_command_line.proofs.Lines.{errors_kept, lines_kept, map_err}
 use Rattle.wax_command_line.proofs.candidates.write_wanted.Goals as goal
 

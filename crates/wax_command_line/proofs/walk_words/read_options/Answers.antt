@@ -1,7 +1,5 @@
-use Rattle.std.proofs.Common.{sym, subst, ◌++◌, rules, ◌≡◌, [], ◌∷◌}
-use Rattle.std.proofs.lemmas.List.{append-nil}
-use Rattle.wax_command_line.specs.Commands.{SayEach}
-use Rattle.wax_command_line.specs.WalkArguments.{asked_by}
+use Rattle.std.proofs.{Common.{sym, subst, ◌++◌, rules, ◌≡◌, [], ◌∷◌}, lemmas.List.append-nil}
+use Rattle.wax_command_line.specs.{Commands.SayEach, WalkArguments.asked_by}
 use Rattle.wax_command_line.proofs.OptionWords.{begins_more, doubled_by, none_holds, said_more, says_none}
 use Rattle.wax_command_line.proofs.walk_words.read_options.Goals as goal
 

@@ -1,6 +1,5 @@
 use Rattle.std.proofs.Common.{List, length}
-use Rattle.wax_command_line.specs.Commands.{WalkOption}
-use Rattle.wax_command_line.specs.inner.OptionWords.{AreSaidBy}
+use Rattle.wax_command_line.specs.{Commands.WalkOption, inner.OptionWords.AreSaidBy}
 use Rattle.wax_command_line.proofs.OptionWords.{Begins}
 use Rattle.wax_command_line.proofs.walk_words.read_options.Given as goal
 

@@ -1,6 +1,5 @@
-use Rattle.std.proofs.Common.{[], sym}
+use Rattle.std.proofs.{Common.{[], sym}, lemmas.List.append-nil}
 use Rattle.std.specs.Fn.{FnReturnsAt}
-use Rattle.std.proofs.lemmas.List.{append-nil}
 use Rattle.wax_commands.proofs.Adding.{list_asked, pattern_asked}
 use Rattle.wax_commands.proofs.building.add_filter.Goals as goal
 

@@ -1,8 +1,6 @@
-use Rattle.std.proofs.Common.{List}
 use Rattle.std.specs.Fn.{FnReturnsAt}
-use Rattle.wax_command_line.specs.Commands.{SayEach, WalkOption}
-use Rattle.wax_commands.proofs.Leaving.{so_far_all, so_far_more, so_far_none, so_far_refused}
 use Rattle.wax_command_line.specs.WalkArguments.{asked_by}
+use Rattle.wax_commands.proofs.Leaving.{so_far_all, so_far_more, so_far_none, so_far_refused}
 use Rattle.wax_commands.proofs.Adding.{passed_on}
 use Rattle.wax_commands.proofs.building.filters_of.Goals as goal
 

@@ -1,8 +1,7 @@
 use Rattle.std.proofs.Common.{List, length, map}
 use Rattle.std.specs.Fn.{FnReturnsAt}
 use Rattle.wax.specs.Exclusions.{rule_by}
-use Rattle.wax_exclude.specs.Ignored.{ignore_mark}
-use Rattle.wax_exclude.specs.Excluded.{excluded_mark}
+use Rattle.wax_exclude.specs.{Ignored.ignore_mark, Excluded.excluded_mark}
 use Rattle.wax_command_line.specs.Commands.{SayEach, WalkOption}
 use Rattle.wax_commands.proofs.Leaving.{SoFar}
 use Rattle.wax_commands.proofs.building.filters_of.Given as goal

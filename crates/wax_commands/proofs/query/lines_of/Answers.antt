@@ -1,4 +1,4 @@
-use Rattle.std.proofs.Common.{◌≡◌, ◌∙◌, List, ℕ, IfOk, ap, option_copied, rules, string_bytes, subst, sym}
+use Rattle.std.proofs.Common.{◌≡◌, List, ℕ, IfOk, ap, option_copied, rules, string_bytes, subst, sym}
 use Rattle.std.specs.Prelude.{None, Option, Some}
 use Rattle.wax.specs.Queries.{bounds}
 use Rattle.wax_commands.specs.QueryText.{fact_lines, lines_of_texts, range_text}

@@ -1,10 +1,8 @@
 use Rattle.std.proofs.Common.{◌≡◌, ◌∙◌, List, [], ◌∷◌, ℕ, Option, Some, None, subst, sym}
 use Rattle.std.specs.Prelude.{String}
-use Rattle.wax_command_line.specs.Commands.{Asks, SaysWalk, WalkRequest}
-use Rattle.wax_commands.specs.LineCommands.{LinesEnd, match_command, captures_of}
-use Rattle.wax_commands.specs.Queried.{QueryEnds}
+use Rattle.wax_command_line.specs.{Commands.{Asks, SaysWalk, WalkRequest}, WalkArguments.IsRead}
+use Rattle.wax_commands.specs.{LineCommands.{LinesEnd, match_command, captures_of}, Queried.QueryEnds}
 use Rattle.wax_commands.specs.Streams.{stream_of, writers}
-use Rattle.wax_command_line.specs.WalkArguments.{IsRead}
 use Rattle.wax_command_line.proofs.OptionWords.{same_walk}
 use Rattle.wax_commands.proofs.run.run_globs.Goals as goal
 

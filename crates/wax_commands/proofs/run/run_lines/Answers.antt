@@ -1,9 +1,7 @@
 use Rattle.std.proofs.Common.{◌≡◌, ◌≢◌, ◌∙◌, ap, refl, rules, subst}
 use Rattle.std.specs.Prelude.{Err}
-use Rattle.wax_lines.specs.declared.lines.LinesError.TheVariants.{Memory}
-use Rattle.wax_lines.specs.Lines.{Filtered, Stopped}
-use Rattle.wax_commands.specs.LineCommands.{done, not_text, stopped}
-use Rattle.wax_commands.specs.inner.Outputs.{writes_of}
+use Rattle.wax_lines.specs.{declared.lines.LinesError.TheVariants.Memory, Lines.{Filtered, Stopped}}
+use Rattle.wax_commands.specs.{LineCommands.{done, not_text, stopped}, inner.Outputs.writes_of}
 use Rattle.wax_commands.specs.Streams.{SaysNoMemory, stream_of}
 use Rattle.wax_commands.proofs.Ending.{shown_by_counts}
 use Rattle.wax_commands.proofs.run.run_lines.Goals as goal

@@ -2,7 +2,6 @@ use Rattle.std.proofs.Common.{◌≡◌, ◌∙◌, refl, rules, string_bytes, s
 use Rattle.std.specs.Io.KnownBytes.{Appends}
 use Rattle.wax_lines.specs.Written.{WritesPart}
 use Rattle.wax_commands.specs.Queried.{done, stopped}
-use Rattle.wax_commands.specs.QueryText.{query_text}
 use Rattle.wax_commands.proofs.run.run_query.Goals as goal
 
 pub returns-in-Ok-write_whole-clause-ends : goal.returns-in-Ok-write_whole-clause-ends

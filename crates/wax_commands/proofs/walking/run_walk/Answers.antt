@@ -1,13 +1,10 @@
 use Rattle.std.proofs.Common.{◌≡◌, ◌≢◌, ◌⊎◌, ◌∙◌, List, ap, rules, subst}
-use Rattle.std.specs.Prelude.{Err}
-use Rattle.std.specs.Fn.{FnReturnsAt}
+use Rattle.std.specs.{Prelude.Err, Fn.FnReturnsAt}
 use Rattle.wax_tree.specs.Depths.{behavior_at}
-use Rattle.wax_command_line.specs.Commands.{SayEach, WalkOption}
-use Rattle.wax_command_line.specs.Wanted.{WroteWanted}
+use Rattle.wax_command_line.specs.{Commands.{SayEach, WalkOption}, Wanted.WroteWanted}
 use Rattle.wax_commands.proofs.Going.{ends_cut_short, ends_done, ends_faulty, ends_in_no_memory}
 use Rattle.wax_commands.proofs.Going.{ends_no_filter, ends_stopped, environment, write_shown}
-use Rattle.wax_commands.specs.Streams.{SaysNoMemory, stream_of}
-use Rattle.wax_commands.specs.Walked.{HasRefused}
+use Rattle.wax_commands.specs.{Streams.{SaysNoMemory, stream_of}, Walked.HasRefused}
 use Rattle.wax_lines.specs.declared.lines.LinesError.TheVariants.{Memory}
 use Rattle.wax_commands.proofs.walking.run_walk.Goals as goal
 

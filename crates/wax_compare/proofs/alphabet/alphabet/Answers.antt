@@ -1,10 +1,7 @@
-use Rattle.std.proofs.Common.{length, sym, subst}
-use Rattle.std.proofs.lemmas.Result.{IfOk-weaker}
+use Rattle.std.proofs.{Common.{length, sym, subst}, lemmas.Result.IfOk-weaker}
 use Rattle.std.proofs.lemmas.List.Sorted.{Contains-permutation}
-use Rattle.wax_compare.specs.inner.Cutting.{Serve}
-use Rattle.wax_compare.specs.Cuts.{AreLetters}
-use Rattle.wax_compare.proofs.Letters.{letters_stand}
-use Rattle.wax_compare.proofs.Merging.{letters_merged}
+use Rattle.wax_compare.specs.{inner.Cutting.Serve, Cuts.AreLetters}
+use Rattle.wax_compare.proofs.{Letters.letters_stand, Merging.letters_merged}
 use Rattle.wax_compare.proofs.alphabet.alphabet.Goals as goal
 
 pub returns-clause-letters : goal.returns-clause-letters

@@ -1,6 +1,5 @@
-use Rattle.std.proofs.Common.{◌≡◌, ◌<◌, ◌↔◌, ◌∷◌, [], Contains, IsTrue, slice_index, sym, ◌∙◌, subst}
-use Rattle.std.proofs.Common.{inl, inr}
-use Rattle.std.proofs.lemmas.List.{get_or_default}
+use Rattle.std.proofs.Common.{◌≡◌, ◌<◌, ◌↔◌, ◌∷◌, [], Contains, IsTrue, slice_index, sym, ◌∙◌, subst, inl}
+use Rattle.std.proofs.{Common.inr, lemmas.List.get_or_default}
 use Rattle.std.proofs.lemmas.List.Elements.{Contains-append_left, Contains-push}
 use Rattle.wax_compare.specs.inner.Distinctions.{TakesCharacter}
 use Rattle.wax_compare.proofs.Distinguished.{same_taken, upto_all, upto_more}

@@ -1,8 +1,6 @@
 use Rattle.std.proofs.Common.{[], ◌∷◌, ◌++◌, ◌≡◌, ◌∙◌, chars, length, string_bytes, true≢false, refl, sym, ap}
-use Rattle.std.proofs.Common.{arith, subst}
-use Rattle.std.proofs.lemmas.Str.{chars-nil}
-use Rattle.wax_compare.specs.declared.pairs.StatePair.{StatePair}
-use Rattle.wax_compare.specs.declared.pairs.Reached.{Reached}
+use Rattle.std.proofs.{Common.{arith, subst}, lemmas.Str.chars-nil}
+use Rattle.wax_compare.specs.{declared.pairs.StatePair.StatePair, declared.pairs.Reached.Reached}
 use Rattle.wax_compare.specs.inner.Visiting.{IsHeld}
 use Rattle.wax_compare.proofs.Beginning.{held_begin, wanted_empty}
 use Rattle.wax_compare.proofs.finding.begin.Goals as goal

@@ -1,18 +1,16 @@
-use Rattle.std.proofs.Common.{ℕ, ◌≡◌, ◌<◌, IsTrue, Some, length, slice_get, slice_index, refl, sym, ap}
-use Rattle.std.proofs.Common.{subst, arith}
-use Rattle.std.proofs.lemmas.Option.{slice_get_read}
-use Rattle.wax_compare.specs.inner.Reaching.{Readings}
-use Rattle.wax_compare.specs.Limit.{ReachesMore}
-use Rattle.wax_compare.specs.inner.Searching.{IsUsual, readings}
+use Rattle.std.proofs.Common.{ℕ, ◌≡◌, ◌<◌, IsTrue, Some, length, slice_get, slice_index, refl, sym, ap, subst}
+use Rattle.std.proofs.{Common.arith, lemmas.Option.slice_get_read}
+use Rattle.wax_compare.specs.{inner.Reaching.Readings, Limit.ReachesMore}
+use Rattle.wax_compare.specs.inner.Searching.{IsUndistinguished, readings}
 use Rattle.wax_compare.specs.inner.Visiting.{EndsAt, IsVisited}
-use Rattle.wax_compare.proofs.Exceeding.{reaches_more}
-use Rattle.wax_compare.proofs.Following.{grown_within, held_next, same_on}
-use Rattle.wax_compare.proofs.Usual.{usual_alike, usual_later, visited_alike, visited_more_letters}
+use Rattle.wax_compare.proofs.{Exceeding.reaches_more, Following.{grown_within, held_next, same_on}}
+use Rattle.wax_compare.proofs.Undistinguished.{letters_alike, stays_undistinguished, visited_alike}
+use Rattle.wax_compare.proofs.Undistinguished.{visited_more_letters}
+use Rattle.wax_compare.proofs.finding.follow.Goals.{else-has_alike-2, then-has_alike-2}
 use Rattle.wax_compare.proofs.finding.follow.Goals as goal
-use Rattle.wax_compare.proofs.finding.follow.Goals.{else-has_usual-2, then-has_usual-2}
 
-pub is_usual-is_usual-requires-clause-first : goal.is_usual-is_usual-requires-clause-first
-is_usual-is_usual-requires-clause-first c =
+pub is_undistinguished-is_alike-requires-clause-first : goal.is_undistinguished-is_alike-requires-clause-first
+is_undistinguished-is_alike-requires-clause-first c =
     let x = c.index.result.now in
     let reached = c.args.pairs.now.reached.items in
     let is : slice_get c.loop-number.pairs.reached.items c.args.at ≡ Some x =
@@ -20,8 +18,9 @@ is_usual-is_usual-requires-clause-first c =
     (slice_get_read reached (length reached) c.args.at x refl c.requires.at c.index.ensures) in
     (c.loop-number.invariant.held.pairs.placed c.args.at x is).0
 
-pub is_usual-is_usual-requires-clause-second : goal.is_usual-is_usual-requires-clause-second
-is_usual-is_usual-requires-clause-second c =
+pub is_undistinguished-is_alike-requires-clause-second :
+    goal.is_undistinguished-is_alike-requires-clause-second
+is_undistinguished-is_alike-requires-clause-second c =
     let x = c.index.result.now in
     let reached = c.args.pairs.now.reached.items in
     let is : slice_get c.loop-number.pairs.reached.items c.args.at ≡ Some x =
@@ -29,8 +28,8 @@ is_usual-is_usual-requires-clause-second c =
     (slice_get_read reached (length reached) c.args.at x refl c.requires.at c.index.ensures) in
     (c.loop-number.invariant.held.pairs.placed c.args.at x is).1
 
-pub loop-number-preserved-then-has_usual : goal.loop-number-preserved-then-has_usual
-loop-number-preserved-then-has_usual c =
+pub loop-number-preserved-then-has_alike : goal.loop-number-preserved-then-has_alike
+loop-number-preserved-then-has_alike c =
     let code = c.args.first.now.0 in
     let other = c.args.second.now.0 in
     let s = c.loop-number.search in
@@ -41,8 +40,9 @@ loop-number-preserved-then-has_usual c =
     let is : slice_get c.loop-number.pairs.reached.items c.args.at ≡ Some x = inv.grows c.args.at x
     (slice_get_read reached (length reached) c.args.at x refl c.requires.at c.index.ensures) in
     let placed = inv.held.pairs.placed c.args.at x is in
-    let known = inv.usual c.if-has_usual.true in
-    let usual : IsUsual s x.pair number = c.is_usual-is_usual.ensures c.if-is_usual.true in
+    let known = inv.alike c.if-has_alike.true in
+    let alike : IsUndistinguished s x.pair number =
+    c.is_undistinguished-is_alike.ensures c.if-is_alike.true in
     let within : number < length s.letters.items = subst (λ v. number < length v.items) (sym inv.same.letters)
     (omega (arith, c.loop-number-test.true, c.len-number-end.ensures, c.args.search.now.letters.ok.0)) in
     let r : Readings = readings code other s in
@@ -50,8 +50,8 @@ loop-number-preserved-then-has_usual c =
     let now : IsVisited r c.loop-number.pairs.reached.items c.args.at (slice_index letters number) =
     visited_alike r c.loop-number.pairs.reached.items c.args.at x is (slice_index letters known.0)
     (slice_index letters number)
-    (usual_alike code other s x.pair inv.held.automata placed.0 placed.1 number known.0 within
-    (omega (arith, known.1, within)) usual known.2) (inv.visited known.0 known.1) in
+    (letters_alike code other s x.pair inv.held.automata placed.0 placed.1 number known.0 within
+    (omega (arith, known.1, within)) alike known.2) (inv.visited known.0 known.1) in
     record {
       held = inv.held;
       known = inv.known;
@@ -59,7 +59,7 @@ loop-number-preserved-then-has_usual c =
       same = inv.same;
       visited =
           visited_more_letters r c.loop-number.pairs.reached.items c.args.at number letters inv.visited now;
-      usual = λ _. (known.0, omega (arith, known.1), known.2);
+      alike = λ _. (known.0, omega (arith, known.1), known.2);
     }
 
 pub returns-then-branch-clause-followed : goal.returns-then-branch-clause-followed
@@ -99,8 +99,8 @@ loop-number-preserved c =
     let is : slice_get c.loop-number.pairs.reached.items c.args.at ≡ Some x = inv.grows c.args.at x
     (slice_get_read reached (length reached) c.args.at x refl c.requires.at c.index.ensures) in
     let placed = inv.held.pairs.placed c.args.at x is in
-    let later : (k : ℕ) → IsUsual old x.pair k → IsUsual new x.pair k =
-    λ k h. usual_later old new x.pair k told.same told.states placed.0 placed.1 h in
+    let later : (k : ℕ) → IsUndistinguished old x.pair k → IsUndistinguished new x.pair k =
+    λ k h. stays_undistinguished old new x.pair k told.same told.states placed.0 placed.1 h in
     record {
       held = told.held;
       known = told.known;
@@ -111,11 +111,14 @@ loop-number-preserved c =
           (told.keeps (slice_index old.letters.items k) (inv.visited k lt)))
           (subst (λ v. IsVisited r pairs c.args.at (slice_index v.items number)) (sym told.same.letters)
           (told.visited c.if-branch.false));
-      usual = elim c.if-has_usual-2.branch [
-        | then-has_usual-2 w ↦ (λ _. let known = inv.usual w.if-has_usual-2.true in
+      alike = elim c.if-has_alike-2.branch [
+        | then-has_alike-2 w ↦ (λ _. let known = inv.alike w.if-has_alike-2.true in
             (known.0, omega (arith, known.1), later known.0 known.2))
-        | else-has_usual-2 w ↦ (λ h.
-            (number, omega arith, later number (c.is_usual-is_usual.ensures (subst IsTrue w.has_usual-is h))))
+        | else-has_alike-2 w ↦ (λ h. (
+          number,
+          omega arith,
+          later number (c.is_undistinguished-is_alike.ensures (subst IsTrue w.has_alike-is h)),
+        ))
       ];
     }
 

@@ -1,5 +1,5 @@
 use Rattle.std.proofs.Common.{ℕ, ◌<◌, IsTrue, slice_index}
-use Rattle.wax_compare.specs.inner.Searching.{IsSameSearch, IsUsual, readings}
+use Rattle.wax_compare.specs.inner.Searching.{IsSameSearch, IsUndistinguished, readings}
 use Rattle.wax_compare.specs.inner.Visiting.{AreKnown, Grow, IsHeld, IsVisited}
 use Rattle.wax_compare.proofs.finding.follow.Given as goal
 
@@ -11,5 +11,5 @@ invariant-loop-number l = record {
   same : IsSameSearch l.fn.search l.search;
   visited : (k : ℕ) → k < l.number → IsVisited (readings l.first.0 l.second.0 l.search) l.pairs.reached.items
       l.at (slice_index l.search.letters.items k);
-  usual : IsTrue l.has_usual → (k : ℕ) × (k < l.number) × IsUsual l.search l.pair k;
+  alike : IsTrue l.has_alike → (k : ℕ) × (k < l.number) × IsUndistinguished l.search l.pair k;
 }

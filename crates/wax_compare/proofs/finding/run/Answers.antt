@@ -1,6 +1,5 @@
 use Rattle.std.proofs.Common.{◌≤◌, arith, inl, length, subst}
-use Rattle.wax_compare.specs.Limit.{ReachesMore}
-use Rattle.wax_compare.specs.declared.wanted.Comparison.TheVariants.{Nothing}
+use Rattle.wax_compare.specs.{Limit.ReachesMore, declared.wanted.Comparison.TheVariants.Nothing}
 use Rattle.wax_compare.proofs.Exceeding.{reaches_more}
 use Rattle.wax_compare.proofs.ReadingBack.{answer_none, few_pairs, same_limit, same_wanted}
 use Rattle.wax_compare.proofs.finding.run.Goals as goal

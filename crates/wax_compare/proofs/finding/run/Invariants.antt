@@ -1,5 +1,4 @@
-use Rattle.wax_compare.specs.inner.Searching.{IsSameSearch}
-use Rattle.wax_compare.specs.inner.Visiting.{AreKnown, IsHeld}
+use Rattle.wax_compare.specs.{inner.Searching.IsSameSearch, inner.Visiting.{AreKnown, IsHeld}}
 use Rattle.wax_compare.proofs.finding.run.Given as goal
 
 abbrev pub invariant-loop-at : goal.invariant-loop-at

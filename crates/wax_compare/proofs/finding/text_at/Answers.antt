@@ -1,9 +1,7 @@
 use Rattle.std.proofs.Common.{chars, string_bytes, length, slice_index, sym, subst, ◌≡◌, ◌<◌, ◌∙◌}
-use Rattle.std.proofs.lemmas.List.{get_or_default}
-use Rattle.std.proofs.lemmas.Result.{IfOk-weaker}
+use Rattle.std.proofs.{lemmas.List.get_or_default, lemmas.Result.IfOk-weaker}
 use Rattle.std.proofs.lemmas.Str.{IsUtf8-string_bytes, scalars-chars}
-use Rattle.wax_compare.specs.inner.ReadBack.{AreEarlier, IsReadBack}
-use Rattle.wax_compare.specs.inner.Searching.{readings}
+use Rattle.wax_compare.specs.{inner.ReadBack.{AreEarlier, IsReadBack}, inner.Searching.readings}
 use Rattle.wax_compare.proofs.ReadingBack.{answer_text, are_earlier, short_text}
 use Rattle.wax_compare.proofs.finding.text_at.Goals as goal
 

@@ -1,14 +1,11 @@
-use Rattle.std.proofs.Common.{◌≡◌, ◌+◌, ◌∙◌, [], Some, length, slice_get, slice_index}
-use Rattle.std.proofs.Common.{true≢false, refl, sym, subst, arith}
+use Rattle.std.proofs.Common.{◌≡◌, ◌+◌, ◌∙◌, [], Some, length, slice_get, slice_index, true≢false, refl, sym}
+use Rattle.std.proofs.{Common.{subst, arith}, lemmas.Option.slice_get_read}
 use Rattle.std.specs.Char.{IsScalar}
-use Rattle.wax_compare.specs.declared.pairs.Reached.{Reached}
-use Rattle.std.proofs.lemmas.Option.{slice_get_read}
-use Rattle.wax_compare.specs.inner.Reaching.{GoesFrom, Readings}
+use Rattle.wax_compare.specs.{declared.pairs.Reached.Reached, inner.Reaching.{GoesFrom, Readings}}
 use Rattle.wax_compare.specs.inner.Searching.{IsNextOrNone, IsNextPair, readings}
 use Rattle.wax_compare.specs.inner.Visiting.{Grow, HasPair, IsHeld, IsVisited}
 use Rattle.wax_compare.proofs.Pushing.{ends_at, grow_push, held_later, held_push, visited_dead, visited_known}
-use Rattle.wax_compare.proofs.Pushing.{visited_more, visited_new}
-use Rattle.wax_compare.proofs.Visiting.{search_later, visited_later}
+use Rattle.wax_compare.proofs.{Pushing.{visited_more, visited_new}, Visiting.{search_later, visited_later}}
 use Rattle.wax_compare.proofs.finding.visit.Goals as goal
 
 pub returns-in_default-clause-held : goal.returns-in_default-clause-held

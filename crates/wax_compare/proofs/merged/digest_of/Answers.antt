@@ -1,8 +1,7 @@
 use Rattle.std.proofs.Common.{◌≡◌, ◌⊎◌, ◌∙◌, inl, inr, sym, true≢false}
 use Rattle.wax_compare.specs.inner.Merging.{PassesAt, stirred}
-use Rattle.wax_compare.proofs.Merging.{digest_more}
+use Rattle.wax_compare.proofs.{Merging.digest_more, merged.digest_of.Goals.{else-passes_at, then-passes_at}}
 use Rattle.wax_compare.proofs.merged.digest_of.Goals as goal
-use Rattle.wax_compare.proofs.merged.digest_of.Goals.{else-passes_at, then-passes_at}
 
 pub loop-at-preserved : goal.loop-at-preserved
 loop-at-preserved c =

@@ -1,6 +1,5 @@
-use Rattle.std.proofs.Common.{◌≡◌, ◌<◌, ◌∙◌, arith, inl, inr, slice_index, subst, sym, true≢false, length}
-use Rattle.std.proofs.lemmas.Bool.{cases_lt}
-use Rattle.std.proofs.lemmas.List.{get_or_default}
+use Rattle.std.proofs.Common.{◌≡◌, ◌∙◌, arith, inl, inr, slice_index, subst, sym, true≢false}
+use Rattle.std.proofs.{lemmas.Bool.cases_lt, lemmas.List.get_or_default}
 use Rattle.wax_compare.specs.Cuts.{StandsFor}
 use Rattle.wax_compare.proofs.Merging.{stands_digest}
 use Rattle.wax_compare.proofs.merged.has_stand_in.Goals as goal

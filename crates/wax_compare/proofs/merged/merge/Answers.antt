@@ -1,5 +1,4 @@
-use Rattle.std.proofs.Common.{◌∙◌, subst}
-use Rattle.std.proofs.lemmas.List.{get_or_default}
+use Rattle.std.proofs.{Common.{◌∙◌, subst}, lemmas.List.get_or_default}
 use Rattle.wax_compare.specs.Cuts.{HasStandIn}
 use Rattle.wax_compare.proofs.Merging.{merged_all, merged_more}
 use Rattle.wax_compare.proofs.merged.merge.Goals as goal

@@ -1,7 +1,6 @@
 use Rattle.std.proofs.Common.{Contains, subst, sym, true≢false, ◌∙◌, ◌∷◌, ◌++◌, []}
 use Rattle.std.proofs.lemmas.List.Elements.{Contains-push}
-use Rattle.wax_compare.specs.Cuts.{HasStandIn}
-use Rattle.wax_compare.specs.inner.Merging.{AreKeptLetters}
+use Rattle.wax_compare.specs.{Cuts.HasStandIn, inner.Merging.AreKeptLetters}
 use Rattle.wax_compare.proofs.Merging.{itself, kept_more}
 use Rattle.wax_compare.proofs.merged.merge_letter.Goals as goal
 

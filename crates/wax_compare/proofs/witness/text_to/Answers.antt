@@ -2,8 +2,7 @@ use Rattle.std.proofs.Common.{◌≡◌, ◌<◌, ◌++◌, ◌∷◌, [], Some,
 use Rattle.std.proofs.Common.{slice_get, string_bytes, sym, ◌∙◌, ap, subst, arith}
 use Rattle.std.proofs.lemmas.Option.{slice_get-get_or}
 use Rattle.std.proofs.lemmas.Str.{IsUtf8-string_bytes, chars-nil, chars_past_char}
-use Rattle.wax_compare.specs.declared.pairs.Reached.{Reached}
-use Rattle.wax_compare.specs.inner.ReadBack.{IsReadFrom}
+use Rattle.wax_compare.specs.{declared.pairs.Reached.Reached, inner.ReadBack.IsReadFrom}
 use Rattle.wax_compare.proofs.ReadingBack.{read_last, read_more}
 use Rattle.wax_compare.proofs.witness.text_to.Goals as goal
 

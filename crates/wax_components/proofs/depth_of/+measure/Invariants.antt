@@ -1,8 +1,6 @@
 use Rattle.std.proofs.Common.{◌≤◌, ◌<◌, drop, length}
-use Rattle.wax_token.specs.Syntax.{tree_size, trees_size}
-use Rattle.wax_token.specs.Words.{trees}
-use Rattle.wax_components.specs.inner.Saturation.{ProfilesOf}
-use Rattle.wax_components.specs.inner.TreeProfiles.{each_profile, some_profile}
+use Rattle.wax_token.specs.{Syntax.{tree_size, trees_size}, Words.trees}
+use Rattle.wax_components.specs.{inner.Saturation.ProfilesOf, inner.TreeProfiles.{each_profile, some_profile}}
 use Rattle.wax_components.proofs.depth_of.+measure.Given as goal
 
 abbrev pub decreases-token_profiles : goal.decreases-token_profiles

@@ -1,8 +1,7 @@
 use Rattle.std.proofs.Common.{◌≡◌, false, subst, sym}
 use Rattle.wax_query.specs.Ranges.{bounds}
 use Rattle.wax_components.specs.Depth.{SaturatedDepth}
-use Rattle.wax_components.proofs.Exactness.{exact_depth}
-use Rattle.wax_components.proofs.Thinning.{depth_bounds}
+use Rattle.wax_components.proofs.{Exactness.exact_depth, Thinning.depth_bounds}
 use Rattle.wax_components.proofs.Words.{saturated_bounds_of, saturated_depth_of, saturated_in_order}
 use Rattle.wax_components.proofs.depth_of.depth.Goals as goal
 

@@ -1,11 +1,8 @@
 use Rattle.std.proofs.Common.{◌≡◌, ◌∙◌, ◌∷◌, List, ℕ, [], ap, length, map, refl, sym}
-use Rattle.std.proofs.lemmas.Iterator.{YieldsList-from_chars}
-use Rattle.std.proofs.lemmas.Iterator.Consumers.{YieldsList-end}
+use Rattle.std.proofs.{lemmas.Iterator.YieldsList-from_chars, lemmas.Iterator.Consumers.YieldsList-end}
 use Rattle.std.specs.Str.{chars}
 use Rattle.wax_query.specs.Components.{slashes}
-use Rattle.wax_components.specs.inner.Profiles.{single}
-use Rattle.wax_components.specs.inner.Saturation.{saturated}
-use Rattle.wax_components.specs.inner.Shapes.{shape}
+use Rattle.wax_components.specs.{inner.Profiles.single, inner.Saturation.saturated, inner.Shapes.shape}
 use Rattle.wax_components.proofs.depth_of.text_profile.Goals as goal
 
 map_same : (xs : List ℕ) → map (λ x. x) xs ≡ xs

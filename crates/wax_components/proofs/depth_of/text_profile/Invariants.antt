@@ -1,8 +1,6 @@
 use Rattle.std.proofs.Common.{◌≡◌}
 use Rattle.wax_query.specs.Components.{slashes}
-use Rattle.wax_components.specs.inner.Profiles.{single}
-use Rattle.wax_components.specs.inner.Saturation.{saturated}
-use Rattle.wax_components.specs.inner.Shapes.{shape}
+use Rattle.wax_components.specs.{inner.Profiles.single, inner.Saturation.saturated, inner.Shapes.shape}
 use Rattle.wax_components.proofs.depth_of.text_profile.Given as goal
 
 abbrev pub invariant-loop-c : goal.invariant-loop-c

@@ -1,7 +1,6 @@
 use Rattle.std.proofs.Common.{◌≡◌, drop}
 use Rattle.std.specs.List.{list_any}
-use Rattle.wax_components.specs.Parts.{is_semantic}
-use Rattle.wax_components.specs.Warnings.{has_semantic_literals}
+use Rattle.wax_components.specs.{Parts.is_semantic, Warnings.has_semantic_literals}
 use Rattle.wax_components.proofs.levels.has_semantic_literals.Given as goal
 
 abbrev pub invariant-loop-literal : goal.invariant-loop-literal

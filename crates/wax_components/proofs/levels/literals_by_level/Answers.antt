@@ -1,6 +1,5 @@
 use Rattle.std.proofs.Common.{rules, ◌≡◌, ◌∙◌, ◌<◌, ◌++◌, ◌∷◌, [], ap, sym, arith, length, append-nil}
-use Rattle.std.proofs.lemmas.Grind.{flat_map-append}
-use Rattle.std.proofs.lemmas.List.{append_assoc, nil_from_length}
+use Rattle.std.proofs.{lemmas.Grind.flat_map-append, lemmas.List.{append_assoc, nil_from_length}}
 use Rattle.std.specs.List.{flat_map}
 use Rattle.wax_components.proofs.Globs.{weight, rest, rest-nil, rest_whole, rest_step, lighter_level}
 use Rattle.wax_components.specs.Levels.{literals_in, sub_globs}

@@ -1,7 +1,6 @@
 use Rattle.std.proofs.Common.{◌≡◌, ◌++◌, drop}
 use Rattle.std.specs.List.{flat_map}
-use Rattle.wax_components.specs.Levels.{literals_in}
-use Rattle.wax_components.specs.Parts.{with_text}
+use Rattle.wax_components.specs.{Levels.literals_in, Parts.with_text}
 use Rattle.wax_components.proofs.levels.push_literals.Given as goal
 
 abbrev pub invariant-loop-component : goal.invariant-loop-component

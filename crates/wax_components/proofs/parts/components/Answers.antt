@@ -1,9 +1,7 @@
 use Rattle.std.proofs.Common.{◌∙◌, ap, subst, sym, true}
 use Rattle.std.specs.List.{All, Contains}
-use Rattle.wax_components.proofs.AllParts.{has_each}
-use Rattle.wax_components.proofs.Runs.{components_are_longest}
-use Rattle.wax_components.specs.Parts.{IsComponent, components_in}
-use Rattle.wax_components.specs.TopLevel.{tokens_of}
+use Rattle.wax_components.proofs.{AllParts.has_each, Runs.components_are_longest}
+use Rattle.wax_components.specs.{Parts.{IsComponent, components_in}, TopLevel.tokens_of}
 use Rattle.wax_components.proofs.parts.components.Goals as goal
 
 pub returns-clause-longest : goal.returns-clause-longest

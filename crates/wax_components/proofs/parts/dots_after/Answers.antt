@@ -1,7 +1,5 @@
-use Rattle.std.proofs.Common.{◌∙◌, ap, sym, fold}
-use Rattle.std.proofs.lemmas.Iterator.{YieldsList-from_chars}
-use Rattle.std.proofs.lemmas.Iterator.Consumers.{YieldsList-end}
-use Rattle.std.proofs.lemmas.List.{map-id}
+use Rattle.std.proofs.{Common.{◌∙◌, ap, sym, fold}, lemmas.Iterator.YieldsList-from_chars}
+use Rattle.std.proofs.{lemmas.Iterator.Consumers.YieldsList-end, lemmas.List.map-id}
 use Rattle.wax_components.specs.inner.Dots.{dot_after}
 use Rattle.wax_components.proofs.parts.dots_after.Goals as goal
 

@@ -1,7 +1,6 @@
 use Rattle.std.proofs.Common.{◌≡◌, ◌++◌, drop, chars}
 use Rattle.std.specs.List.{flat_map}
-use Rattle.wax_components.specs.Levels.{literals}
-use Rattle.wax_components.specs.Warnings.{semantic_warnings}
+use Rattle.wax_components.specs.{Levels.literals, Warnings.semantic_warnings}
 use Rattle.wax_components.proofs.warnings.semantic_literals.Given as goal
 
 abbrev pub invariant-loop-component : goal.invariant-loop-component

@@ -1,18 +1,15 @@
 use Rattle.std.proofs.Common.{◌≡◌, ◌<◌, ◌++◌, ℕ, List, [], ◌∷◌, Bor, None, refl, sym, ◌∙◌, ap, subst}
 use Rattle.std.proofs.Common.{option_map, drop, ◌+◌, arith}
 use Rattle.std.specs.List.{filter_map}
-use Rattle.wax_directory.specs.declared.tree.TreeItem.{TreeItem}
-use Rattle.wax_directory.specs.declared.tree.TreeItem.TheVariants.{Entry}
-use Rattle.wax_directory.specs.declared.tree.Node.TheViews as V
-use Rattle.wax_directory.specs.Names.{are_distinct}
-use Rattle.wax_directory.specs.Nodes.{names_of}
+use Rattle.wax_directory.specs.{declared.tree.TreeItem.TreeItem, declared.tree.TreeItem.TheVariants.Entry}
+use Rattle.wax_directory.specs.{Names.are_distinct, Nodes.names_of}
 use Rattle.wax_directory.specs.PathTails.{PathTail, first_name, below_name, with_new}
 use Rattle.wax_directory.specs.inner.Growing.{new_name, Grows}
-use Rattle.wax_directory.proofs.Cursors.{none_of}
-use Rattle.wax_directory.proofs.PathNames.{distinct_push}
+use Rattle.wax_directory.proofs.{Cursors.none_of, PathNames.distinct_push}
 use Rattle.wax_directory.proofs.Planting.{total, below_less, below_some, is_new, IsNewOf, new_of, names_same}
 use Rattle.wax_directory.proofs.Planting.{names_grown, names_all, file_grows, file_distinct, entry_grown}
 use Rattle.wax_directory.proofs.Planting.{entry_named, folder_grows, grown_distinct, AreGrown}
+use Rattle.wax_directory.specs.declared.tree.Node.TheViews as V
 use Rattle.wax_directory.proofs.paths.+grown.Goals as goal
 use Rattle.wax_directory.proofs.paths.+grown.Goals.{
   in-Some+in_ok-tails_below+in_ok-node+in_ok-from_str+in_ok-push,

@@ -1,7 +1,6 @@
 use Rattle.std.proofs.Common.{◌≡◌, true, drop}
 use Rattle.std.specs.List.{filter_map}
-use Rattle.wax_directory.specs.Names.{are_distinct}
-use Rattle.wax_directory.specs.Nodes.{names_of}
+use Rattle.wax_directory.specs.{Names.are_distinct, Nodes.names_of}
 use Rattle.wax_directory.specs.PathTails.{first_name, with_new, names_by}
 use Rattle.wax_directory.proofs.Planting.{total, AreGrown}
 use Rattle.wax_directory.proofs.paths.+grown.Given as goal

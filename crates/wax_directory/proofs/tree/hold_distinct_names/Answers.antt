@@ -1,15 +1,12 @@
 use Rattle.std.proofs.Common.{◌≡◌, ◌+◌, ℕ, List, [], ◌∷◌, ◌++◌, true, false, take, subst, sym, ◌∙◌, ap}
-use Rattle.std.specs.List.{list_any}
-use Rattle.std.specs.Str.{bytes_eq}
-use Rattle.std.specs.HashSet.{contains_by}
 use Rattle.std.proofs.lemmas.Bool.{not-true, not-false}
-use Rattle.wax_directory.specs.Names.{are_distinct}
-use Rattle.wax_directory.specs.Nodes.{names_of}
+use Rattle.std.specs.{List.list_any, Str.bytes_eq, HashSet.contains_by}
+use Rattle.wax_directory.specs.{Names.are_distinct, Nodes.names_of}
 use Rattle.wax_directory.proofs.PathNames.{distinct_push}
 use Rattle.wax_directory.proofs.Finding.{seen_twice, names_entry, names_other, seen_more}
-use Rattle.wax_directory.proofs.tree.hold_distinct_names.Goals as goal
 use Rattle.wax_directory.proofs.tree.hold_distinct_names.Goals.{in-Entry+in_ok-insert+else-not-branch}
 use Rattle.wax_directory.proofs.tree.hold_distinct_names.Goals.{in_default}
+use Rattle.wax_directory.proofs.tree.hold_distinct_names.Goals as goal
 
 pub returns-then-not-branch : goal.returns-then-not-branch
 returns-then-not-branch c =

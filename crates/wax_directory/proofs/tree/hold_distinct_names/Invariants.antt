@@ -1,9 +1,6 @@
 use Rattle.std.proofs.Common.{◌≡◌, ℕ, List, true, Bor, take}
-use Rattle.std.specs.List.{list_any}
-use Rattle.std.specs.Str.{bytes_eq}
-use Rattle.std.specs.HashSet.{contains_by}
-use Rattle.wax_directory.specs.Names.{are_distinct}
-use Rattle.wax_directory.specs.Nodes.{names_of}
+use Rattle.std.specs.{List.list_any, Str.bytes_eq, HashSet.contains_by}
+use Rattle.wax_directory.specs.{Names.are_distinct, Nodes.names_of}
 use Rattle.wax_directory.proofs.tree.hold_distinct_names.Given as goal
 
 abbrev pub invariant-loop-item : goal.invariant-loop-item

@@ -1,14 +1,10 @@
 use Rattle.std.proofs.Common.{◌≡◌, ◌∙◌, ◌<◌, ◌++◌, ◌∷◌, ◌+◌, [], ap, drop, false, rules, subst, sym}
-use Rattle.std.specs.List.{All, before_first, list_any}
 use Rattle.std.proofs.lemmas.List.Elements.{All-get_or}
-use Rattle.wax_components.specs.Parts.{IsComponent}
-use Rattle.wax_components.specs.TopLevel.{tokens_of}
-use Rattle.wax_token.specs.Cost.{costs}
-use Rattle.wax_token.specs.Kinds.{has_boundary}
-use Rattle.wax_token.specs.Words.{trees}
+use Rattle.std.specs.List.{All, before_first, list_any}
+use Rattle.wax_components.specs.{Parts.IsComponent, TopLevel.tokens_of}
+use Rattle.wax_token.specs.{Cost.costs, Kinds.has_boundary, Words.trees}
 use Rattle.wax_exclude.specs.Leading.{leading}
-use Rattle.wax_exclude.proofs.Costs.{part_fits}
-use Rattle.wax_exclude.proofs.Steps.{kept_next}
+use Rattle.wax_exclude.proofs.{Costs.part_fits, Steps.kept_next}
 use Rattle.wax_exclude.proofs.component.leading.Goals as goal
 
 pub compiled_component-requires : goal.compiled_component-requires

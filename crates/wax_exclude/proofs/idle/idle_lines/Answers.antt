@@ -1,11 +1,9 @@
 use Rattle.std.proofs.Common.{◌≡◌, ◌∙◌, ◌+◌, MatchOption, Some, ap, refl, subst, sym}
-use Rattle.wax_exclude.proofs.IdleLines.{one_decides, one_idle}
-use Rattle.wax_exclude.proofs.Undecided.{one_undecided}
+use Rattle.wax_exclude.proofs.{IdleLines.{one_decides, one_idle}, Undecided.one_undecided}
 use Rattle.wax_exclude.proofs.idle.idle_lines.Goals.{in-Some+in_ok-push, in_default}
 use Rattle.wax_exclude.specs.Idle.{AreIdleAmong, DecidesSome, IsReason, LineIgnores, LineMeans}
 use Rattle.wax_exclude.specs.Undecided.{AreUndecided, IsUndecided}
-use Rattle.wax_exclude.specs.declared.idle.IdleReason.TheVariants.{Unknown}
-use Rattle.wax_exclude.specs.inner.Idle.{AreMatchedBy}
+use Rattle.wax_exclude.specs.{declared.idle.IdleReason.TheVariants.Unknown, inner.Idle.AreMatchedBy}
 use Rattle.wax_exclude.proofs.idle.idle_lines.Goals as goal
 
 pub loop-index-preserved : goal.loop-index-preserved

@@ -1,6 +1,5 @@
 use Rattle.std.proofs.Common.{◌≡◌}
-use Rattle.wax_exclude.specs.Idle.{AreIdleAmong, LineIgnores, LineMeans}
-use Rattle.wax_exclude.specs.Undecided.{AreUndecided}
+use Rattle.wax_exclude.specs.{Idle.{AreIdleAmong, LineIgnores, LineMeans}, Undecided.AreUndecided}
 use Rattle.wax_exclude.specs.inner.Idle.{AreMatchedBy}
 use Rattle.wax_exclude.proofs.idle.idle_lines.Given as goal
 

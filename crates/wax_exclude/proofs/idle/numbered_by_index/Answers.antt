@@ -1,7 +1,5 @@
 use Rattle.std.proofs.Common.{◌≡◌, ◌∙◌, ◌+◌, Some, ap, arith, refl, slice_get, subst, sym}
-use Rattle.std.proofs.lemmas.List.{take_all}
-use Rattle.std.proofs.lemmas.Option.{slice_get-get_or}
-use Rattle.std.proofs.lemmas.Result.{IfOk-weaker}
+use Rattle.std.proofs.{lemmas.List.take_all, lemmas.Option.slice_get-get_or, lemmas.Result.IfOk-weaker}
 use Rattle.wax_match.specs.Numbered.{numbered_length}
 use Rattle.wax_exclude.specs.Length.{list_length}
 use Rattle.wax_exclude.proofs.IdleLines.{AreOfFirst, all_numbered, both_ok, line_numbered}

@@ -1,7 +1,5 @@
-use Rattle.std.proofs.Common.{◌≡◌, ◌∙◌, ◌++◌, ◌∷◌, [], ℕ, List, Some, ap, get_or, refl, slice_get, subst}
-use Rattle.std.proofs.Common.{sym, take}
-use Rattle.std.proofs.lemmas.List.{take_all, take_more}
-use Rattle.std.proofs.lemmas.Option.{slice_get-get_or}
+use Rattle.std.proofs.Common.{◌≡◌, ◌∙◌, ◌++◌, ◌∷◌, [], ℕ, List, Some, ap, get_or, refl, slice_get, subst, sym}
+use Rattle.std.proofs.{Common.take, lemmas.List.{take_all, take_more}, lemmas.Option.slice_get-get_or}
 use Rattle.wax_exclude.proofs.IdleLines.{globs_mean, one_glob_more}
 use Rattle.wax_exclude.specs.Undecided.{AreGlobsAt}
 use Rattle.wax_exclude.proofs.idle.union_of.Goals as goal

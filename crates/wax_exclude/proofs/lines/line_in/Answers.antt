@@ -1,6 +1,6 @@
 use Rattle.std.proofs.Common.{lit<, subst, sym, ◌∙◌, ◌≡◌, ◌≢◌, ◌∷◌, List, ℕ}
-use Rattle.std.specs.Option.{MatchOption}
 use Rattle.std.proofs.lemmas.Str.Pattern.{strip_prefix_char}
+use Rattle.std.specs.Option.{MatchOption}
 use Rattle.wax_exclude.proofs.Written.{says_ignored, says_nothing, says_taken_back}
 use Rattle.wax_exclude.proofs.lines.line_in.Goals as goal
 

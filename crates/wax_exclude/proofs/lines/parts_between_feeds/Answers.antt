@@ -1,5 +1,4 @@
-use Rattle.std.proofs.Common.{lit<}
-use Rattle.std.proofs.lemmas.Iterator.Consumers.{map_from_collect}
+use Rattle.std.proofs.{Common.lit<, lemmas.Iterator.Consumers.map_from_collect}
 use Rattle.std.proofs.lemmas.Iterator.Splits.{YieldsList-from_str_split}
 use Rattle.wax_exclude.proofs.lines.parts_between_feeds.Goals as goal
 

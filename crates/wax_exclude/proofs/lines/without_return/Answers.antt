@@ -1,6 +1,6 @@
 use Rattle.std.proofs.Common.{ap, lit<, subst, sym, ◌∙◌, ◌≡◌, ◌≢◌, ◌++◌, ◌∷◌, [], List, ℕ}
-use Rattle.std.specs.Option.{MatchOption}
 use Rattle.std.proofs.lemmas.Str.Pattern.{strip_suffix_char}
+use Rattle.std.specs.Option.{MatchOption}
 use Rattle.wax_exclude.specs.Lines.{without_return}
 use Rattle.wax_exclude.proofs.Written.{none_dropped, return_dropped}
 use Rattle.wax_exclude.proofs.lines.without_return.Goals as goal

@@ -1,9 +1,8 @@
 use Rattle.std.proofs.Common.{◌≡◌, ◌++◌, ◌+◌, ◌∷◌, ◌∙◌, [], ap, append-nil, drop, map, sym}
 use Rattle.std.proofs.lemmas.List.{map-append}
 use Rattle.wax_exclude.specs.Lines.{lines_from, written_of}
-use Rattle.wax_exclude.proofs.Written.{next_line}
+use Rattle.wax_exclude.proofs.{Written.next_line, lines.written_lines.Goals.{in-Some+in_ok-push, in_default}}
 use Rattle.wax_exclude.proofs.lines.written_lines.Goals as goal
-use Rattle.wax_exclude.proofs.lines.written_lines.Goals.{in-Some+in_ok-push, in_default}
 
 pub loop-index-preserved : goal.loop-index-preserved
 loop-index-preserved c =

@@ -1,11 +1,9 @@
 use Rattle.std.proofs.Common.{◌≡◌, ◌∙◌, ◌⊎◌, ap, cond, subst, sym}
 use Rattle.wax_match.specs.Numbered.{MeansNumbered}
 use Rattle.wax_token.specs.Words.{members}
-use Rattle.wax_exclude.proofs.ListLengths.{alternative_counted}
-use Rattle.wax_exclude.proofs.NumberedLines.{alternative_added}
-use Rattle.wax_exclude.specs.Covers.{ends_wild}
-use Rattle.wax_exclude.specs.inner.Numbers.{MatchesBy}
+use Rattle.wax_exclude.proofs.{ListLengths.alternative_counted, NumberedLines.alternative_added}
 use Rattle.wax_exclude.proofs.numbers.add_alternatives.Goals.{then-ends_wild, else-ends_wild}
+use Rattle.wax_exclude.specs.{Covers.ends_wild, inner.Numbers.MatchesBy}
 use Rattle.wax_exclude.proofs.numbers.add_alternatives.Goals as goal
 
 pub loop-pattern-preserved : goal.loop-pattern-preserved

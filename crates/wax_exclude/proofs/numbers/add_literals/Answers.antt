@@ -1,5 +1,4 @@
-use Rattle.std.proofs.Common.{List, arith, false, subst, ℕ}
-use Rattle.std.proofs.lemmas.List.{take_all}
+use Rattle.std.proofs.{Common.{List, arith, false, subst, ℕ}, lemmas.List.take_all}
 use Rattle.wax_prefilter.specs.Literals.{MayPass}
 use Rattle.wax_token.specs.Meaning.{Means}
 use Rattle.wax_exclude.proofs.PassingLines.{alternative_passes}

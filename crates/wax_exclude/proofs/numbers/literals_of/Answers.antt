@@ -1,5 +1,4 @@
-use Rattle.std.proofs.Common.{arith, subst}
-use Rattle.std.proofs.lemmas.List.{take_all}
+use Rattle.std.proofs.{Common.{arith, subst}, lemmas.List.take_all}
 use Rattle.wax_exclude.proofs.PassingLines.{line_passes}
 use Rattle.wax_exclude.specs.inner.Numbers.{AlternativesPass, LinesPass}
 use Rattle.wax_exclude.proofs.numbers.literals_of.Goals as goal

@@ -1,13 +1,12 @@
 use Rattle.std.proofs.Common.{◌+◌, take, MatchOption, subst, sym}
-use Rattle.wax_token.specs.Syntax.{alternation}
-use Rattle.wax_token.specs.Words.{trees}
+use Rattle.wax_token.specs.{Syntax.alternation, Words.trees}
 use Rattle.wax_tree.specs.Prefix.{from_last}
 use Rattle.wax_exclude.specs.inner.Shared.{NarrowsTo}
 use Rattle.wax_exclude.proofs.SharedPrefixes.{HasOwnNames, IsPassedOver, SharesUntil, ended_common}
 use Rattle.wax_exclude.proofs.SharedPrefixes.{ended_meant, narrowed_on, none_begin, own_names, passed_on}
 use Rattle.wax_exclude.proofs.SharedPrefixes.{refused_on}
-use Rattle.wax_exclude.proofs.prefixes.common_prefix_of.Goals as goal
 use Rattle.wax_exclude.proofs.prefixes.common_prefix_of.Goals.{in-Some+in_ok-narrower+in-Some-2, in_default}
+use Rattle.wax_exclude.proofs.prefixes.common_prefix_of.Goals as goal
 
 pub returns-in-None-clause-common : goal.returns-in-None-clause-common
 returns-in-None-clause-common c =

@@ -1,5 +1,4 @@
-use Rattle.std.proofs.Common.{◌≡◌, ◌∙◌, ◌∷◌, refl, subst, sym, true}
-use Rattle.std.proofs.lemmas.Bool.{false≢true}
+use Rattle.std.proofs.{Common.{◌≡◌, ◌∙◌, ◌∷◌, refl, subst, sym, true}, lemmas.Bool.false≢true}
 use Rattle.wax_directory.specs.Names.{is_rooted}
 use Rattle.wax_exclude.specs.Prefix.{HasEmptyName}
 use Rattle.wax_exclude.proofs.SplitPrefixes.{empty_later, pair_here, pair_past}

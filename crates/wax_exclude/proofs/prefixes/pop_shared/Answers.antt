@@ -1,6 +1,5 @@
 use Rattle.std.proofs.Common.{◌≡◌, ◌∙◌, ◌∷◌, ap, length, rules, string_bytes, subst, sym}
-use Rattle.std.proofs.lemmas.Bool.{false≢true}
-use Rattle.std.proofs.lemmas.Slice.Eq.{bytes_eq-Decides}
+use Rattle.std.proofs.{lemmas.Bool.false≢true, lemmas.Slice.Eq.bytes_eq-Decides}
 use Rattle.wax_tree.specs.Prefix.{from_last}
 use Rattle.wax_tree.proofs.Showing.{from_last_end}
 use Rattle.wax_exclude.specs.inner.Shared.{ShareNothing}

@@ -1,8 +1,7 @@
 use Rattle.std.proofs.Common.{◌∙◌, ap, map, string_bytes, subst, sym}
 use Rattle.wax_tree.specs.Prefix.{from_last}
 use Rattle.wax_exclude.specs.inner.Shared.{IsCommonBeginning}
-use Rattle.wax_exclude.proofs.SharedPrefixes.{common_after}
-use Rattle.wax_exclude.proofs.SplitPrefixes.{reversed_last}
+use Rattle.wax_exclude.proofs.{SharedPrefixes.common_after, SplitPrefixes.reversed_last}
 use Rattle.wax_exclude.proofs.prefixes.shared_names.Goals as goal
 
 pub returns : goal.returns

@@ -1,5 +1,4 @@
-use Rattle.std.proofs.Common.{◌∙◌, ap, subst, sym}
-use Rattle.std.proofs.lemmas.Bool.{false≢true}
+use Rattle.std.proofs.{Common.{◌∙◌, ap, subst, sym}, lemmas.Bool.false≢true}
 use Rattle.wax_directory.specs.Names.{is_rooted}
 use Rattle.wax_tree.specs.Prefix.{from_last}
 use Rattle.wax_exclude.specs.Prefix.{HasEmptyName, SplitsInto}

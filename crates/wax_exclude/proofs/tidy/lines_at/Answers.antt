@@ -1,6 +1,5 @@
 use Rattle.std.proofs.Common.{◌≡◌, ◌∙◌, ◌+◌, ◌++◌, ◌∷◌, [], ℕ, List, Some, ap, filter_map, get_or, length}
-use Rattle.std.proofs.Common.{slice_get, subst, sym, take, take_all}
-use Rattle.std.proofs.lemmas.Bool.{ltb-false}
+use Rattle.std.proofs.{Common.{slice_get, subst, sym, take, take_all}, lemmas.Bool.ltb-false}
 use Rattle.std.proofs.lemmas.Option.{slice_get-get_or, slice_get_past}
 use Rattle.wax_exclude.proofs.Dropped.{found_more, none_more}
 use Rattle.wax_exclude.proofs.tidy.lines_at.Goals.{in-Some+in_ok-to_owned+in_ok-push, in_default}

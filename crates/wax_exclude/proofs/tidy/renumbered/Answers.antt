@@ -1,5 +1,4 @@
-use Rattle.std.proofs.Common.{◌<◌, ◌+◌, get_or, length, subst, sym, take}
-use Rattle.std.proofs.lemmas.List.Elements.{all_zip_more}
+use Rattle.std.proofs.{Common.{◌<◌, ◌+◌, get_or, length, subst, sym, take}, lemmas.List.Elements.all_zip_more}
 use Rattle.std.proofs.lemmas.Option.{slice_get-get_or}
 use Rattle.std.specs.List.{AllZip}
 use Rattle.wax_exclude.specs.inner.Tidy.{IsRenumbered}

@@ -1,8 +1,7 @@
 use Rattle.std.proofs.Common.{◌≡◌, ◌∙◌, ◌+◌, ℕ, List, subst, sym, take}
 use Rattle.wax_exclude.proofs.TidyUp.{one_goes, one_stays}
 use Rattle.wax_exclude.proofs.tidy.staying.Goals.{else-not-has_index, then-not-has_index+in_ok-push}
-use Rattle.wax_exclude.specs.Idle.{without}
-use Rattle.wax_exclude.specs.Tidy.{indexes_of}
+use Rattle.wax_exclude.specs.{Idle.without, Tidy.indexes_of}
 use Rattle.wax_exclude.proofs.tidy.staying.Goals as goal
 
 pub loop-place-preserved : goal.loop-place-preserved

@@ -1,6 +1,5 @@
 use Rattle.std.proofs.Common.{◌≡◌, take}
-use Rattle.wax_exclude.specs.Idle.{without}
-use Rattle.wax_exclude.specs.Tidy.{indexes_of}
+use Rattle.wax_exclude.specs.{Idle.without, Tidy.indexes_of}
 use Rattle.wax_exclude.proofs.tidy.staying.Given as goal
 
 abbrev pub invariant-loop-place : goal.invariant-loop-place

@@ -1,13 +1,10 @@
 use Rattle.std.proofs.Common.{◌≡◌, ◌∙◌, ◌<◌, [], All, ap, arith, eqb-true, filter_map, length, slice_get}
-use Rattle.std.proofs.Common.{subst, sym}
-use Rattle.std.proofs.lemmas.Bool.{eqb-false}
-use Rattle.std.proofs.lemmas.List.{nil_from_length}
+use Rattle.std.proofs.{Common.{subst, sym}, lemmas.Bool.eqb-false, lemmas.List.nil_from_length}
 use Rattle.std.specs.List.{AllZip}
 use Rattle.wax_exclude.proofs.TidyUp.{IsLeft, all_left, all_within, fewer, fewer_left, tidied_up}
 use Rattle.wax_exclude.proofs.tidy.tidied.Goals.{In_ok-found, In_ok-idle, In_ok-indexes-2}
 use Rattle.wax_exclude.proofs.Undecided.{each_undecided}
-use Rattle.wax_exclude.specs.Idle.{AreIdle, without}
-use Rattle.wax_exclude.specs.Tidy.{TidiesUp, indexes_of}
+use Rattle.wax_exclude.specs.{Idle.{AreIdle, without}, Tidy.{TidiesUp, indexes_of}}
 use Rattle.wax_exclude.specs.Undecided.{AreUndecided, IsUndecided}
 use Rattle.wax_exclude.specs.inner.Tidy.{IsRenumbered, unknown_indexes}
 use Rattle.wax_exclude.proofs.tidy.tidied.Goals as goal

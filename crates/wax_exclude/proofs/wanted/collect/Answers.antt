@@ -1,11 +1,8 @@
 use Rattle.std.proofs.Common.{subst, sym}
 use Rattle.wax_walk.proofs.Collecting.{map_ok}
-use Rattle.wax_exclude.proofs.Feeding.{feeds_ruled}
-use Rattle.wax_exclude.proofs.Shown.{well_named}
-use Rattle.wax_exclude.proofs.Telling.{keeps_answered, leaves_answered}
-use Rattle.wax_exclude.specs.GlobRequests.{KeepsWanted, walk_for}
-use Rattle.wax_exclude.specs.Told.{KeepsAnswered, LeavesAnswered}
-use Rattle.wax_exclude.proofs.Wanting.{all_gave, keeps_wanted}
+use Rattle.wax_exclude.proofs.{Feeding.feeds_ruled, Shown.well_named}
+use Rattle.wax_exclude.proofs.{Telling.{keeps_answered, leaves_answered}, Wanting.{all_gave, keeps_wanted}}
+use Rattle.wax_exclude.specs.{GlobRequests.{KeepsWanted, walk_for}, Told.{KeepsAnswered, LeavesAnswered}}
 use Rattle.wax_exclude.proofs.wanted.collect.Goals as goal
 
 pub returns-clause-wanted : goal.returns-clause-wanted

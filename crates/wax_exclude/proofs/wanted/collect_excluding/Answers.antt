@@ -1,11 +1,8 @@
 use Rattle.std.proofs.Common.{map, subst}
-use Rattle.std.specs.Prelude.{◌≤◌, length}
-use Rattle.std.specs.Iterator.{size}
-use Rattle.wax_walk.proofs.Collecting.{map_ok}
-use Rattle.wax_walk.proofs.Knowing.{all_before}
+use Rattle.std.specs.{Prelude.{◌≤◌, length}, Iterator.size}
+use Rattle.wax_walk.proofs.{Collecting.map_ok, Knowing.all_before}
 use Rattle.wax_exclude.specs.GlobRequests.{request_excluding}
-use Rattle.wax_exclude.proofs.Telling.{answered_before}
-use Rattle.wax_exclude.proofs.Wanting.{filters_come, took_less}
+use Rattle.wax_exclude.proofs.{Telling.answered_before, Wanting.{filters_come, took_less}}
 use Rattle.wax_exclude.proofs.wanted.collect_excluding.Goals as goal
 
 pub returns-clause-took : goal.returns-clause-took

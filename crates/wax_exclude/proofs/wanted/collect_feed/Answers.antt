@@ -1,7 +1,5 @@
 use Rattle.wax_walk.proofs.Collecting.{map_ok}
-use Rattle.wax_exclude.proofs.Feeding.{feeds_ruled}
-use Rattle.wax_exclude.proofs.Telling.{feeds_answered}
-use Rattle.wax_exclude.proofs.Wanting.{all_gave}
+use Rattle.wax_exclude.proofs.{Feeding.feeds_ruled, Telling.feeds_answered, Wanting.all_gave}
 use Rattle.wax_exclude.specs.GlobRequests.{walk_for}
 use Rattle.wax_exclude.proofs.wanted.collect_feed.Goals as goal
 

@@ -1,8 +1,7 @@
 use Rattle.std.proofs.Common.{◌≡◌, ◌∷◌, ◌++◌, [], List, length, arith, rules, ap, ◌∙◌, sym}
 use Rattle.std.proofs.lemmas.List.{length_push}
 use Rattle.std.specs.Vec.Iter.{into_iter_items}
-use Rattle.wax_token.specs.Syntax.{Tree, trees_size}
-use Rattle.wax_token.specs.Words.{trees}
+use Rattle.wax_token.specs.{Syntax.{Tree, trees_size}, Words.trees}
 use Rattle.wax_facts.specs.Alternatives.{levels, levels_each}
 use Rattle.wax_facts.proofs.Levels.{branches_below, one_found, size_append, size_taken}
 use Rattle.wax_facts.proofs.alternatives.next_level.Goals as goal

@@ -1,7 +1,6 @@
 use Rattle.std.proofs.Common.{◌≡◌, ◌+◌, ◌≤◌, ◌++◌, length}
 use Rattle.std.specs.Vec.Iter.{into_iter_items, into_iter_len}
-use Rattle.wax_token.specs.Syntax.{trees_size}
-use Rattle.wax_token.specs.Words.{trees}
+use Rattle.wax_token.specs.{Syntax.trees_size, Words.trees}
 use Rattle.wax_facts.specs.Alternatives.{joined, levels_each}
 use Rattle.wax_facts.proofs.Levels.{still}
 use Rattle.wax_facts.proofs.alternatives.next_level.Given as goal

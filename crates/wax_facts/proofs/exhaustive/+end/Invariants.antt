@@ -1,6 +1,5 @@
 use Rattle.std.proofs.Common.{◌≡◌, ◌<◌, drop, length}
-use Rattle.wax_token.specs.Syntax.{tree_size, trees_size}
-use Rattle.wax_token.specs.Words.{trees}
+use Rattle.wax_token.specs.{Syntax.{tree_size, trees_size}, Words.trees}
 use Rattle.wax_facts.specs.Exhaustive.{exhaustive_some}
 use Rattle.wax_facts.proofs.exhaustive.+end.Given as goal
 

@@ -1,11 +1,8 @@
 use Rattle.std.proofs.Common.{◌≡◌, ◌∙◌, ◌++◌, [], ℕ, List, ap, sym, subst, rules, arith, IfOk, MatchOption}
 use Rattle.std.proofs.Common.{Some, chars, string_bytes, append_assoc, append-nil}
-use Rattle.std.proofs.lemmas.List.{nil_from_length}
-use Rattle.std.proofs.lemmas.Str.{chars-append, chars-nil, IsUtf8-string_bytes}
+use Rattle.std.proofs.{lemmas.List.nil_from_length, lemmas.Str.{chars-append, chars-nil, IsUtf8-string_bytes}}
 use Rattle.std.specs.List.{repeat}
-use Rattle.wax_token.specs.Syntax.{repetition}
-use Rattle.wax_token.specs.View.{topology_tree}
-use Rattle.wax_token.specs.Words.{trees, annotation_of}
+use Rattle.wax_token.specs.{Syntax.repetition, View.topology_tree, Words.{trees, annotation_of}}
 use Rattle.wax_token.specs.declared.token.Topology.TheVariants.{Branch}
 use Rattle.wax_facts.specs.InvariantText.{Text, TextOfAll, TextOfEach, Variant}
 use Rattle.wax_facts.proofs.TextSteps.{all_at, all_kept, all_same, bytes_same, chars_repeat, each_at}

@@ -1,6 +1,5 @@
 use Rattle.std.proofs.Common.{ℕ, List, ◌++◌, ◌+◌, ◌*◌, take, drop, chars, string_bytes}
-use Rattle.wax_token.specs.Syntax.{tree_size, trees_size}
-use Rattle.wax_token.specs.Words.{trees}
+use Rattle.wax_token.specs.{Syntax.{tree_size, trees_size}, Words.trees}
 use Rattle.wax_facts.specs.InvariantText.{TextOfAll, TextOfEach}
 use Rattle.wax_facts.proofs.invariant.+find_text.Given as goal
 

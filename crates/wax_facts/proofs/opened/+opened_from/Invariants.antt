@@ -1,5 +1,4 @@
-use Rattle.wax_token.specs.Syntax.{trees_size}
-use Rattle.wax_token.specs.Words.{trees}
+use Rattle.wax_token.specs.{Syntax.trees_size, Words.trees}
 use Rattle.wax_facts.proofs.opened.+opened_from.Given as goal
 
 abbrev pub decreases-opened_from : goal.decreases-opened_from

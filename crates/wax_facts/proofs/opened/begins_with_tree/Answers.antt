@@ -1,7 +1,6 @@
 use Rattle.std.proofs.Common.{◌≡◌, ◌∙◌, ap, Some, slice_get, rules}
 use Rattle.wax_token.specs.Words.{trees}
-use Rattle.wax_facts.specs.Prefix.{opened, opened_last}
-use Rattle.wax_facts.specs.Rest.{begins_with_tree}
+use Rattle.wax_facts.specs.{Prefix.{opened, opened_last}, Rest.begins_with_tree}
 use Rattle.wax_facts.proofs.Openings.{first_tree, opened_members}
 use Rattle.wax_facts.proofs.opened.begins_with_tree.Goals as goal
 

@@ -1,13 +1,12 @@
 use Rattle.std.proofs.Common.{◌≡◌, ◌≢◌, refl, sym, subst, rules, length, None}
-use Rattle.wax_token.specs.Syntax.{alternation, concatenation, repetition}
-use Rattle.wax_token.specs.Words.{trees, annotation_of}
+use Rattle.wax_token.specs.{Syntax.{alternation, concatenation, repetition}, Words.{trees, annotation_of}}
 use Rattle.wax_facts.specs.inner.Bodies.{open_body}
 use Rattle.wax_facts.proofs.Openings.{closed_branches, closed_copies}
-use Rattle.wax_facts.proofs.opened.open_body.Goals as goal
 use Rattle.wax_facts.proofs.opened.open_body.Goals.{in_default-via-in-Alternation+else-len-eq1}
 use Rattle.wax_facts.proofs.opened.open_body.Goals.{in_default-via-in-Repetition+then-r-eq1+else-eq}
 use Rattle.wax_facts.proofs.opened.open_body.Goals.{in_default-via-in-Repetition+else-r-eq1}
 use Rattle.wax_facts.proofs.opened.open_body.Goals.{in_default-via-in_default}
+use Rattle.wax_facts.proofs.opened.open_body.Goals as goal
 
 pub returns-in_default : goal.returns-in_default
 returns-in_default g c =

@@ -1,5 +1,4 @@
-use Rattle.wax_facts.proofs.BuiltOrderly.{built_orderly}
-use Rattle.wax_facts.proofs.ReadsFull.{reads_full}
+use Rattle.wax_facts.proofs.{BuiltOrderly.built_orderly, ReadsFull.reads_full}
 use Rattle.wax_facts.proofs.parts.built_is_orderly.Goals as goal
 
 pub returns-clause-read : goal.returns-clause-read

@@ -1,20 +1,14 @@
 use Rattle.std.proofs.Common.{◌≡◌, ◌∙◌, ◌+◌, ◌++◌, [], ℕ, List, ap, sym, subst, refl, true, false, rules}
-use Rattle.std.proofs.Common.{chars, string_bytes, Some}
-use Rattle.std.proofs.lemmas.List.{nil_from_length}
+use Rattle.std.proofs.{Common.{chars, string_bytes, Some}, lemmas.List.nil_from_length}
 use Rattle.std.proofs.lemmas.Str.{IsUtf8-string_bytes}
-use Rattle.wax_token.specs.Syntax.{more}
-use Rattle.wax_token.specs.Words.{trees}
-use Rattle.wax_facts.specs.InvariantText.{Text}
-use Rattle.wax_token.specs.Kinds.{is_tree_wildcard}
-use Rattle.wax_facts.specs.Prefix.{Cut, CutBefore, opened_last}
-use Rattle.wax_token.specs.Kinds.{is_separator}
+use Rattle.wax_token.specs.{Syntax.more, Words.trees, Kinds.{is_tree_wildcard, is_separator}}
+use Rattle.wax_facts.specs.{InvariantText.Text, Prefix.{Cut, CutBefore, opened_last}}
 use Rattle.wax_facts.proofs.CutSteps.{Taken, cut_at_end, cut_at_tree, same_taken, taken_all, taken_back}
-use Rattle.wax_facts.proofs.CutSteps.{taken_none, taken_plain, taken_slash}
-use Rattle.wax_facts.proofs.Openings.{left_cons}
+use Rattle.wax_facts.proofs.{CutSteps.{taken_none, taken_plain, taken_slash}, Openings.left_cons}
 use Rattle.wax_facts.proofs.TextSteps.{chars_none, chars_pushed, found_is, none_is}
-use Rattle.wax_facts.proofs.prefix.cut_prefix.Goals as goal
 use Rattle.wax_facts.proofs.prefix.cut_prefix.Goals.{then-is_separator+in_ok-push_str-2, else-is_separator}
 use Rattle.wax_facts.proofs.prefix.cut_prefix.Goals.{in-Some+then-is_tree_wildcard, in_default}
+use Rattle.wax_facts.proofs.prefix.cut_prefix.Goals as goal
 
 pub loop-first-init : goal.loop-first-init
 loop-first-init g c =

@@ -1,8 +1,6 @@
 use Rattle.std.proofs.Common.{chars, string_bytes}
-use Rattle.wax_token.specs.Syntax.{trees_size}
-use Rattle.wax_token.specs.Words.{trees}
-use Rattle.wax_facts.specs.Prefix.{opened_last}
-use Rattle.wax_facts.specs.inner.Opening.{IsOpened}
+use Rattle.wax_token.specs.{Syntax.trees_size, Words.trees}
+use Rattle.wax_facts.specs.{Prefix.opened_last, inner.Opening.IsOpened}
 use Rattle.wax_facts.proofs.CutSteps.{Taken}
 use Rattle.wax_facts.proofs.prefix.cut_prefix.Given as goal
 

@@ -2,9 +2,7 @@ use Rattle.std.proofs.Common.{◌≡◌, ◌∙◌, ap, sym, subst, refl, inl, i
 use Rattle.std.proofs.lemmas.Result.{IfOk-weaker}
 use Rattle.wax_token.specs.Words.{trees}
 use Rattle.wax_facts.specs.Prefix.{IsRooted, PrefixOf, opened, opened_last}
-use Rattle.wax_facts.proofs.Openings.{opened_members}
-use Rattle.wax_facts.proofs.PrefixSound.{prefix_sound}
-use Rattle.wax_facts.proofs.PrefixUnique.{prefix_unique}
+use Rattle.wax_facts.proofs.{Openings.opened_members, PrefixSound.prefix_sound, PrefixUnique.prefix_unique}
 use Rattle.wax_facts.proofs.TextSteps.{chars_slash}
 use Rattle.wax_facts.proofs.prefix.invariant_text_prefix.Goals as goal
 

@@ -2,8 +2,7 @@ use Rattle.std.proofs.Common.{◌≡◌, ◌∙◌, sym, rules, length, drop, mi
 use Rattle.std.proofs.lemmas.Result.{IfOk-weaker}
 use Rattle.wax_token.specs.Words.{annotation_of, trees}
 use Rattle.wax_facts.specs.inner.Bodies.{IsInside, inside, last_body}
-use Rattle.wax_facts.proofs.Insides.{inside_body}
-use Rattle.wax_facts.proofs.RestSteps.{rest_entered, rest_stays}
+use Rattle.wax_facts.proofs.{Insides.inside_body, RestSteps.{rest_entered, rest_stays}}
 use Rattle.wax_facts.proofs.rest.+rest_of.Goals as goal
 
 pub returns-in-Some-into_last_body-clause-rest : goal.returns-in-Some-into_last_body-clause-rest

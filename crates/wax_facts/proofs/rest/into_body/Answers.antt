@@ -1,7 +1,5 @@
 use Rattle.std.proofs.Common.{◌≡◌, ◌∙◌, ap, sym}
-use Rattle.wax_token.specs.Syntax.{alternation, repetition}
-use Rattle.wax_token.specs.View.{topology_tree}
-use Rattle.wax_token.specs.Words.{trees}
+use Rattle.wax_token.specs.{Syntax.{alternation, repetition}, View.topology_tree, Words.trees}
 use Rattle.wax_token.specs.declared.token.Topology.TheVariants.{Branch}
 use Rattle.wax_facts.specs.inner.Bodies.{open_body}
 use Rattle.wax_facts.proofs.rest.into_body.Goals as goal

@@ -1,8 +1,7 @@
 use Rattle.std.proofs.Common.{◌≡◌, ◌∙◌, ◌-◌, ◌<◌, ◌≤◌, ◌||◌, nat_lt, length, ap, sym, subst, true, false}
 use Rattle.std.proofs.Common.{rules, Some, None, MatchOption}
 use Rattle.wax_token.specs.Words.{trees}
-use Rattle.wax_facts.specs.Prefix.{opened}
-use Rattle.wax_facts.specs.Rest.{begins_with_tree}
+use Rattle.wax_facts.specs.{Prefix.opened, Rest.begins_with_tree}
 use Rattle.wax_facts.specs.inner.Bodies.{IsInside, entered_body, inside, open_body}
 use Rattle.wax_facts.proofs.Insides.{entered_no, entered_yes, inside_before, inside_last}
 use Rattle.wax_facts.proofs.rest.taken_inside.Goals as goal

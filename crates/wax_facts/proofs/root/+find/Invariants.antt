@@ -1,6 +1,5 @@
 use Rattle.std.proofs.Common.{◌≡◌, ◌<◌, drop, length}
-use Rattle.wax_token.specs.Syntax.{tree_size, trees_size}
-use Rattle.wax_token.specs.Words.{trees}
+use Rattle.wax_token.specs.{Syntax.{tree_size, trees_size}, Words.trees}
 use Rattle.wax_facts.specs.Root.{root_some}
 use Rattle.wax_facts.proofs.root.+find.Given as goal
 

@@ -1,8 +1,4 @@
-use Rattle.std.proofs.Common.{◌≡◌, arith, map}
-use Rattle.std.proofs.lemmas.Grind.{common_steps}
-use Rattle.wax_token.specs.Syntax.{alternation}
-use Rattle.wax_token.specs.Words.{trees}
-use Rattle.wax_fold.specs.Bare.{bare}
+use Rattle.std.proofs.{Common.arith, lemmas.Grind.common_steps}
 use Rattle.wax_fold.proofs.Bares.{means_combined}
 use Rattle.wax_fold.proofs.combined.any.Goals as goal
 

@@ -1,13 +1,9 @@
 use Rattle.std.proofs.Common.{◌↔◌, ◌∙◌, IsTrue, arith, chars, length, subst, sym, rules}
 use Rattle.std.proofs.lemmas.Str.{scalars-chars}
-use Rattle.wax_lazy.proofs.Ahead.{last_below}
-use Rattle.wax_lazy.proofs.Costs.{matched_within, name_shorter}
-use Rattle.wax_lazy.proofs.Walking.{decides_by}
+use Rattle.wax_lazy.proofs.{Ahead.last_below, Costs.{matched_within, name_shorter}, Walking.decides_by}
 use Rattle.wax_lazy.specs.inner.Cached.{IsAheadVerdict, LeadsText}
-use Rattle.wax_program.proofs.LastNames.{name_decides}
-use Rattle.wax_program.proofs.Opens.{ahead_below}
-use Rattle.wax_program.specs.declared.onward.Ahead.TheVariants.{Path}
-use Rattle.wax_program.specs.Machine.{Accepts}
+use Rattle.wax_program.proofs.{LastNames.name_decides, Opens.ahead_below}
+use Rattle.wax_program.specs.{declared.onward.Ahead.TheVariants.Path, Machine.Accepts}
 use Rattle.wax_lazy.proofs.dfa.judge.Goals as goal
 
 pub returns-then-reads_last-clause-decides : goal.returns-then-reads_last-clause-decides

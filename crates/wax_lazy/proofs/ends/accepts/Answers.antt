@@ -1,7 +1,6 @@
 use Rattle.std.proofs.Common.{chars}
 use Rattle.wax_states.specs.States.{places_at}
-use Rattle.wax_lazy.proofs.Ahead.{matches_all, matches_at, matches_none}
-use Rattle.wax_lazy.proofs.Walking.{decides_by}
+use Rattle.wax_lazy.proofs.{Ahead.{matches_all, matches_at, matches_none}, Walking.decides_by}
 use Rattle.wax_lazy.proofs.ends.accepts.Goals as goal
 
 pub returns-in-To-clause-decides : goal.returns-in-To-clause-decides

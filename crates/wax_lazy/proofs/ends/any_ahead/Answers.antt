@@ -1,8 +1,6 @@
 use Rattle.std.proofs.Common.{◌≡◌, ◌<◌, ℕ, List, length, get_or, inl, inr, sym, ◌∙◌, subst, true≢false, arith}
-use Rattle.std.proofs.lemmas.Bool.{cases_eq}
-use Rattle.std.proofs.lemmas.List.{get_or_default}
-use Rattle.wax_program.specs.Places.{HoldsPlace}
-use Rattle.wax_program.specs.Onward.{flags_for}
+use Rattle.std.proofs.{lemmas.Bool.cases_eq, lemmas.List.get_or_default}
+use Rattle.wax_program.specs.{Places.HoldsPlace, Onward.flags_for}
 use Rattle.wax_lazy.proofs.ends.any_ahead.Goals as goal
 
 pub loop-place-preserved : goal.loop-place-preserved

@@ -1,6 +1,5 @@
 use Rattle.std.proofs.Common.{◌≡◌, ◌<◌, ℕ, get_or}
-use Rattle.wax_program.specs.Places.{HoldsPlace}
-use Rattle.wax_program.specs.Onward.{flags_for}
+use Rattle.wax_program.specs.{Places.HoldsPlace, Onward.flags_for}
 use Rattle.wax_lazy.proofs.ends.any_ahead.Given as goal
 
 abbrev pub invariant-loop-place : goal.invariant-loop-place

@@ -1,6 +1,5 @@
 use Rattle.std.proofs.Common.{refl}
-use Rattle.wax_lazy.proofs.Ahead.{has_name, has_rest}
-use Rattle.wax_lazy.proofs.Walking.{decides_by}
+use Rattle.wax_lazy.proofs.{Ahead.{has_name, has_rest}, Walking.decides_by}
 use Rattle.wax_lazy.proofs.ends.has_text.Goals as goal
 
 pub returns-in-Rest : goal.returns-in-Rest

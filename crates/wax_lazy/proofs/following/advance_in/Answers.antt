@@ -1,9 +1,7 @@
 use Rattle.std.proofs.Common.{◌+◌, ℕ, List, arith, drop, get_or, length}
 use Rattle.wax_states.specs.States.{places_at}
 use Rattle.wax_lazy.specs.Cost.{char_visits}
-use Rattle.wax_lazy.proofs.Costs.{spent_all, spent_one}
-use Rattle.wax_lazy.proofs.Chains.{next_decides}
-use Rattle.wax_lazy.proofs.Walking.{next_of}
+use Rattle.wax_lazy.proofs.{Costs.{spent_all, spent_one}, Chains.next_decides, Walking.next_of}
 use Rattle.wax_lazy.proofs.following.advance_in.Goals as goal
 
 pub returns-in-Some-clause-decides : goal.returns-in-Some-clause-decides

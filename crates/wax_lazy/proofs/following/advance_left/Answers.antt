@@ -1,11 +1,7 @@
-use Rattle.std.proofs.Common.{◌≡◌, ◌≤◌, ℕ, ◌+◌, List, ◌++◌, drop}
-use Rattle.std.proofs.Common.{encode_utf8, length, sym, ◌∙◌, ap, subst, arith}
-use Rattle.std.proofs.lemmas.Str.{IsUtf8-past_char, chars_past_char, drop_past_char}
-use Rattle.std.specs.Char.{len_utf8}
-use Rattle.std.specs.Str.{IsUtf8, chars}
-use Rattle.std.specs.Str.Iter.{chars_rest}
-use Rattle.wax_lazy.specs.inner.Cached.{DecidesLeft}
-use Rattle.wax_lazy.specs.Cost.{char_visits}
+use Rattle.std.proofs.Common.{◌≡◌, ◌≤◌, ℕ, ◌+◌, List, ◌++◌, drop, encode_utf8, length, sym, ◌∙◌, ap, subst}
+use Rattle.std.proofs.{Common.arith, lemmas.Str.{IsUtf8-past_char, chars_past_char, drop_past_char}}
+use Rattle.std.specs.{Char.len_utf8, Str.{IsUtf8, chars}, Str.Iter.chars_rest}
+use Rattle.wax_lazy.specs.{inner.Cached.DecidesLeft, Cost.char_visits}
 use Rattle.wax_lazy.proofs.Costs.{chars_left, fill_char, spent_next, spent_none, spent_some}
 use Rattle.wax_lazy.proofs.Chains.{next_decides}
 use Rattle.wax_states.specs.States.{places_at}

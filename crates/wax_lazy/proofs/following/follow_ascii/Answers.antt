@@ -1,8 +1,7 @@
 use Rattle.std.proofs.Common.{◌≡◌, ◌∙◌, ◌++◌, ◌≤◌, ◌+◌, ◌*◌, [], List, ℕ, drop, length, arith}
 use Rattle.std.proofs.lemmas.List.{drop_all}
 use Rattle.wax_lazy.specs.Cost.{char_visits}
-use Rattle.wax_lazy.proofs.Costs.{spent_all, spent_on}
-use Rattle.wax_lazy.proofs.Walking.{leads_end, leads_on, leads_past}
+use Rattle.wax_lazy.proofs.{Costs.{spent_all, spent_on}, Walking.{leads_end, leads_on, leads_past}}
 use Rattle.wax_program.specs.Machine.{Accepts}
 use Rattle.wax_lazy.proofs.following.follow_ascii.Goals as goal
 

@@ -1,9 +1,7 @@
 use Rattle.std.proofs.Common.{◌≡◌, ◌↔◌, ◌++◌, ℕ, List, ◌-◌, ◌+◌, ◌*◌, ◌≤◌, drop, length}
-use Rattle.wax_lazy.specs.Cost.{char_visits}
-use Rattle.wax_lazy.specs.inner.Cached.{IsCacheOf}
+use Rattle.wax_lazy.specs.{Cost.char_visits, inner.Cached.IsCacheOf}
 use Rattle.wax_states.specs.States.{HasState, places_at}
-use Rattle.wax_program.specs.Machine.{Accepts}
-use Rattle.wax_program.specs.Threads.{AnyAmong}
+use Rattle.wax_program.specs.{Machine.Accepts, Threads.AnyAmong}
 use Rattle.wax_lazy.proofs.following.follow_ascii.Given as goal
 
 abbrev pub invariant-loop-index : goal.invariant-loop-index

@@ -1,10 +1,8 @@
 use Rattle.std.proofs.Common.{◌≡◌, ◌∙◌, ◌++◌, ◌+◌, ◌*◌, ◌≤◌, [], List, ℕ, ap, arith, drop, length, rules, sym}
-use Rattle.std.proofs.lemmas.List.{nil_from_length}
-use Rattle.std.proofs.lemmas.Str.{IsCharBoundary-from_drop, chars-nil}
+use Rattle.std.proofs.{lemmas.List.nil_from_length, lemmas.Str.{IsCharBoundary-from_drop, chars-nil}}
 use Rattle.std.specs.Str.{chars}
 use Rattle.wax_lazy.specs.Cost.{char_visits}
-use Rattle.wax_lazy.proofs.Costs.{spent_rest}
-use Rattle.wax_lazy.proofs.Walking.{leads_end, leads_on, leads_past}
+use Rattle.wax_lazy.proofs.{Costs.spent_rest, Walking.{leads_end, leads_on, leads_past}}
 use Rattle.wax_program.specs.Machine.{Accepts}
 use Rattle.wax_lazy.proofs.following.follow_chars.Goals as goal
 

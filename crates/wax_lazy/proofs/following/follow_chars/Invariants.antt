@@ -1,10 +1,8 @@
 use Rattle.std.proofs.Common.{◌≡◌, ◌↔◌, ◌++◌, ◌+◌, ◌*◌, ◌≤◌, ℕ, List, IsUtf8, length}
 use Rattle.std.specs.Str.{chars}
-use Rattle.wax_lazy.specs.Cost.{char_visits}
-use Rattle.wax_lazy.specs.inner.Cached.{IsCacheOf}
+use Rattle.wax_lazy.specs.{Cost.char_visits, inner.Cached.IsCacheOf}
 use Rattle.wax_states.specs.States.{HasState, places_at}
-use Rattle.wax_program.specs.Machine.{Accepts}
-use Rattle.wax_program.specs.Threads.{AnyAmong}
+use Rattle.wax_program.specs.{Machine.Accepts, Threads.AnyAmong}
 use Rattle.wax_lazy.proofs.following.follow_chars.Given as goal
 
 abbrev pub invariant-loop-left : goal.invariant-loop-left

@@ -1,7 +1,5 @@
-use Rattle.std.proofs.Common.{◌≡◌, ℕ, ◌+◌, ◌-◌, ◌*◌, ◌<◌, ◌≤◌, List, length, get_or, refl, sym, ◌∙◌}
-use Rattle.std.proofs.Common.{arith}
-use Rattle.std.proofs.lemmas.List.{get_or_read}
-use Rattle.std.proofs.lemmas.Option.{slice_get_read, slice_get_within}
+use Rattle.std.proofs.Common.{◌≡◌, ℕ, ◌+◌, ◌-◌, ◌*◌, ◌<◌, ◌≤◌, List, length, get_or, refl, sym, ◌∙◌, arith}
+use Rattle.std.proofs.{lemmas.List.get_or_read, lemmas.Option.{slice_get_read, slice_get_within}}
 use Rattle.wax_lazy.proofs.RowCells.{IsAlong, along_all, along_dead, along_ends, along_inside, along_step}
 use Rattle.wax_lazy.proofs.RowCells.{along_utf8, begins_at}
 use Rattle.wax_states.specs.States.{places_at}

@@ -1,7 +1,6 @@
 use Rattle.std.proofs.Common.{arith, chars, ◌≤◌, ◌+◌, ◌*◌, IfOk, length, sym, ◌∙◌, subst}
-use Rattle.wax_lazy.specs.Cost.{char_visits}
 use Rattle.std.proofs.lemmas.Str.{chars-IsAscii}
-use Rattle.wax_lazy.specs.inner.Cached.{LeadsText}
+use Rattle.wax_lazy.specs.{Cost.char_visits, inner.Cached.LeadsText}
 use Rattle.wax_lazy.proofs.following.follow_text.Goals as goal
 
 pub returns-then-is_ascii-clause-leads : goal.returns-then-is_ascii-clause-leads

@@ -1,11 +1,9 @@
-use Rattle.std.proofs.Common.{◌↔◌, ◌⊎◌, ℕ, arith, drop, inl, inr, subst, sym, ◌+◌}
-use Rattle.std.proofs.lemmas.List.{drop_all}
-use Rattle.std.specs.List.Sorted.{IsStrictlyIncreasing}
-use Rattle.std.specs.List.{Contains}
+use Rattle.std.proofs.{Common.{◌↔◌, ◌⊎◌, ℕ, arith, drop, inl, inr, subst, sym, ◌+◌}, lemmas.List.drop_all}
+use Rattle.std.specs.{List.Sorted.IsStrictlyIncreasing, List.Contains}
 use Rattle.wax_lazy.proofs.Merging.{AreMerged, merged_all, merged_ascends, merged_none, step_both, step_left}
 use Rattle.wax_lazy.proofs.Merging.{rest_added, step_right}
-use Rattle.wax_lazy.proofs.numbers.merge.Goals as goal
 use Rattle.wax_lazy.proofs.numbers.merge.Goals.{then-loop-i-test+else-j-other, else-loop-i-test}
+use Rattle.wax_lazy.proofs.numbers.merge.Goals as goal
 
 pub loop-i-init : goal.loop-i-init
 loop-i-init c = record {

@@ -1,11 +1,9 @@
 use Rattle.std.proofs.Common.{◌≡◌, ◌+◌, ◌<◌, ◌++◌, ◌∷◌, [], ◌↔◌, ℕ, suc, IsTrue, List, drop, get_or, length}
-use Rattle.std.proofs.Common.{length-drop, take, sym, ◌∙◌, ap, arith, rules}
-use Rattle.std.proofs.Math.Seq.{take-suc}
-use Rattle.wax_lengths.specs.Ends.{MarksBeginnings}
-use Rattle.wax_program.specs.Machine.{Accepts}
-use Rattle.wax_program.specs.Threads.{AnyOf, IsDone}
-use Rattle.wax_program.proofs.Advancing.{round_accepts, round_ends}
+use Rattle.std.proofs.{Common.{length-drop, take, sym, ◌∙◌, ap, arith, rules}, Math.Seq.take-suc}
 use Rattle.std.proofs.lemmas.List.{get_or-drop}
+use Rattle.wax_lengths.specs.Ends.{MarksBeginnings}
+use Rattle.wax_program.specs.{Machine.Accepts, Threads.{AnyOf, IsDone}}
+use Rattle.wax_program.proofs.Advancing.{round_accepts, round_ends}
 use Rattle.wax_lengths.proofs.Lists.{read_within}
 use Rattle.wax_lengths.proofs.Beginnings.{Leads, leads_step, leads_here, marked_push, marked_done}
 use Rattle.wax_lengths.proofs.ends.ends_over.Goals as goal

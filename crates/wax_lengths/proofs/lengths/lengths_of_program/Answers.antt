@@ -1,8 +1,7 @@
 use Rattle.std.proofs.Common.{◌+◌, ◌-◌, ◌*◌, ◌≤◌, ℕ, List, length, length-drop, drop, arith}
 use Rattle.std.proofs.Math.Nat.{le-max_left, mul-le-mul_right}
 use Rattle.wax_program.specs.declared.instruction.Instruction.{Instruction}
-use Rattle.wax_lengths.specs.Ends.{MarksBeginnings}
-use Rattle.wax_lengths.specs.Forms.{program_size}
+use Rattle.wax_lengths.specs.{Ends.MarksBeginnings, Forms.program_size}
 use Rattle.wax_lengths.proofs.FormLengths.{has_within}
 use Rattle.wax_lengths.proofs.lengths.lengths_of_program.Goals as goal
 

@@ -1,7 +1,6 @@
 use Rattle.std.proofs.Common.{◌≡◌, ◌+◌, ◌-◌, ◌||◌, ◌≤◌, ℕ, Bool, true, false, List, length, drop, sym, ◌∙◌}
 use Rattle.std.proofs.Common.{ap, arith, length-drop}
-use Rattle.wax_lengths.specs.Spans.{looks_of}
-use Rattle.wax_lengths.specs.inner.Names.{tree_end, tree_low, tree_marks}
+use Rattle.wax_lengths.specs.{Spans.looks_of, inner.Names.{tree_end, tree_low, tree_marks}}
 use Rattle.wax_lengths.proofs.FormLengths.{tree_lengths}
 use Rattle.wax_lengths.proofs.lengths.lengths_of_tree.Goals as goal
 

@@ -1,9 +1,7 @@
 use Rattle.std.proofs.Common.{◌≡◌, ◌+◌, ◌<◌, ◌∙◌, ℕ, List, drop, get_or, length, length-drop, arith, rules}
-use Rattle.std.proofs.Common.{subst, sym}
-use Rattle.std.proofs.lemmas.List.{get_or-drop}
+use Rattle.std.proofs.{Common.{subst, sym}, lemmas.List.get_or-drop}
 use Rattle.wax_lengths.specs.Forms.{IsLetter}
-use Rattle.wax_lengths.proofs.FormLengths.{spelled_at, spelled_more}
-use Rattle.wax_lengths.proofs.Lists.{read_within}
+use Rattle.wax_lengths.proofs.{FormLengths.{spelled_at, spelled_more}, Lists.read_within}
 use Rattle.wax_lengths.proofs.lengths.spelled_len.Goals as goal
 
 pub loop-index-init : goal.loop-index-init

@@ -1,8 +1,6 @@
-use Rattle.std.proofs.Common.{sym, subst}
-use Rattle.std.proofs.lemmas.Result.{IfOk-weaker, IfErr-weaker}
+use Rattle.std.proofs.{Common.{sym, subst}, lemmas.Result.{IfOk-weaker, IfErr-weaker}}
 use Rattle.wax_lines.specs.Lines.{Stopped, WritesMeant}
-use Rattle.wax_lines.proofs.Runs.{stopped_at_once}
-use Rattle.wax_lines.proofs.Same.{filtered_as, short_as, stopped_as, meant_as}
+use Rattle.wax_lines.proofs.{Runs.stopped_at_once, Same.{filtered_as, short_as, stopped_as, meant_as}}
 use Rattle.wax_lines.proofs.Sifting.{if_err}
 use Rattle.wax_lines.proofs.lines.filter_lines.Goals as goal
 

@@ -1,7 +1,6 @@
 use Rattle.std.proofs.Common.{◌∙◌, sym, ap, subst, Err, arith}
 use Rattle.wax_lines.specs.Lines.{Stopped}
-use Rattle.wax_lines.proofs.Counting.{grew_after, grew_before}
-use Rattle.wax_lines.proofs.Sifting.{if_err, same_err}
+use Rattle.wax_lines.proofs.{Counting.{grew_after, grew_before}, Sifting.{if_err, same_err}}
 use Rattle.wax_lines.proofs.Runs.{stopped_at_once, Ended-writing, Halted-short, Halted-written}
 use Rattle.wax_lines.proofs.Runs.{Finished-written}
 use Rattle.wax_lines.proofs.lines.filter_lines_by.Goals as goal

@@ -1,5 +1,4 @@
-use Rattle.std.proofs.Common.{[], refl, sym, ◌∙◌, take, subst, arith, rules}
-use Rattle.std.proofs.lemmas.List.{length-take}
+use Rattle.std.proofs.{Common.{[], refl, sym, ◌∙◌, take, subst, arith, rules}, lemmas.List.length-take}
 use Rattle.std.specs.Io.KnownBytes.{Consumes, IsAtEnd}
 use Rattle.wax_lines.specs.inner.Progress.{TakesLast, Halted, TakesIn, TakesInPart}
 use Rattle.wax_lines.proofs.Sifting.{if_err}

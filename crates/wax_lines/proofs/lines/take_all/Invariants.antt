@@ -1,6 +1,5 @@
 use Rattle.std.proofs.Common.{◌≡◌, ◌-◌, ◌≤◌, length}
-use Rattle.wax_lines.specs.Counts.{greatest_count}
-use Rattle.wax_lines.specs.inner.Progress.{Came}
+use Rattle.wax_lines.specs.{Counts.greatest_count, inner.Progress.Came}
 use Rattle.wax_lines.proofs.lines.take_all.Given as goal
 
 -- what was read was taken in, what was written had waited, and the writer of lines is seen as before

@@ -2,8 +2,7 @@ use Rattle.std.proofs.Common.{◌≡◌, ◌++◌, [], length, arith, rules, sym
 use Rattle.wax_match.specs.inner.Code.{sequence_code}
 use Rattle.wax_program.specs.Machine.{Accepts}
 use Rattle.wax_token.specs.Words.{trees}
-use Rattle.wax_match.proofs.Compiled.{compiled_sequence}
-use Rattle.wax_match.proofs.Lengths.{length-sequence}
+use Rattle.wax_match.proofs.{Compiled.compiled_sequence, Lengths.length-sequence}
 use Rattle.wax_match.proofs.Whole.{program_sound, program_complete}
 use Rattle.wax_match.proofs.encode.compile.Goals as goal
 

@@ -1,9 +1,7 @@
 use Rattle.std.proofs.Common.{◌≡◌, ◌++◌, [], length, arith, rules, sym, ap, subst, append-nil, ◌∙◌}
 use Rattle.wax_match.specs.inner.Code.{instructions_of}
 use Rattle.wax_program.specs.Machine.{Accepts}
-use Rattle.wax_match.proofs.Compiled.{compiled}
-use Rattle.wax_match.proofs.Lengths.{length-tree}
-use Rattle.wax_match.proofs.Whole.{program_sound, program_complete}
+use Rattle.wax_match.proofs.{Compiled.compiled, Lengths.length-tree, Whole.{program_sound, program_complete}}
 use Rattle.wax_match.proofs.encode.compile_token.Goals as goal
 
 pub new-requires : goal.new-requires

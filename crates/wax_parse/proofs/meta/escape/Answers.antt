@@ -1,7 +1,5 @@
 use Rattle.std.proofs.Common.{true≢false, ◌≡◌, ◌∙◌, false, sym, chars, string_bytes}
-use Rattle.wax_parse.proofs.Escaped.{escaped, nothing_escaped}
-use Rattle.wax_parse.proofs.Meant.{means_only}
-use Rattle.wax_parse.proofs.EscapedTrees.{spells}
+use Rattle.wax_parse.proofs.{Escaped.{escaped, nothing_escaped}, Meant.means_only, EscapedTrees.spells}
 use Rattle.wax_parse.proofs.meta.escape.Goals as goal
 
 pub returns : goal.returns

@@ -1,8 +1,6 @@
 use Rattle.std.proofs.Common.{◌≡◌, ◌∙◌, ◌||◌, ◌∷◌, Bool, List, ℕ, [], ap, sym, chars, true, false}
-use Rattle.std.proofs.lemmas.List.{nil_from_length}
-use Rattle.std.proofs.lemmas.Str.{IsUtf8-past_char, chars-nil, chars_past_char}
-use Rattle.std.specs.List.{list_any}
-use Rattle.std.specs.Str.Iter.{chars_rest}
+use Rattle.std.proofs.{lemmas.List.nil_from_length, lemmas.Str.{IsUtf8-past_char, chars-nil, chars_past_char}}
+use Rattle.std.specs.{List.list_any, Str.Iter.chars_rest}
 use Rattle.wax_token.specs.Reads.{escapable, is_one_of}
 use Rattle.wax_parse.proofs.meta.has_meta_character.Goals as goal
 

@@ -1,6 +1,5 @@
 use Rattle.std.proofs.Common.{◌≡◌, IsUtf8, chars}
-use Rattle.std.specs.List.{list_any}
-use Rattle.std.specs.Str.Iter.{chars_rest}
+use Rattle.std.specs.{List.list_any, Str.Iter.chars_rest}
 use Rattle.wax_token.specs.Reads.{escapable, is_one_of}
 use Rattle.wax_parse.proofs.meta.has_meta_character.Given as goal
 

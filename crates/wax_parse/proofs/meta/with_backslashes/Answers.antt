@@ -1,6 +1,5 @@
-use Rattle.std.proofs.Common.{◌≡◌, ◌∙◌, ◌++◌, ◌∷◌, List, ℕ, [], ap, sym, append_assoc, append-nil}
-use Rattle.std.proofs.Common.{chars, encode_utf8_all, string_bytes}
-use Rattle.std.proofs.lemmas.List.{nil_from_length}
+use Rattle.std.proofs.Common.{◌≡◌, ◌∙◌, ◌++◌, ◌∷◌, List, ℕ, [], ap, sym, append_assoc, append-nil, chars}
+use Rattle.std.proofs.{Common.{encode_utf8_all, string_bytes}, lemmas.List.nil_from_length}
 use Rattle.std.proofs.lemmas.Str.{IsUtf8-past_char, IsUtf8-string_bytes, chars-nil, chars_from_encodes}
 use Rattle.std.proofs.lemmas.Str.{chars_past_char, encodes-append}
 use Rattle.std.specs.Str.Iter.{chars_rest}

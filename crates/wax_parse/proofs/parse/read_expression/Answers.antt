@@ -1,6 +1,5 @@
 use Rattle.std.proofs.Common.{chars, refl}
-use Rattle.wax_parse.proofs.Outcomes.{passed_up}
-use Rattle.wax_parse.proofs.Texts.{chars_if_empty, chars_unless_empty}
+use Rattle.wax_parse.proofs.{Outcomes.passed_up, Texts.{chars_if_empty, chars_unless_empty}}
 use Rattle.wax_parse.proofs.Wholes.{reads_empty, reads_sole, reads_fails}
 use Rattle.wax_parse.proofs.parse.read_expression.Goals as goal
 

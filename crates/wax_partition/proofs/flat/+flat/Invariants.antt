@@ -1,7 +1,6 @@
 use Rattle.std.proofs.Common.{◌≡◌, drop}
 use Rattle.wax_partition.specs.inner.Flatness.{branches_are_flat, members_are_flat}
-use Rattle.wax_token.specs.Syntax.{tree_size, trees_size}
-use Rattle.wax_token.specs.Words.{trees}
+use Rattle.wax_token.specs.{Syntax.{tree_size, trees_size}, Words.trees}
 use Rattle.wax_partition.proofs.flat.+flat.Given as goal
 
 abbrev pub decreases-is_flat : goal.decreases-is_flat

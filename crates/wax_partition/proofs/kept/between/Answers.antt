@@ -1,9 +1,7 @@
 use Rattle.std.proofs.Common.{◌≡◌, ◌∙◌, ◌+◌, ◌-◌, ◌^◌, ◌<◌, ◌≤◌, ◌∷◌, ◌++◌, ◌&&◌, [], List, ℕ, map, length}
 use Rattle.std.proofs.Common.{min, get_or, drop, ap, arith, chars, string_bytes, if◌then◌else◌, nat_le}
-use Rattle.std.proofs.Common.{nat_lt}
-use Rattle.std.proofs.lemmas.Iterator.{YieldsList-from_chars}
-use Rattle.std.proofs.lemmas.Iterator.Consumers.{YieldsList-turn, YieldsList-end}
-use Rattle.std.proofs.lemmas.List.{length_push}
+use Rattle.std.proofs.{Common.nat_lt, lemmas.Iterator.YieldsList-from_chars}
+use Rattle.std.proofs.{lemmas.Iterator.Consumers.{YieldsList-turn, YieldsList-end}, lemmas.List.length_push}
 use Rattle.std.specs.Char.{len_utf8}
 use Rattle.wax_partition.specs.Kept.{between}
 use Rattle.wax_partition.proofs.KeptSteps.{kept_end, kept_step, within_same}

@@ -1,6 +1,5 @@
 use Rattle.std.proofs.Common.{◌≡◌, ◌∙◌, ◌∷◌, ◌++◌, [], List, ℕ, ap, sym, rules, chars, encode_utf8}
-use Rattle.std.proofs.Common.{if◌then◌else◌, string_bytes}
-use Rattle.std.proofs.lemmas.Str.{IsUtf8-encode, IsUtf8-string_bytes}
+use Rattle.std.proofs.{Common.{if◌then◌else◌, string_bytes}, lemmas.Str.{IsUtf8-encode, IsUtf8-string_bytes}}
 use Rattle.wax_facts.proofs.TextSteps.{char_text, chars_pushed}
 use Rattle.wax_partition.proofs.kept.keep.Goals as goal
 

@@ -1,8 +1,6 @@
 use Rattle.std.proofs.Common.{◌≡◌, ◌∙◌, ◌+◌, ◌<◌, ◌∷◌, ◌++◌, ◌==◌, ◌||◌, [], List, ℕ, map, length, get_or}
-use Rattle.std.proofs.Common.{drop, ap, arith, chars, string_bytes}
-use Rattle.std.proofs.lemmas.Iterator.{YieldsList-from_chars}
-use Rattle.std.proofs.lemmas.Iterator.Consumers.{YieldsList-turn, YieldsList-end}
-use Rattle.std.proofs.lemmas.List.{length_push}
+use Rattle.std.proofs.{Common.{drop, ap, arith, chars, string_bytes}, lemmas.Iterator.YieldsList-from_chars}
+use Rattle.std.proofs.{lemmas.Iterator.Consumers.{YieldsList-turn, YieldsList-end}, lemmas.List.length_push}
 use Rattle.wax_partition.specs.Kept.{without_slash}
 use Rattle.wax_facts.proofs.TextSteps.{chars_none}
 use Rattle.wax_partition.proofs.SlashSteps.{slash_end, slash_step, still}

@@ -1,9 +1,7 @@
 use Rattle.std.proofs.Common.{◌≡◌, ◌∙◌, Some, ap, chars, length, rules, string_bytes}
 use Rattle.std.proofs.lemmas.Str.{IsUtf8-string_bytes}
 use Rattle.std.specs.List.{slice_get}
-use Rattle.wax_token.specs.Reads.{utf8_len}
-use Rattle.wax_token.specs.Syntax.{concatenation}
-use Rattle.wax_token.specs.Words.{trees}
+use Rattle.wax_token.specs.{Reads.utf8_len, Syntax.concatenation, Words.trees}
 use Rattle.wax_token.proofs.Bytes.{bytes_len}
 use Rattle.wax_partition.proofs.RestGlob.{glob_is}
 use Rattle.wax_partition.proofs.parts.cut_out.Goals as goal

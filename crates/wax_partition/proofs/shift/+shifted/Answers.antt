@@ -1,6 +1,5 @@
 use Rattle.std.proofs.Common.{◌≡◌, ◌∙◌, [], ap, map, reverse, rules, arith}
-use Rattle.wax_token.specs.Syntax.{trees_size}
-use Rattle.wax_token.specs.Words.{trees}
+use Rattle.wax_token.specs.{Syntax.trees_size, Words.trees}
 use Rattle.wax_rule.specs.Shifted.{shifted_tree}
 use Rattle.wax_partition.proofs.ShiftSteps.{each_shifted, popped_smaller, shifted_step}
 use Rattle.wax_partition.proofs.shift.+shifted.Goals as goal

@@ -1,7 +1,5 @@
 use Rattle.std.proofs.Common.{◌≡◌, ◌≤◌, ◌*◌, ◌+◌, ◌++◌, length, map, reverse}
-use Rattle.wax_token.specs.Syntax.{tree_size, trees_size}
-use Rattle.wax_token.specs.View.{branch_tree}
-use Rattle.wax_token.specs.Words.{trees}
+use Rattle.wax_token.specs.{Syntax.{tree_size, trees_size}, View.branch_tree, Words.trees}
 use Rattle.wax_rule.specs.Shifted.{shifted_tree}
 use Rattle.wax_partition.proofs.shift.+shifted.Given as goal
 

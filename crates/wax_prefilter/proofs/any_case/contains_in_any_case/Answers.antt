@@ -1,6 +1,5 @@
 use Rattle.std.proofs.Common.{◌≡◌, ◌∙◌, ◌∷◌, [], List, ℕ, ap, sym, subst, true, rules, IsTrue, chars}
-use Rattle.std.proofs.lemmas.List.{nil_from_length}
-use Rattle.std.proofs.lemmas.Str.{chars-nil, chars_past_char, IsUtf8-past_char}
+use Rattle.std.proofs.{lemmas.List.nil_from_length, lemmas.Str.{chars-nil, chars_past_char, IsUtf8-past_char}}
 use Rattle.std.specs.Str.Iter.{chars_rest}
 use Rattle.wax_token.specs.Meaning.{SameFold, SameText}
 use Rattle.wax_prefilter.proofs.AnyCase.{BeginsAlike, HoldsAlike, stands_later, stands_nowhere, folds_alike}

@@ -1,12 +1,8 @@
 use Rattle.std.proofs.Common.{◌≡◌, ◌-◌, inl, inr, length, slice_get, Some, subst, sym, rules, IfOk, IfSome}
-use Rattle.std.proofs.lemmas.Option.{IfSome_then}
-use Rattle.std.proofs.lemmas.Result.{IfOk-weaker}
-use Rattle.wax_prefilter.proofs.Holding.{any_left, any_right, last_holds, one_holds}
-use Rattle.wax_prefilter.proofs.MeantEdges.{next_branch}
-use Rattle.wax_prefilter.specs.Facts.{ContainsAt, ContainsOne}
-use Rattle.wax_prefilter.specs.Known.{EachContainsOne}
-use Rattle.wax_token.specs.Meaning.{Means, MeansEach}
-use Rattle.wax_token.specs.Words.{trees}
+use Rattle.std.proofs.{lemmas.Option.IfSome_then, lemmas.Result.IfOk-weaker}
+use Rattle.wax_prefilter.proofs.{Holding.{any_left, any_right, last_holds, one_holds}, MeantEdges.next_branch}
+use Rattle.wax_prefilter.specs.{Facts.{ContainsAt, ContainsOne}, Known.EachContainsOne}
+use Rattle.wax_token.specs.{Meaning.{Means, MeansEach}, Words.trees}
 use Rattle.wax_prefilter.proofs.facts.+needles_of.Goals as goal
 
 pub needles_of_any-returns-then-is_some : goal.needles_of_any-returns-then-is_some

@@ -1,9 +1,6 @@
 use Rattle.std.proofs.Common.{ℕ, ◌+◌, ◌*◌, Bool, List, ◌⊎◌, drop}
-use Rattle.wax_token.specs.Meaning.{MeansSome}
-use Rattle.wax_token.specs.Syntax.{tree_size, trees_size}
-use Rattle.wax_token.specs.Words.{trees}
-use Rattle.wax_prefilter.specs.Facts.{ContainsOne}
-use Rattle.wax_prefilter.specs.Known.{CanBeAfter}
+use Rattle.wax_token.specs.{Meaning.MeansSome, Syntax.{tree_size, trees_size}, Words.trees}
+use Rattle.wax_prefilter.specs.{Facts.ContainsOne, Known.CanBeAfter}
 use Rattle.wax_prefilter.proofs.facts.+needles_of.Given as goal
 
 abbrev pub decreases-needles_of : goal.decreases-needles_of

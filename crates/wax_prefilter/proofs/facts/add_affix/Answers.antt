@@ -1,6 +1,5 @@
 use Rattle.std.proofs.Common.{subst, IfSome}
-use Rattle.wax_token.specs.Meaning.{MeansEach}
-use Rattle.wax_token.specs.Words.{trees}
+use Rattle.wax_token.specs.{Meaning.MeansEach, Words.trees}
 use Rattle.wax_prefilter.specs.Known.{EachContainsOne}
 use Rattle.wax_prefilter.proofs.Holding.{more_facts}
 use Rattle.wax_prefilter.proofs.facts.add_affix.Goals as goal

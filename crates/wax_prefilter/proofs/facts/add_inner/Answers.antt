@@ -1,8 +1,6 @@
 use Rattle.std.proofs.Common.{subst, IfSome}
-use Rattle.wax_token.specs.Meaning.{Means}
-use Rattle.wax_token.specs.Words.{trees}
-use Rattle.wax_prefilter.specs.Known.{EachContainsOne}
-use Rattle.wax_prefilter.specs.declared.needle.Anchor.TheVariants.{Anywhere}
+use Rattle.wax_token.specs.{Meaning.Means, Words.trees}
+use Rattle.wax_prefilter.specs.{Known.EachContainsOne, declared.needle.Anchor.TheVariants.Anywhere}
 use Rattle.wax_prefilter.proofs.Holding.{more_facts, one_holds}
 use Rattle.wax_prefilter.proofs.facts.add_inner.Goals as goal
 

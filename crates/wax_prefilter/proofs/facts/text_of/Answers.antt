@@ -1,6 +1,5 @@
 use Rattle.std.proofs.Common.{◌≡◌, [], ◌∷◌, sym}
-use Rattle.wax_prefilter.proofs.Holding.{stands_whole, same_slash}
-use Rattle.wax_prefilter.proofs.MeantEdges.{as_seen}
+use Rattle.wax_prefilter.proofs.{Holding.{stands_whole, same_slash}, MeantEdges.as_seen}
 use Rattle.wax_token.specs.Meaning.{SameText}
 use Rattle.wax_prefilter.proofs.facts.text_of.Goals as goal
 

@@ -1,7 +1,6 @@
 use Rattle.std.proofs.Common.{◌≡◌, false, true, [], ◌∷◌, chars, sym, subst}
 use Rattle.wax_token.specs.Meaning.{TreeMeans}
-use Rattle.wax_prefilter.specs.Facts.{ContainsAt}
-use Rattle.wax_prefilter.specs.Known.{CanBeAfter}
+use Rattle.wax_prefilter.specs.{Facts.ContainsAt, Known.CanBeAfter}
 use Rattle.wax_prefilter.proofs.Holding.{slash_begins}
 use Rattle.wax_prefilter.proofs.facts.text_of_wildcard.Goals as goal
 

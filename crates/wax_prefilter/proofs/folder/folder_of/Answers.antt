@@ -1,8 +1,7 @@
 use Rattle.std.proofs.Common.{◌↔◌, List, ℕ, IfSome, chars, false, sym, ◌∙◌, subst}
 use Rattle.wax_prefilter.proofs.Within.{some_means, two_items}
 use Rattle.wax_prefilter.specs.Within.{IsInFolder}
-use Rattle.wax_token.specs.Meaning.{MeansEach}
-use Rattle.wax_token.specs.Words.{trees}
+use Rattle.wax_token.specs.{Meaning.MeansEach, Words.trees}
 use Rattle.wax_prefilter.proofs.folder.folder_of.Goals as goal
 
 pub returns-in-len2 : goal.returns-in-len2

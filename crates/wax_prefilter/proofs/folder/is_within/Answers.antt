@@ -1,6 +1,5 @@
 use Rattle.std.proofs.Common.{◌≡◌, ◌≢◌, ◌++◌, MatchOption, List, ℕ, chars, sym, subst}
-use Rattle.std.proofs.lemmas.Bool.Decides.{Decides-eqb}
-use Rattle.std.proofs.lemmas.Slice.Eq.{strip_prefix_is}
+use Rattle.std.proofs.{lemmas.Bool.Decides.Decides-eqb, lemmas.Slice.Eq.strip_prefix_is}
 use Rattle.wax_prefilter.proofs.Within.{bytes_within, empty_rest, rest_within, slash_first, slash_rest}
 use Rattle.wax_prefilter.proofs.Within.{within_below, within_whole}
 use Rattle.wax_prefilter.specs.Within.{IsInFolder}

@@ -1,8 +1,5 @@
 use Rattle.std.proofs.Common.{◌≡◌, ◌≤◌, ◌*◌, length, sym, ◌∙◌, ap, subst, arith}
-use Rattle.wax_token.specs.Meaning.{Means}
-use Rattle.wax_token.specs.Syntax.{repetition}
-use Rattle.wax_token.specs.View.{topology_tree}
-use Rattle.wax_token.specs.Words.{annotation_of}
+use Rattle.wax_token.specs.{Meaning.Means, Syntax.repetition, View.topology_tree, Words.annotation_of}
 use Rattle.wax_token.specs.declared.token.Topology.TheVariants.{Branch}
 use Rattle.wax_prefilter.specs.Known.{IsLeastLength}
 use Rattle.wax_prefilter.proofs.Lengths.{left_more, repeated_length}

@@ -1,7 +1,5 @@
 use Rattle.std.proofs.Common.{ℕ, ◌≤◌, Bool, List, ◌⊎◌, length, drop}
-use Rattle.wax_token.specs.Meaning.{MeansSome}
-use Rattle.wax_token.specs.Syntax.{tree_size, trees_size}
-use Rattle.wax_token.specs.Words.{trees}
+use Rattle.wax_token.specs.{Meaning.MeansSome, Syntax.{tree_size, trees_size}, Words.trees}
 use Rattle.wax_prefilter.proofs.Lengths.{LeftAfter}
 use Rattle.wax_prefilter.proofs.least.+least_of.Given as goal
 

@@ -1,5 +1,4 @@
-use Rattle.std.proofs.Common.{◌≡◌, length, ap, arith, rules, chars}
-use Rattle.std.proofs.lemmas.Str.{chars_from_encodes}
+use Rattle.std.proofs.{Common.{◌≡◌, length, ap, arith, rules, chars}, lemmas.Str.chars_from_encodes}
 use Rattle.wax_token.specs.Meaning.{SameText}
 use Rattle.wax_prefilter.proofs.Lengths.{same_length}
 use Rattle.wax_prefilter.proofs.least.least_of_leaf.Goals as goal

@@ -1,10 +1,8 @@
 use Rattle.std.proofs.Common.{IfSome, subst, sym}
 use Rattle.wax_prefilter.proofs.Holding.{one_holds}
-use Rattle.wax_prefilter.specs.Known.{EachContainsOne}
-use Rattle.wax_prefilter.specs.declared.needle.Anchor.TheVariants.{Anywhere}
-use Rattle.wax_token.specs.Meaning.{Means, MeansEach}
-use Rattle.wax_token.specs.Words.{trees}
 use Rattle.wax_prefilter.proofs.literals.longest_needles.Goals.{then-len-greatest, else-len-greatest}
+use Rattle.wax_prefilter.specs.{Known.EachContainsOne, declared.needle.Anchor.TheVariants.Anywhere}
+use Rattle.wax_token.specs.{Meaning.{Means, MeansEach}, Words.trees}
 use Rattle.wax_prefilter.proofs.literals.longest_needles.Goals as goal
 
 pub loop-token-preserved : goal.loop-token-preserved

@@ -1,8 +1,6 @@
 use Rattle.std.specs.Option.{IfSome}
-use Rattle.wax_prefilter.specs.Known.{EachContainsOne}
-use Rattle.wax_prefilter.specs.declared.needle.Anchor.TheVariants.{Anywhere}
-use Rattle.wax_token.specs.Meaning.{MeansEach}
-use Rattle.wax_token.specs.Words.{trees}
+use Rattle.wax_prefilter.specs.{Known.EachContainsOne, declared.needle.Anchor.TheVariants.Anywhere}
+use Rattle.wax_token.specs.{Meaning.MeansEach, Words.trees}
 use Rattle.wax_prefilter.proofs.literals.longest_needles.Given as goal
 
 abbrev pub invariant-loop-token : goal.invariant-loop-token

@@ -1,7 +1,6 @@
 use Rattle.std.proofs.Common.{chars}
 use Rattle.wax_prefilter.proofs.Holding.{NoneBefore}
-use Rattle.wax_prefilter.specs.Facts.{ContainsAt}
-use Rattle.wax_prefilter.specs.declared.needle.Anchor.TheVariants.{Anywhere}
+use Rattle.wax_prefilter.specs.{Facts.ContainsAt, declared.needle.Anchor.TheVariants.Anywhere}
 use Rattle.wax_prefilter.proofs.literals.may_contain_one.Given as goal
 
 -- the text has no needle so far

@@ -1,8 +1,6 @@
 use Rattle.std.proofs.Common.{◌≡◌, ◌+◌, ◌≤◌, drop, get_or, length, inl, inr, sym, ap, ◌∙◌, subst, arith}
-use Rattle.std.proofs.lemmas.Bool.{cases_lt}
-use Rattle.std.proofs.lemmas.List.{get_or_default}
-use Rattle.wax_prefilter.specs.declared.pair.Pair.{Pair}
-use Rattle.wax_prefilter.specs.inner.Pairs.{NoPairBefore, ZeroWhere, lowered}
+use Rattle.std.proofs.{lemmas.Bool.cases_lt, lemmas.List.get_or_default}
+use Rattle.wax_prefilter.specs.{declared.pair.Pair.Pair, inner.Pairs.{NoPairBefore, ZeroWhere, lowered}}
 use lib.Lanes.{chunk}
 use Rattle.wax_prefilter.proofs.Lowered.{length_lowered, zero_lowered}
 use Rattle.wax_prefilter.proofs.Marks.{before_lane, few_lanes, length_lesser, lesser_zero}

@@ -1,7 +1,6 @@
 use Rattle.std.proofs.Common.{◌≡◌, ◌<◌, ℕ, drop, get_or, length}
 use lib.Lanes.{chunk}
-use Rattle.wax_prefilter.specs.declared.pair.Pair.{Pair}
-use Rattle.wax_prefilter.specs.inner.Pairs.{ZeroWhere, lowered}
+use Rattle.wax_prefilter.specs.{declared.pair.Pair.Pair, inner.Pairs.{ZeroWhere, lowered}}
 use Rattle.wax_prefilter.proofs.pair.first_position.Given as goal
 
 -- a lane is 0 if one of the pairs so far stands there

@@ -1,8 +1,6 @@
 use Rattle.std.proofs.Common.{List, ℕ, chars, sym, subst}
-use Rattle.std.specs.Option.{IfSome}
-use Rattle.std.specs.Str.{IsUtf8}
-use Rattle.wax_prefilter.specs.Facts.{ContainsOne}
-use Rattle.wax_prefilter.specs.inner.Pairs.{ArePairsOf, LineHasOne}
+use Rattle.std.specs.{Option.IfSome, Str.IsUtf8}
+use Rattle.wax_prefilter.specs.{Facts.ContainsOne, inner.Pairs.{ArePairsOf, LineHasOne}}
 use Rattle.wax_prefilter.proofs.prefilter.fewest_pairs.Goals.{in-Some-fewest, in_default-fewest}
 use Rattle.wax_prefilter.proofs.prefilter.fewest_pairs.Goals as goal
 

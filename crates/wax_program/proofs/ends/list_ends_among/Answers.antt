@@ -1,5 +1,4 @@
-use Rattle.std.proofs.Common.{◌<◌, ℕ, List, length, get_or, arith}
-use Rattle.std.proofs.lemmas.List.{get_or_default}
+use Rattle.std.proofs.{Common.{◌<◌, ℕ, List, length, get_or, arith}, lemmas.List.get_or_default}
 use Rattle.wax_program.proofs.Marks.{ends_none, ends_step, ends_whole}
 use Rattle.wax_program.proofs.ends.list_ends_among.Goals as goal
 

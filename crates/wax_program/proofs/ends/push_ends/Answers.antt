@@ -1,5 +1,4 @@
-use Rattle.std.proofs.Common.{◌∙◌, Some, ap}
-use Rattle.std.proofs.lemmas.Result.{IfOk-weaker}
+use Rattle.std.proofs.{Common.{◌∙◌, Some, ap}, lemmas.Result.IfOk-weaker}
 use Rattle.wax_program.proofs.Marks.{ends_of_range}
 use Rattle.wax_program.proofs.ends.push_ends.Goals as goal
 

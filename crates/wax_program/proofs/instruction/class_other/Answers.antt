@@ -1,5 +1,4 @@
-use Rattle.std.proofs.Common.{sym, ◌∙◌, subst}
-use Rattle.std.proofs.lemmas.Result.{IfOk-weaker}
+use Rattle.std.proofs.{Common.{sym, ◌∙◌, subst}, lemmas.Result.IfOk-weaker}
 use Rattle.wax_program.specs.Onward.{HoldsOther}
 use Rattle.wax_program.proofs.Others.{negated_other, plain_other}
 use Rattle.wax_program.proofs.instruction.class_other.Goals as goal

@@ -1,6 +1,5 @@
 use Rattle.std.proofs.Common.{◌+◌, length, arith, chars}
-use Rattle.wax_program.proofs.Advancing.{fewer_within}
-use Rattle.wax_program.proofs.LastNames.{counted_name, name_decides, same_answer}
+use Rattle.wax_program.proofs.{Advancing.fewer_within, LastNames.{counted_name, name_decides, same_answer}}
 use Rattle.wax_program.proofs.last.run_last.Goals as goal
 
 pub returns-clause-decides : goal.returns-clause-decides

@@ -1,5 +1,4 @@
-use Rattle.std.proofs.Common.{◌<◌, inl, inr, ℕ, List, length, get_or, arith}
-use Rattle.std.proofs.lemmas.List.{get_or_default}
+use Rattle.std.proofs.{Common.{◌<◌, inl, inr, ℕ, List, length, get_or, arith}, lemmas.List.get_or_default}
 use Rattle.wax_program.proofs.Lists.{parted_one, parted_other}
 use Rattle.wax_program.proofs.loops.part_loops.Goals.{then-is_loop+in_ok-push, else-is_loop+in_ok-push-2}
 use Rattle.wax_program.proofs.loops.part_loops.Goals as goal

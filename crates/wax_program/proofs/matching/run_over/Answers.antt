@@ -1,15 +1,10 @@
 use Rattle.std.proofs.Common.{◌≡◌, ◌≤◌, ◌+◌, ◌∷◌, [], ℕ, List, length, min, arith, ap, ◌∙◌, sym, true≢false}
-use Rattle.std.proofs.Common.{IsTrue, rules}
-use Rattle.std.proofs.lemmas.List.{nil_from_length}
+use Rattle.std.proofs.{Common.{IsTrue, rules}, lemmas.List.nil_from_length}
 use Rattle.std.proofs.lemmas.Str.{IsUtf8-past_char, chars-nil, chars_past_char}
-use Rattle.std.specs.Str.{chars}
-use Rattle.std.specs.Str.Iter.{chars_rest}
-use Rattle.wax_program.specs.Machine.{Accepts}
-use Rattle.wax_program.specs.Meter.{most_ticks}
-use Rattle.wax_program.specs.Threads.{IsDone, Stays}
+use Rattle.std.specs.{Str.chars, Str.Iter.chars_rest}
+use Rattle.wax_program.specs.{Machine.Accepts, Meter.most_ticks, Threads.{IsDone, Stays}}
 use Rattle.wax_program.proofs.Advancing.{chars_few, stays_start, stays_step, stays_done, reads_passed}
-use Rattle.wax_program.proofs.Advancing.{reads_within}
-use Rattle.wax_program.proofs.Staying.{absorbed}
+use Rattle.wax_program.proofs.{Advancing.reads_within, Staying.absorbed}
 use Rattle.wax_program.proofs.matching.run_over.Goals as goal
 
 pub loop-c-init : goal.loop-c-init

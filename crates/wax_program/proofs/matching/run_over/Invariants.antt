@@ -1,10 +1,6 @@
 use Rattle.std.proofs.Common.{◌≡◌, ◌≤◌, ◌+◌, ◌*◌, ℕ, length, min, IfSome, IsUtf8}
-use Rattle.std.specs.Str.{chars}
-use Rattle.std.specs.Str.Iter.{chars_rest}
-use Rattle.wax_program.specs.Meter.{most_ticks}
-use Rattle.wax_program.specs.Steady.{IsKnown}
-use Rattle.wax_program.specs.Places.{IsEmpty}
-use Rattle.wax_program.specs.Threads.{Stays}
+use Rattle.std.specs.{Str.chars, Str.Iter.chars_rest}
+use Rattle.wax_program.specs.{Meter.most_ticks, Steady.IsKnown, Places.IsEmpty, Threads.Stays}
 use Rattle.wax_program.proofs.matching.run_over.Given as goal
 
 -- m characters were followed

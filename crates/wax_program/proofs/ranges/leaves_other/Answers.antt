@@ -1,5 +1,4 @@
-use Rattle.std.proofs.Common.{rules, subst, sym}
-use Rattle.std.proofs.lemmas.List.Sorted.{IsNonDecreasingBy-from_sort_by_key}
+use Rattle.std.proofs.{Common.{rules, subst, sym}, lemmas.List.Sorted.IsNonDecreasingBy-from_sort_by_key}
 use Rattle.std.specs.List.Sorted.{IsNonDecreasingBy}
 use Rattle.wax_program.specs.inner.Ranges.{IsLeastOutside, NumberRange}
 use Rattle.wax_program.proofs.Sweeping.{least_left, leaves_least}

@@ -1,9 +1,7 @@
 use Rattle.std.proofs.Common.{◌≡◌, ◌+◌, ◌≤◌, ◌∙◌, ℕ, arith, ap, sym}
-use Rattle.wax_program.specs.Steady.{ActsAlike}
-use Rattle.wax_program.specs.Places.{HoldsPlace, member_count}
+use Rattle.wax_program.specs.{Steady.ActsAlike, Places.{HoldsPlace, member_count}}
 use Rattle.wax_program.specs.Threads.{Followed, IsDone, Round, Taken}
-use Rattle.wax_program.proofs.Advancing.{read_one, round_start, round_step, round_end}
-use Rattle.wax_program.proofs.Members.{members_none}
+use Rattle.wax_program.proofs.{Advancing.{read_one, round_start, round_step, round_end}, Members.members_none}
 use Rattle.wax_program.proofs.Staying.{round_known, watched_step}
 use Rattle.wax_program.proofs.rounds.advance.Goals as goal
 

@@ -1,7 +1,5 @@
 use Rattle.std.proofs.Common.{◌≡◌, ◌≤◌, ◌-◌, ℕ, length}
-use Rattle.wax_program.specs.Steady.{ActsAlike}
-use Rattle.wax_program.specs.Places.{HoldsPlace, member_count}
-use Rattle.wax_program.specs.Threads.{Round}
+use Rattle.wax_program.specs.{Steady.ActsAlike, Places.{HoldsPlace, member_count}, Threads.Round}
 use Rattle.wax_program.proofs.rounds.advance.Given as goal
 
 abbrev pub invariant-loop-at : goal.invariant-loop-at

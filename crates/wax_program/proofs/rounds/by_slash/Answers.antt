@@ -1,7 +1,5 @@
 use Rattle.std.proofs.Common.{◌≢◌, ℕ, Some, IfSome, IsTrue, true, sym, subst}
-use Rattle.wax_program.specs.Bits.{places_of}
-use Rattle.wax_program.specs.Steady.{IsKnown, IsSteady}
-use Rattle.wax_program.specs.Threads.{Advances}
+use Rattle.wax_program.specs.{Bits.places_of, Steady.{IsKnown, IsSteady}, Threads.Advances}
 use Rattle.wax_program.proofs.rounds.by_slash.Goals as goal
 
 pub returns-then-word-known : goal.returns-then-word-known

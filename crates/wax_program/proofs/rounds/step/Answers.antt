@@ -1,6 +1,5 @@
 use Rattle.std.proofs.Common.{◌<◌, ℕ, subst, sym, arith}
-use Rattle.wax_program.specs.Places.{HoldsPlace}
-use Rattle.wax_program.specs.Threads.{Advances}
+use Rattle.wax_program.specs.{Places.HoldsPlace, Threads.Advances}
 use Rattle.wax_program.proofs.rounds.step.Goals as goal
 
 pub returns-clause-advances : goal.returns-clause-advances

@@ -1,6 +1,5 @@
 use Rattle.std.proofs.Common.{◌≡◌, ◌↔◌, ℕ, List, ap, arith, length, subst, sym}
-use Rattle.wax_program.specs.Closed.{AcceptsMarked}
-use Rattle.wax_program.specs.Machine.{Accepts}
+use Rattle.wax_program.specs.{Closed.AcceptsMarked, Machine.Accepts}
 use Rattle.wax_program.specs.declared.instruction.Instruction.{Instruction}
 use Rattle.wax_program.proofs.WithoutMarks.{accepts_marked}
 use Rattle.wax_program.proofs.unmarked.without_marks.Goals as goal

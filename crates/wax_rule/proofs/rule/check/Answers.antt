@@ -1,7 +1,6 @@
 use Rattle.std.proofs.Common.{None, rules, ◌≡◌}
 use Rattle.wax_facts.specs.Rules.{broken}
-use Rattle.wax_rule.specs.FirstBreak.{head_of}
-use Rattle.wax_rule.specs.Keeping.{unbroken}
+use Rattle.wax_rule.specs.{FirstBreak.head_of, Keeping.unbroken}
 use Rattle.wax_rule.proofs.Keeping.{no_break}
 use Rattle.wax_rule.proofs.rule.check.Goals as goal
 

@@ -1,7 +1,6 @@
 use Rattle.std.proofs.Common.{◌≡◌, ◌+◌, drop, Option, sym, ◌∙◌, ap}
 use Rattle.std.specs.Option.{option_or}
-use Rattle.wax_facts.specs.Situated.{Situated}
-use Rattle.wax_facts.specs.declared.rules.Break.{Break}
+use Rattle.wax_facts.specs.{Situated.Situated, declared.rules.Break.Break}
 use Rattle.wax_rule.specs.FirstBreak.{head_of, oversized_in, oversized_inside}
 use Rattle.wax_rule.proofs.Firsts.{first_step}
 use Rattle.wax_rule.proofs.rule.find_oversized.Goals as goal

@@ -1,6 +1,5 @@
 use Rattle.std.proofs.Common.{◌+◌, drop, Option, sym, ◌∙◌, ap}
-use Rattle.std.specs.Option.{option_or}
-use Rattle.std.specs.List.{flat_map}
+use Rattle.std.specs.{Option.option_or, List.flat_map}
 use Rattle.wax_facts.specs.declared.rules.Break.{Break}
 use Rattle.wax_rule.specs.FirstBreak.{breaks_of, head_of}
 use Rattle.wax_rule.proofs.Firsts.{first_step}

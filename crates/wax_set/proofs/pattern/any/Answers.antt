@@ -1,8 +1,5 @@
-use Rattle.std.proofs.Common.{◌≡◌, ◌<◌, ◌∙◌, ap, inr, rules}
-use Rattle.std.proofs.lemmas.List.{map-id}
-use Rattle.wax_token.specs.Cost.{program_length}
-use Rattle.wax_token.specs.Syntax.{alternation}
-use Rattle.wax_token.specs.Words.{trees}
+use Rattle.std.proofs.{Common.{◌≡◌, ◌<◌, ◌∙◌, ap, inr, rules}, lemmas.List.map-id}
+use Rattle.wax_token.specs.{Cost.program_length, Syntax.alternation, Words.trees}
 use Rattle.wax_set.proofs.Patterns.{are_oversized, is_any_of}
 use Rattle.wax_set.proofs.pattern.any.Goals as goal
 

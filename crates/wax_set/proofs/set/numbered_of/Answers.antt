@@ -1,5 +1,4 @@
-use Rattle.std.proofs.Common.{refl}
-use Rattle.std.proofs.lemmas.Result.{IfOk-weaker}
+use Rattle.std.proofs.{Common.refl, lemmas.Result.IfOk-weaker}
 use Rattle.wax_set.proofs.Numbers.{branch_added, branch_counted, branches_shorter, indexed_program}
 use Rattle.wax_set.proofs.set.numbered_of.Goals as goal
 

@@ -1,7 +1,6 @@
 use Rattle.std.proofs.Common.{◌≡◌, ◌+◌, take}
 use Rattle.wax_match.specs.Numbered.{numbered_length}
-use Rattle.wax_token.specs.Cost.{branches_cost}
-use Rattle.wax_token.specs.Words.{trees}
+use Rattle.wax_token.specs.{Cost.branches_cost, Words.trees}
 use Rattle.wax_set.proofs.Numbers.{AreIndexed}
 use Rattle.wax_set.proofs.set.numbered_of.Given as goal
 

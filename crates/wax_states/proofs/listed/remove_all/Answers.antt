@@ -1,5 +1,4 @@
-use Rattle.std.proofs.Common.{get_or, arith}
-use Rattle.std.proofs.lemmas.List.Elements.{Contains-get_or}
+use Rattle.std.proofs.{Common.{get_or, arith}, lemmas.List.Elements.Contains-get_or}
 use Rattle.wax_states.proofs.Listings.{removed_all}
 use Rattle.wax_states.proofs.listed.remove_all.Goals as goal
 

@@ -1,5 +1,4 @@
-use Rattle.std.proofs.Common.{◌∙◌, true≢false, refl, sym, arith}
-use Rattle.std.proofs.lemmas.Option.{slice_get-get_or}
+use Rattle.std.proofs.{Common.{◌∙◌, true≢false, refl, sym, arith}, lemmas.Option.slice_get-get_or}
 use Rattle.wax_states.proofs.Listings.{read_more}
 use Rattle.wax_states.proofs.listed_sets.first_unread.Goals.{else-at-size-via-then-at-size+else-not-contains}
 use Rattle.wax_states.proofs.listed_sets.first_unread.Goals.{else-at-size-via-else-at-size}

@@ -1,7 +1,6 @@
 use Rattle.std.proofs.Common.{◌↔◌, IsTrue, chars, subst}
 use Rattle.wax.specs.GlobView.{IsMeant}
-use Rattle.wax_test_uses.proofs.Meanings.{through}
-use Rattle.wax_test_uses.proofs.Pictures.{is_picture}
+use Rattle.wax_test_uses.proofs.{Meanings.through, Pictures.is_picture}
 use Rattle.wax_test_uses.proofs.names.is_picture.Goals as goal
 
 pub returns : goal.returns

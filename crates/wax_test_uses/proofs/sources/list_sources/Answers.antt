@@ -1,7 +1,6 @@
 use Rattle.std.proofs.Common.{ap, sym}
 use Rattle.wax.specs.Walks.{behavior_range, tree_law}
-use Rattle.wax_test_uses.proofs.Expressions.{in_src, in_src_spelled}
-use Rattle.wax_test_uses.proofs.KeptSources.{sources_listed}
+use Rattle.wax_test_uses.proofs.{Expressions.{in_src, in_src_spelled}, KeptSources.sources_listed}
 use Rattle.wax_test_uses.proofs.sources.list_sources.Goals as goal
 
 pub returns : goal.returns

@@ -1,8 +1,6 @@
-use Rattle.std.proofs.Common.{[], ◌∙◌, sym}
-use Rattle.std.proofs.lemmas.Result.{IfOk-weaker}
+use Rattle.std.proofs.{Common.{[], ◌∙◌, sym}, lemmas.Result.IfOk-weaker}
 use Rattle.wax.specs.Walks.{tree_inner, tree_law}
-use Rattle.wax_test_uses.proofs.Planted.{shows_all}
-use Rattle.wax_test_uses.proofs.SourceTree.{source_holds, source_paths}
+use Rattle.wax_test_uses.proofs.{Planted.shows_all, SourceTree.{source_holds, source_paths}}
 use Rattle.wax_test_uses.specs.Sources.{source_items}
 use Rattle.wax_test_uses.proofs.sources.source_tree.Goals as goal
 

@@ -1,5 +1,4 @@
-use Rattle.std.proofs.Common.{refl}
-use Rattle.std.proofs.lemmas.Result.{IfOk-weaker}
+use Rattle.std.proofs.{Common.refl, lemmas.Result.IfOk-weaker}
 use Rattle.wax.specs.Walks.{not_meant}
 use Rattle.wax_test_uses.proofs.Filtered.{keeps_one_more}
 use Rattle.wax_test_uses.proofs.walks.collect_excluding_patterns.Goals as goal

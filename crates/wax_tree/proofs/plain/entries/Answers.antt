@@ -2,14 +2,10 @@ use Rattle.std.proofs.Common.{◌≡◌, ◌∙◌, [], ◌+◌, ◌++◌, ap, a
 use Rattle.std.proofs.lemmas.List.{length-map}
 use Rattle.wax_walk.proofs.Collecting.{map_ok}
 use Rattle.wax_walk.specs.Collected.{AreOfFolders, SpendsWithin, Took, Yielded}
-use Rattle.wax_walk.specs.Entries.{facts_of, given_outcome}
-use Rattle.wax_walk.specs.View.{is_above}
-use Rattle.wax_tree.specs.Begins.{IsPassed, behavior_range, start_view}
-use Rattle.wax_tree.specs.Whole.{plain_pending}
-use Rattle.wax_tree.proofs.Answered.{all_kept, entries_answered}
-use Rattle.wax_tree.proofs.InRange.{entries_are, untold}
-use Rattle.wax_tree.proofs.Reaching.{errors_passed}
-use Rattle.wax_tree.proofs.StartViews.{took_start}
+use Rattle.wax_walk.specs.{Entries.{facts_of, given_outcome}, View.is_above}
+use Rattle.wax_tree.specs.{Begins.{IsPassed, behavior_range, start_view}, Whole.plain_pending}
+use Rattle.wax_tree.proofs.{Answered.{all_kept, entries_answered}, InRange.{entries_are, untold}}
+use Rattle.wax_tree.proofs.{Reaching.errors_passed, StartViews.took_start}
 use Rattle.wax_tree.proofs.plain.entries.Goals as goal
 
 pub returns-clause-items : goal.returns-clause-items

@@ -1,10 +1,7 @@
-use Rattle.std.proofs.Common.{rules, refl, arith, ◌≤◌, length}
-use Rattle.std.specs.Prelude.{Some, None, []}
-use Rattle.std.specs.Iterator.{size}
-use Rattle.std.proofs.lemmas.List.Elements.{All-nil}
+use Rattle.std.proofs.{Common.{rules, refl, arith, ◌≤◌, length}, lemmas.List.Elements.All-nil}
+use Rattle.std.specs.{Prelude.{Some, None, []}, Iterator.size}
 use Rattle.wax_walk.specs.Entries.{given_of}
-use Rattle.wax_walk.proofs.Collecting.{taking_none, taking_more, taking_end, kept_more}
-use Rattle.wax_walk.proofs.Knowing.{all_kept}
+use Rattle.wax_walk.proofs.{Collecting.{taking_none, taking_more, taking_end, kept_more}, Knowing.all_kept}
 use Rattle.wax_walk.proofs.gather.collect.Goals as goal
 
 pub loop-item-init : goal.loop-item-init

@@ -1,9 +1,6 @@
 use Rattle.std.proofs.Common.{◌≡◌, List, map}
-use Rattle.std.specs.Prelude.{All, filter}
-use Rattle.std.specs.Iterator.{IsFinite, size}
-use Rattle.wax_walk.specs.Entries.{given_outcome}
-use Rattle.wax_walk.specs.Given.{Given, is_kept}
-use Rattle.wax_walk.specs.Known.{KnownOutcome, StaysKnown}
+use Rattle.std.specs.{Prelude.{All, filter}, Iterator.{IsFinite, size}}
+use Rattle.wax_walk.specs.{Entries.given_outcome, Given.{Given, is_kept}, Known.{KnownOutcome, StaysKnown}}
 use Rattle.wax_walk.proofs.Collecting.{Taking}
 use Rattle.wax_walk.proofs.gather.collect.Given as goal
 

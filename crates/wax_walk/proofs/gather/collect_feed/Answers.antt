@@ -1,10 +1,8 @@
-use Rattle.std.proofs.Common.{rules, arith}
-use Rattle.std.specs.Prelude.{Some, None}
-use Rattle.std.proofs.lemmas.List.{map-append, length-map}
+use Rattle.std.proofs.{Common.{rules, arith}, lemmas.List.{map-append, length-map}}
 use Rattle.std.proofs.lemmas.List.Elements.{All-nil}
+use Rattle.std.specs.Prelude.{Some, None}
 use Rattle.wax_walk.specs.Entries.{given_of}
-use Rattle.wax_walk.proofs.Collecting.{taking_none, taking_more, taking_end}
-use Rattle.wax_walk.proofs.Knowing.{all_fed}
+use Rattle.wax_walk.proofs.{Collecting.{taking_none, taking_more, taking_end}, Knowing.all_fed}
 use Rattle.wax_walk.proofs.gather.collect_feed.Goals as goal
 
 pub loop-item-init : goal.loop-item-init

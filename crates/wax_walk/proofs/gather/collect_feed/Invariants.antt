@@ -1,8 +1,6 @@
 use Rattle.std.proofs.Common.{map}
-use Rattle.std.specs.Prelude.{All}
-use Rattle.std.specs.Iterator.{IsFinite, size}
-use Rattle.wax_walk.specs.Entries.{given_of}
-use Rattle.wax_walk.specs.Known.{KnownItem, StaysKnown}
+use Rattle.std.specs.{Prelude.All, Iterator.{IsFinite, size}}
+use Rattle.wax_walk.specs.{Entries.given_of, Known.{KnownItem, StaysKnown}}
 use Rattle.wax_walk.proofs.Collecting.{Taking}
 use Rattle.wax_walk.proofs.gather.collect_feed.Given as goal
 

@@ -1,5 +1,4 @@
-use Rattle.std.proofs.Common.{◌≡◌, ◌++◌, ◌∷◌, [], arith, rules, subst, sym}
-use Rattle.std.proofs.lemmas.Grind.{common_steps}
+use Rattle.std.proofs.{Common.{◌≡◌, ◌++◌, ◌∷◌, [], arith, rules, subst, sym}, lemmas.Grind.common_steps}
 use Rattle.std.specs.Vec.Iter.{into_iter_items}
 use Rattle.wax_exclude.specs.Excluded.{excluded_mark}
 use Rattle.wax.proofs.Filters.{Excluded, any_excluded, first_refused, one_more_excluded, pattern_taken}

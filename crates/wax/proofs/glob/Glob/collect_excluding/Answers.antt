@@ -1,14 +1,9 @@
 use Rattle.std.proofs.Common.{[], ap, filter, map, refl, subst, ◌∙◌, inl, inr, arith}
 use Rattle.wax_exclude.proofs.Telling.{answered_before}
-use Rattle.wax_exclude.specs.GlobRequests.{goes}
-use Rattle.wax_tree.specs.Programs.{any_mark}
-use Rattle.wax_tree.specs.Begins.{behavior_range}
-use Rattle.wax_walk.proofs.Collecting.{map_ok}
-use Rattle.wax_walk.proofs.Knowing.{all_before}
-use Rattle.wax_walk.specs.Collected.{Yielded}
-use Rattle.wax_walk.specs.Forest.{nothing, pending}
-use Rattle.wax_walk.specs.Given.{is_kept}
-use Rattle.wax_exclude.specs.Pruned.{by_components}
+use Rattle.wax_exclude.specs.{GlobRequests.goes, Pruned.by_components}
+use Rattle.wax_tree.specs.{Programs.any_mark, Begins.behavior_range}
+use Rattle.wax_walk.proofs.{Collecting.map_ok, Knowing.all_before}
+use Rattle.wax_walk.specs.{Collected.Yielded, Forest.{nothing, pending}, Given.is_kept}
 use Rattle.wax.specs.GlobWalks.{request_of}
 use Rattle.wax.proofs.Kept.{fails_at_folders, gave_within, keeps_nothing, memory_only}
 use Rattle.wax.proofs.glob.Glob.collect_excluding.Goals as goal

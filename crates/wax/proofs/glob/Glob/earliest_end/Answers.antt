@@ -1,6 +1,5 @@
 use Rattle.std.proofs.Common.{◌≡◌, false, chars, sym, ap, subst}
-use Rattle.wax_token.specs.Decided.{means_tested}
-use Rattle.wax_token.specs.Meaning.{Means}
+use Rattle.wax_token.specs.{Decided.means_tested, Meaning.Means}
 use Rattle.wax.proofs.glob.Glob.earliest_end.Goals as goal
 
 pub returns : goal.returns

@@ -1,5 +1,4 @@
-use Rattle.std.proofs.Common.{◌∙◌, subst}
-use Rattle.std.proofs.lemmas.Str.{chars-nil}
+use Rattle.std.proofs.{Common.{◌∙◌, subst}, lemmas.Str.chars-nil}
 use Rattle.wax_token.specs.Reads.{Reads}
 use Rattle.wax.proofs.Globs.{is_empty_glob}
 use Rattle.wax.proofs.glob.Glob.empty.Goals as goal

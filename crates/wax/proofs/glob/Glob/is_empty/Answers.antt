@@ -1,6 +1,5 @@
 use Rattle.std.proofs.Common.{◌≡◌, ◌∙◌, rules, subst}
-use Rattle.wax_token.specs.Syntax.{leaf, literal}
-use Rattle.wax_token.specs.Words.{annotation_of}
+use Rattle.wax_token.specs.{Syntax.{leaf, literal}, Words.annotation_of}
 use Rattle.wax.specs.GlobView.{empty_tree}
 use Rattle.wax.proofs.Globs.{empty_leaf, leaf_empty, means_nothing, no_bytes, no_text}
 use Rattle.wax.proofs.glob.Glob.is_empty.Goals as goal

@@ -1,14 +1,9 @@
 use Rattle.std.proofs.Common.{◌≡◌, ◌∙◌, false, List, ℕ, chars, encode_utf8_all, IfOk, MatchOption, ap, sym}
-use Rattle.std.proofs.Common.{subst, Option, Some, None, Result, Ok, Err}
-use Rattle.std.proofs.lemmas.Str.{encodes-chars}
-use Rattle.std.specs.Global.{Vec}
-use Rattle.std.specs.Str.{IsUtf8}
-use Rattle.wax_capture.specs.Matched.{AreSpans}
-use Rattle.wax_capture.specs.Pieces.{ArePieces}
+use Rattle.std.proofs.{Common.{subst, Option, Some, None, Result, Ok, Err}, lemmas.Str.encodes-chars}
+use Rattle.std.specs.{Global.Vec, Str.IsUtf8}
+use Rattle.wax_capture.specs.{Matched.AreSpans, Pieces.ArePieces}
 use Rattle.wax_facts.proofs.Means.{as_members, of_members}
-use Rattle.wax_token.specs.Meaning.{Means, MeansEach}
-use Rattle.wax_token.specs.Reads.{Span}
-use Rattle.wax_token.specs.Words.{members}
+use Rattle.wax_token.specs.{Meaning.{Means, MeansEach}, Reads.Span, Words.members}
 use Rattle.wax.specs.GlobView.{GlobView, HasSpans, IsMeant}
 use Rattle.wax.proofs.glob.Glob.matched_spans.Goals as goal
 

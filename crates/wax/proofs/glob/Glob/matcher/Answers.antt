@@ -1,9 +1,7 @@
 use Rattle.std.proofs.Common.{◌<◌, ◌↔◌, List, ℕ, IfSome, ap, chars, false, length, subst, sym}
-use Rattle.wax_prefilter.specs.Compiled.{IsCompiled}
-use Rattle.wax_token.specs.Cost.{program_length}
-use Rattle.wax_token.specs.Meaning.{Means}
+use Rattle.wax_prefilter.specs.{Compiled.IsCompiled, Within.IsInFolder}
+use Rattle.wax_token.specs.{Cost.program_length, Meaning.Means}
 use Rattle.wax.specs.Matching.{AcceptsMeant}
-use Rattle.wax_prefilter.specs.Within.{IsInFolder}
 use Rattle.wax.proofs.Folders.{folder_meant}
 use Rattle.wax.proofs.glob.Glob.matcher.Goals as goal
 

@@ -1,6 +1,5 @@
 use Rattle.std.proofs.Common.{◌≡◌, ◌∙◌, subst}
-use Rattle.wax_token.specs.Reads.{Reads, Span}
-use Rattle.wax_token.specs.Syntax.{Tree}
+use Rattle.wax_token.specs.{Reads.{Reads, Span}, Syntax.Tree}
 use Rattle.wax.proofs.Globs.{chars_stars, is_tree_glob}
 use Rattle.wax.proofs.glob.Glob.tree.Goals as goal
 

@@ -1,9 +1,7 @@
 use Rattle.std.proofs.Common.{◌≡◌, List, ℕ, ap, subst}
 use Rattle.wax_directory.specs.Law.{Law}
-use Rattle.wax_token.specs.Reads.{Span}
-use Rattle.wax_token.specs.Syntax.{Tree}
-use Rattle.wax_tree.specs.Begins.{behavior_range}
-use Rattle.wax_tree.specs.declared.steps.DepthRange.{DepthRange}
+use Rattle.wax_token.specs.{Reads.Span, Syntax.Tree}
+use Rattle.wax_tree.specs.{Begins.behavior_range, declared.steps.DepthRange.DepthRange}
 use Rattle.wax_walk.specs.View.{WalkView}
 use Rattle.wax.specs.GlobWalks.{BeginsGlob}
 use Rattle.wax.proofs.glob.Glob.walk.Goals as goal

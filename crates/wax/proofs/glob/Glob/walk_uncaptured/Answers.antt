@@ -1,14 +1,10 @@
 use Rattle.std.proofs.Common.{◌≡◌, ◌∙◌, List, MatchOption, ap, subst, sym, ℕ}
 use Rattle.wax_facts.specs.Prefix.{Prefix}
 use Rattle.wax_exclude.specs.Prefix.{HasEmptyName, PrefixSplitsInto}
-use Rattle.wax_tree.specs.Begins.{behavior_range}
-use Rattle.wax_tree.specs.Prefix.{from_last}
-use Rattle.wax_tree.specs.declared.steps.DepthRange.{DepthRange}
+use Rattle.wax_tree.specs.{Begins.behavior_range, Prefix.from_last, declared.steps.DepthRange.DepthRange}
 use Rattle.wax_walk.proofs.Collecting.{map_ok}
-use Rattle.wax.specs.GlobView.{IsKept}
-use Rattle.wax.specs.GlobWalks.{within}
-use Rattle.wax.proofs.GoingAlong.{can_walk, none_match}
-use Rattle.wax.proofs.LeastWalks.{Selects, least_along, least_ended}
+use Rattle.wax.specs.{GlobView.IsKept, GlobWalks.within}
+use Rattle.wax.proofs.{GoingAlong.{can_walk, none_match}, LeastWalks.{Selects, least_along, least_ended}}
 use Rattle.wax.proofs.glob.Glob.walk_uncaptured.Goals as goal
 
 pub returns-in-Some-clause-begins : goal.returns-in-Some-clause-begins

@@ -1,5 +1,4 @@
-use Rattle.std.proofs.Common.{◌≡◌, encode_utf8_all, sym, ap, ◌∙◌}
-use Rattle.std.proofs.lemmas.Str.{encodes-chars}
+use Rattle.std.proofs.{Common.{◌≡◌, encode_utf8_all, sym, ap, ◌∙◌}, lemmas.Str.encodes-chars}
 use Rattle.wax.proofs.glob.GlobDisplay.fmt.Goals as goal
 
 pub returns-clause-writes : goal.returns-clause-writes

@@ -1,13 +1,9 @@
 use Rattle.std.proofs.Common.{◌≡◌, ◌∙◌, List, MatchOption, ℕ, ap, subst, sym}
 use Rattle.wax_facts.specs.Prefix.{Prefix}
-use Rattle.wax_tree.specs.Begins.{behavior_range}
-use Rattle.wax_tree.specs.Prefix.{from_last}
-use Rattle.wax_exclude.specs.Leading.{component_test}
-use Rattle.wax_exclude.specs.Prefix.{HasEmptyName}
-use Rattle.wax_tree.specs.Programs.{leading_mark}
+use Rattle.wax_tree.specs.{Begins.behavior_range, Prefix.from_last, Programs.leading_mark}
+use Rattle.wax_exclude.specs.{Leading.component_test, Prefix.HasEmptyName}
 use Rattle.wax_token.specs.Reads.{Span}
-use Rattle.wax.specs.GlobView.{IsKept}
-use Rattle.wax.specs.GlobWalks.{IsPlan, within}
+use Rattle.wax.specs.{GlobView.IsKept, GlobWalks.{IsPlan, within}}
 use Rattle.wax.proofs.GlobWalks.{begins_along, begins_ended, begins_refused, decides}
 use Rattle.wax.proofs.GoingAlong.{can_walk, none_match}
 use Rattle.wax.proofs.glob.walking.walk_in.Goals as goal

@@ -1,6 +1,5 @@
 use Rattle.std.proofs.Common.{All, subst, sym}
-use Rattle.wax_exclude.specs.Tidy.{TidiesUp}
-use Rattle.wax_exclude.specs.Undecided.{IsUndecided}
+use Rattle.wax_exclude.specs.{Tidy.TidiesUp, Undecided.IsUndecided}
 use Rattle.wax.proofs.ignoring.IgnoreList.tidied.Goals as goal
 
 pub returns-clause-tidy : goal.returns-clause-tidy

@@ -1,11 +1,8 @@
 use Rattle.std.proofs.Common.{ap, sym}
-use Rattle.wax_exclude.specs.Excluded.{excluded_mark}
-use Rattle.wax_exclude.specs.Ignored.{ignore_mark}
-use Rattle.wax_walk.specs.Candidates.{Candidate}
-use Rattle.wax_walk.specs.Given.{Mark}
+use Rattle.wax_exclude.specs.{Excluded.excluded_mark, Ignored.ignore_mark}
+use Rattle.wax_walk.specs.{Candidates.Candidate, Given.Mark}
 use Rattle.wax.proofs.Filters.{filter_below, filter_covers}
-use Rattle.wax.specs.Exclusions.{rule_by}
-use Rattle.wax.specs.declared.walk_filter.WalkFilter.{WalkFilter}
+use Rattle.wax.specs.{Exclusions.rule_by, declared.walk_filter.WalkFilter.WalkFilter}
 use Rattle.wax.proofs.walk_filter.WalkFilter.excludes_below.Goals as goal
 
 -- the rule of a filter

@@ -1,7 +1,7 @@
 -- What the box owned is owned by the handle.
 use Rattle.wax_c.proofs.Handles.{holds, block_ptr, Some, ◌≡◌, refl}
 use Rattle.wax_c.proofs.handle.GlobHandle.of.Statement.{statement}
-use Rattle.wax_c.specs.contracts.handle.{HeldGlob.the_row as R, GlobHandle.the_row as Handle}
+use Rattle.wax_c.specs.{contracts.handle.HeldGlob.the_row as R, contracts.handle.GlobHandle.the_row as Handle}
 use Rattle.wax_c.proofs.handle.GlobHandle.of.Code as code
 
 pub of_spec : {M : Type 1} → statement M

@@ -1,28 +1,23 @@
 -- `of` takes the box apart.
 use Rattle.std.proofs.Common.{◌≡◌, List, [], ◌∷◌, ◌++◌, refl, sym, ap, ◌∙◌, subst}
-use Rattle.std.proofs.{alloc.Calls.Goes-blank, alloc.Calls.handle_tells, BoxSteps.Steps.box_out}
-use Rattle.std.proofs.{BoxSteps.Steps.box_in, raw_atomic.Walks.proved_at, raw_atomic.Walks.leaves}
-use Rattle.std.proofs.{boxed.Box.into_raw_with_allocator.Met.met}
-use mir.Val.{Val, vptr, vstruct, of_list}
-use mir.{Syntax.a_type, Syntax.dcons, Syntax.dnil, Raw.raw as bare, MapTy.inst_fn}
-use base.Logic.{SProp, ent, emp, never, id⊢, fst∗}
-use base.Fml.{ftrue, fsep, flft}
+use Rattle.std.proofs.{alloc.Calls.{Goes-blank, handle_tells}, BoxSteps.Steps.{box_out, box_in}}
+use Rattle.std.proofs.{raw_atomic.Walks.{proved_at, leaves}, boxed.Box.into_raw_with_allocator.Met.met}
+use mir.{Val.{Val, vptr, vstruct, of_list}, Syntax.{a_type, dcons, dnil}, Raw.raw as bare, MapTy.inst_fn}
+use base.{Logic.{SProp, ent, emp, never, id⊢, fst∗}, Fml.{ftrue, fsep, flft}}
 use prog.Wp.{WpFn}
 use types.Kit.{‵, raw, ◌⊛◌, some, later, ◌$◌, ◌∵◌, !, qed, by, move, keep, drop, split, split3, join, fsplit}
 use types.Kit.{fjoin, fpick, pick, suffices, use0, use1, await, rewrite, feq_l}
 use types.Run.{stop, fld, of_opd, no_more, and_then, returns, enter}
-use types.ByLocal.{alloc_all, pass_all, free_all, look_at, get, get_in, sets, lands_as}
-use types.{Logic.sem, Part.agg, Part.sub, Part.whole}
-use contract.{Monad.fact, Monad.fact_i, Running.tables}
-use denote.RawPtr.{Ptr, block_ptr, null_ptr, ptr_val, in_a_block}
-use denote.{Exit.no, RattleType.RattleType, RattleType.owns, Signature.types_at, Signature.plain}
-use denote.{Builtin.RawPtr, Steps.nothing, Steps.only, Steps.heard, Param.param, Param.layout, Param.bounded}
-use denote.{Param.Laws.param_laws, Struct.Tuple.Tuple, Triple.Spec.triple_of, Triple.Call.calls_at}
-use denote.{Triple.Walked.Stays, Triple.Walked.stay_dropped, Triple.Walked.walk_of, Triple.Table.framed}
+use types.{ByLocal.{alloc_all, pass_all, free_all, look_at, get, get_in, sets, lands_as}, Logic.sem}
+use types.Part.{agg, sub, whole}
+use contract.{Monad.{fact, fact_i}, Running.tables}
+use denote.{RawPtr.{Ptr, block_ptr, null_ptr, ptr_val, in_a_block}, Exit.no, RattleType.{RattleType, owns}}
+use denote.{Signature.{types_at, plain}, Builtin.RawPtr, Steps.{nothing, only, heard}}
+use denote.{Param.{param, layout, bounded}, Param.Laws.param_laws, Struct.Tuple.Tuple, Triple.Spec.triple_of}
+use denote.{Triple.Call.calls_at, Triple.Walked.{Stays, stay_dropped, walk_of}, Triple.Table.framed}
 use Rattle.std.specs.Box.Ownership.{box_owns}
-use Rattle.wax_c.proofs.{Values.both, Values.loose_good, Values.loose_in, loose.Loose.of.Statement.statement}
-use Rattle.wax_c.specs.contracts.loose.Loose.of.{ended, clauses}
-use Rattle.wax_c.specs.contracts.loose.Loose.of.Key.{name as #self}
+use Rattle.wax_c.proofs.{Values.{both, loose_good, loose_in}, loose.Loose.of.Statement.statement}
+use Rattle.wax_c.specs.{contracts.loose.Loose.of.{ended, clauses}, contracts.loose.Loose.of.Key.name as #self}
 use Rattle.std.proofs.BoxSteps.Form as box
 use Rattle.std.specs.contracts.boxed.Box.into_raw_with_allocator as callee
 use Rattle.wax_c.proofs.loose.Loose.of.Code as code

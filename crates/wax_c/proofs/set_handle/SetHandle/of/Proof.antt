@@ -1,7 +1,8 @@
 -- What the box owned is owned by the handle.
 use Rattle.wax_c.proofs.Handles.{holds, block_ptr, Some, ◌≡◌, refl}
 use Rattle.wax_c.proofs.set_handle.SetHandle.of.Statement.{statement}
-use Rattle.wax_c.specs.contracts.set_handle.{HeldSet.the_row as R, SetHandle.the_row as Handle}
+use Rattle.wax_c.specs.contracts.set_handle.HeldSet.{the_row as R}
+use Rattle.wax_c.specs.contracts.set_handle.SetHandle.{the_row as Handle}
 use Rattle.wax_c.proofs.set_handle.SetHandle.of.Code as code
 
 pub of_spec : {M : Type 1} → statement M

@@ -1,8 +1,7 @@
 use Rattle.std.proofs.Common.{◌≡◌, ◌∷◌, ◌+◌, ◌≤◌, ◌<◌, ℕ, suc, Bool, List, Some, drop, drop-cons, get_or}
 use Rattle.std.proofs.Common.{length, length-drop, slice_get, arith, rules, ap, subst, sym, ◌∙◌}
-use Rattle.wax_lengths.specs.declared.form.Form.{Form}
+use Rattle.wax_lengths.specs.{declared.form.Form.Form, FirstLetters.{group_of, letter_of}}
 use Rattle.wax_lengths.proofs.Lists.{slice_read}
-use Rattle.wax_lengths.specs.FirstLetters.{group_of, letter_of}
 use Rattle.wax_capture.specs.inner.Letters.{AreLinked, ArePassed, NoneBegins}
 use Rattle.wax_capture.proofs.Linking.{passed_empty, passed_join, passed_more, passed_with}
 use Rattle.wax_capture.proofs.letters.ByLetter.next_form.Goals as goal

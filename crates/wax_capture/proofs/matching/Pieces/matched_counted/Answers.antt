@@ -2,15 +2,10 @@ use Rattle.std.proofs.Common.{◌≡◌, ◌+◌, ◌≤◌, ◌∙◌, false, L
 use Rattle.std.proofs.Common.{subst}
 use Rattle.std.specs.List.{All}
 use Rattle.wax_token.specs.Cost.{costs}
-use Rattle.wax_capture.specs.Pieces.{ArePieces}
-use Rattle.wax_capture.specs.inner.Bytes.{in_bytes}
-use Rattle.wax_capture.specs.inner.Parts.{IsWithin, parts}
-use Rattle.wax_capture.specs.inner.Splits.{CapturedBy, all_sizes, split_visits}
-use Rattle.wax_capture.specs.declared.piece.Piece.{Piece}
-use Rattle.wax_capture.proofs.Built.{pieces_few}
-use Rattle.wax_capture.proofs.ByteParts.{text_all_parts, text_parts}
-use Rattle.wax_capture.proofs.Counting.{visits_cube, visits_square, visits_taken}
-use Rattle.wax_capture.proofs.Sizeless.{captured_length}
+use Rattle.wax_capture.specs.{Pieces.ArePieces, inner.Bytes.in_bytes, inner.Parts.{IsWithin, parts}}
+use Rattle.wax_capture.specs.{inner.Splits.{CapturedBy, all_sizes, split_visits}, declared.piece.Piece.Piece}
+use Rattle.wax_capture.proofs.{Built.pieces_few, ByteParts.{text_all_parts, text_parts}}
+use Rattle.wax_capture.proofs.{Counting.{visits_cube, visits_square, visits_taken}, Sizeless.captured_length}
 use Rattle.wax_capture.proofs.Tied.{matched_only, none_means, some_matched}
 use Rattle.wax_capture.proofs.matching.Pieces.matched_counted.Goals as goal
 

@@ -1,12 +1,9 @@
 use Rattle.std.proofs.Common.{◌≡◌, ◌≤◌, [], false, List, ℕ, chars, map, rules, sym, subst}
 use Rattle.std.specs.List.{All}
-use Rattle.wax_capture.specs.Pieces.{ArePieces}
-use Rattle.wax_capture.specs.inner.Bytes.{in_bytes, span_between}
-use Rattle.wax_capture.specs.inner.Parts.{IsWithin, parts}
-use Rattle.wax_capture.specs.inner.Splits.{CapturedBy, PlacedBy}
+use Rattle.wax_capture.specs.{Pieces.ArePieces, inner.Bytes.{in_bytes, span_between}}
+use Rattle.wax_capture.specs.{inner.Parts.{IsWithin, parts}, inner.Splits.{CapturedBy, PlacedBy}}
 use Rattle.wax_capture.specs.declared.piece.Piece.{Piece}
-use Rattle.wax_capture.proofs.Placing.{are_spans, ordered}
-use Rattle.wax_capture.proofs.Tied.{none_means}
+use Rattle.wax_capture.proofs.{Placing.{are_spans, ordered}, Tied.none_means}
 use Rattle.wax_capture.proofs.matching.Pieces.spans.Goals as goal
 
 pub returns-in_default : goal.returns-in_default

@@ -1,14 +1,11 @@
-use Rattle.std.proofs.Common.{◌≡◌, ◌↔◌, ◌++◌, ◌∷◌, [], IsTrue, None, Some, nat_eq, length, replicate, refl}
-use Rattle.std.proofs.Common.{sym, ◌∙◌, ap, arith, subst}
-use Rattle.wax_compare.specs.declared.automaton.ProgramState.{ProgramState}
-use Rattle.std.specs.Cmp.Lexicographic.{pointwise}
-use Rattle.std.specs.HashMap.{Updates, get_by}
-use Rattle.wax_program.specs.Threads.{AnyAmong}
-use Rattle.wax_compare.specs.Limit.{IsReachedState}
-use Rattle.wax_compare.specs.Selected.{IsSelected}
-use Rattle.wax_compare.specs.inner.Automata.{AcceptAlike, StatesStay, same_places, state_places}
+use Rattle.std.proofs.Common.{◌≡◌, ◌↔◌, ◌++◌, ◌∷◌, [], IsTrue, length, replicate, refl, sym, ◌∙◌, ap, arith}
+use Rattle.std.proofs.Common.{subst}
+use Rattle.wax_compare.specs.{declared.automaton.ProgramState.ProgramState, Limit.IsReachedState}
+use Rattle.wax_compare.specs.{Selected.IsSelected, inner.Automata.{StatesStay, all_places, state_places}}
 use Rattle.wax_compare.specs.inner.Distinctions.{MarksOthers}
-use Rattle.wax_compare.proofs.Automata.{added, added_places, index_more, keeps_append, new_state}
+use Rattle.wax_program.specs.Threads.{AnyAmong}
+use Rattle.wax_states.specs.Indexed.{AreIndexed, HasNone}
+use Rattle.wax_compare.proofs.Automata.{added, added_places, keeps_append, new_state}
 use Rattle.wax_compare.proofs.automaton.Automaton.add.Goals as goal
 
 pub returns-clause-automaton : goal.returns-clause-automaton
@@ -27,40 +24,37 @@ returns-clause-automaton c =
       states = c.push.new.self;
       stepper = c.selects.new.stepper;
       distinctions = c.mark.new.self;
-      index = c.insert.new.self;
+      index = c.enter.new.self;
       numbers = c.selects.new.numbers;
       bytes = c.saturating_add-self.result;
       meter = c.selects.new.meter;
     } in
-    let places : s.places.items ≡ old.sought.items =
+    let places : s.places.items ≡ reached =
     c.in_ok-places.ensures.items ∙ c.deref-3.ensures.value in
-    let key : c.in_ok-key.key.items ≡ old.sought.items =
-    c.in_ok-key.ensures.items ∙ c.deref-4.ensures.value in
-    let number : c.len-number.result ≡ length old.states.items =
-    omega (arith, c.len-number.ensures, old.states.ok.0) in
     let zeros : s.next.items ≡ replicate (length letters) 0 =
     c.in_ok-next.ensures.items_if_clones_equal (λ y e. e) in
+    let ends : IsTrue s.is_selected ↔ IsSelected old.criterion (AnyAmong code reached) [] =
+    subst (λ z. IsTrue s.is_selected ↔ IsSelected old.criterion (AnyAmong code z) []) c.deref.ensures.value
+    c.in_ok-is_selected.ensures.selected in
     let marks : MarksOthers code letters reached s.marked.items =
     subst (λ z. MarksOthers code letters z s.marked.items) c.deref-2.ensures.value
     c.in_ok-marked.ensures.marked in
     added code letters old new s c.requires.automaton c.selects.ensures.same refl c.in_ok-marked.ensures.kept
     c.in_ok-push.ensures.items
-    (new_state old.criterion code letters (old.states.items ++ s ∷ []) s reached
+    (new_state old.criterion code letters (old.states.items ++ s ∷ []) s
     (subst (IsReachedState code) (sym places) c.requires.state)
-    (subst (λ z. AcceptAlike code z reached) (sym places) c.requires.alike)
-    (subst (λ z. IsTrue s.is_selected ↔ IsSelected old.criterion (AnyAmong code z) []) c.deref.ensures.value
-    c.in_ok-is_selected.ensures.selected) marks (length letters) refl zeros)
-    (index_more old.states.items s old.index c.insert.new.self c.in_ok-key.key
-    (key ∙ sym places) c.requires.automaton.index
-    (subst (λ z. get_by (λ p. pointwise nat_eq z p.items) old.index ≡ None) (sym key) c.requires.absent)
-    (subst (λ n. Updates same_places old.index c.insert.new.self c.in_ok-key.key (Some n)) number
-    c.in_ok-insert.ensures.updates))
+    (subst (λ z. IsTrue s.is_selected ↔ IsSelected old.criterion (AnyAmong code z) []) (sym places) ends)
+    (subst (λ z. MarksOthers code letters z s.marked.items) (sym places) marks) (length letters) refl zeros)
+    (subst (λ z. AreIndexed c.enter.new.self (all_places z ++ s.places.items ∷ [])) c.deref-4.ensures.value
+    (c.in_ok-enter.ensures (subst (λ z. AreIndexed old.index (all_places z)) (sym c.deref-4.ensures.value)
+    c.requires.automaton.index)))
+    (subst (HasNone (all_places old.states.items)) (sym places) c.requires.absent)
     (omega (
       arith,
       c.saturating_add-self.ensures,
       c.bytes_of.ensures,
       c.len.ensures,
-      old.sought.ok.0,
+      old.reached.ok.0,
       ap length places,
     ))
 
@@ -88,5 +82,5 @@ returns-clause-places c =
     let told = added_places old new s c.in_ok-push.ensures.items in
     let number : c.len-number.result ≡ length old =
     omega (arith, c.len-number.ensures, c.args.self.now.states.ok.0) in
-    subst (λ n. state_places new n ≡ c.args.self.now.sought.items) (sym number)
+    subst (λ n. state_places new n ≡ c.args.self.now.reached.items) (sym number)
     (told.1 ∙ c.in_ok-places.ensures.items ∙ c.deref-3.ensures.value)

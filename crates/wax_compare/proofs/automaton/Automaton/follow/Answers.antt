@@ -1,10 +1,8 @@
-use Rattle.std.proofs.Common.{◌≡◌, ◌∙◌, [], length, slice_index, refl, sym, ap, arith, subst}
+use Rattle.std.proofs.Common.{◌≡◌, length, slice_index, refl, sym, arith, subst}
 use Rattle.std.proofs.lemmas.Option.{slice_get_read}
-use Rattle.wax_compare.specs.Limit.{IsReachedState}
-use Rattle.wax_compare.specs.inner.Automata.{LeadsToState, state_places, option_places}
-use Rattle.wax_states.specs.Reached.{AreReached, taken_if}
-use Rattle.wax_compare.proofs.Automata.{fill_keeps, filled, keeps_more, known_step, step_keeps, step_to}
-use Rattle.wax_compare.proofs.Automata.{text_on}
+use Rattle.wax_compare.specs.{Limit.IsReachedState, inner.Automata.{LeadsToState, state_places}}
+use Rattle.wax_compare.proofs.Automata.{fill_keeps, filled, keeps_more, known_step, state_on, step_keeps}
+use Rattle.wax_compare.proofs.Automata.{step_to}
 use Rattle.wax_compare.proofs.automaton.Automaton.follow.Goals as goal
 
 pub index-known-requires : goal.index-known-requires
@@ -25,19 +23,18 @@ returns-then-known-ne0-clause-step c =
     c.args.number c.index-known.result.now s at (c.requires.automaton.rows c.args.state s at)
     c.requires.number c.index-known.ensures c.if-known-ne0.true
 
-pub intern-requires-clause-text : goal.intern-requires-clause-text
-intern-requires-clause-text c =
+pub intern-requires-clause-state : goal.intern-requires-clause-state
+intern-requires-clause-state c =
     let code = c.args.program.now.0 in
     let old = c.args.self.now.states.items in
-    let letter = slice_index c.args.letters.now c.args.number in
     let s = c.index-2.result.now in
     let at = slice_get_read old (length old) c.args.state s refl c.requires.state c.index-2.ensures in
-    let places : c.deref-2.result.now ≡ s.places.items =
-    c.deref-2.ensures.value ∙ c.in_ok-copy_wide.ensures ∙ c.deref.ensures.value in
-    let state : IsReachedState code c.deref-2.result.now =
-    subst (IsReachedState code) (sym places) (c.requires.automaton.rows c.args.state s at).reached in
-    text_on code c.letter_at-letter.result c.deref-2.result.now c.step.new.reached.items
-    c.in_ok-step.field-0 c.letter_at-letter.ensures.scalar c.in_ok-step.ensures.reaches state
+    let places : c.deref.result.now ≡ s.places.items = c.deref.ensures.value in
+    let told = c.in_ok-reach.ensures in
+    state_on code c.letter_at-letter.result c.deref.result.now c.reach.new.reached.items
+    c.letter_at-letter.ensures.scalar
+    (subst (IsReachedState code) (sym places) (c.requires.automaton.rows c.args.state s at).reached)
+    told.reaches told.ascending told.within
 
 pub returns-clause-step : goal.returns-clause-step
 returns-clause-step c =
@@ -49,16 +46,11 @@ returns-clause-step c =
     let next = c.in_ok-next.next in
     let s = c.index-2.result.now in
     let at = slice_get_read old (length old) c.args.state s refl c.requires.state c.index-2.ensures in
-    let places : c.deref-2.result.now ≡ state_places old c.args.state =
-    c.deref-2.ensures.value ∙ c.in_ok-copy_wide.ensures ∙ c.deref.ensures.value ∙ sym (ap option_places at) in
-    let is : c.letter_at-letter.result ≡ letter = c.letter_at-letter.ensures.letter in
-    let reaches : AreReached code letter c.deref-2.result.now (taken_if c.in_ok-step.field-0 [])
-    c.step.new.reached.items = subst (λ n. AreReached code n c.deref-2.result.now
-    (taken_if c.in_ok-step.field-0 []) c.step.new.reached.items) is c.in_ok-step.ensures.reaches in
     step_keeps code mid new (fill_keeps mid new c.args.state c.args.number next c.learn.ensures)
     (state_places old c.args.state) letter next
-    (step_to code old mid letter c.args.state next c.deref-2.result.now c.step.new.reached.items
-    c.in_ok-step.field-0 places reaches c.in_ok-next.ensures.within c.in_ok-next.ensures.places)
+    (step_to code old mid c.args.state next c.letter_at-letter.result letter s c.deref.result.now
+    c.reach.new.reached.items at c.deref.ensures.value c.letter_at-letter.ensures.letter
+    c.in_ok-reach.ensures.reaches c.in_ok-next.ensures.within c.in_ok-next.ensures.places)
 
 pub returns-clause-kept : goal.returns-clause-kept
 returns-clause-kept c =
@@ -77,18 +69,12 @@ returns-clause-automaton c =
     let next = c.in_ok-next.next in
     let s = c.index-2.result.now in
     let at = slice_get_read old (length old) c.args.state s refl c.requires.state c.index-2.ensures in
-    let places : c.deref-2.result.now ≡ state_places old c.args.state =
-    c.deref-2.ensures.value ∙ c.in_ok-copy_wide.ensures ∙ c.deref.ensures.value ∙ sym (ap option_places at) in
-    let is : c.letter_at-letter.result ≡ letter = c.letter_at-letter.ensures.letter in
-    let reaches : AreReached code letter c.deref-2.result.now (taken_if c.in_ok-step.field-0 [])
-    c.step.new.reached.items = subst (λ n. AreReached code n c.deref-2.result.now
-    (taken_if c.in_ok-step.field-0 []) c.step.new.reached.items) is c.in_ok-step.ensures.reaches in
-    let step : LeadsToState code mid (state_places old c.args.state) letter next =
-    step_to code old mid letter c.args.state next c.deref-2.result.now c.step.new.reached.items
-    c.in_ok-step.field-0 places reaches c.in_ok-next.ensures.within c.in_ok-next.ensures.places in
     let there : LeadsToState code mid (state_places mid c.args.state) letter next =
     subst (λ z. LeadsToState code mid z letter next)
-    (sym (c.in_ok-next.ensures.kept c.args.state c.requires.state).1) step in
+    (sym (c.in_ok-next.ensures.kept c.args.state c.requires.state).1)
+    (step_to code old mid c.args.state next c.letter_at-letter.result letter s c.deref.result.now
+    c.reach.new.reached.items at c.deref.ensures.value c.letter_at-letter.ensures.letter
+    c.in_ok-reach.ensures.reaches c.in_ok-next.ensures.within c.in_ok-next.ensures.places) in
     filled mid new c.args.state c.args.number next c.learn.ensures code c.args.letters.now there
     c.intern.new.self (record c.intern.new.self { states = c.learn.new.states })
     refl refl refl refl refl refl refl

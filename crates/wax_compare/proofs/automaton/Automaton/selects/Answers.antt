@@ -1,8 +1,6 @@
-use Rattle.std.proofs.Common.{[], IsTrue, ◌↔◌, length, refl, sym, ap, subst}
-use Rattle.std.proofs.lemmas.Option.{slice_get_read}
+use Rattle.std.proofs.{Common.{[], IsTrue, ◌↔◌, length, refl, sym, ap, subst}, lemmas.Option.slice_get_read}
 use Rattle.wax_program.specs.Threads.{AnyAmong}
-use Rattle.wax_compare.specs.Selected.{IsSelected}
-use Rattle.wax_compare.specs.inner.Automata.{option_places}
+use Rattle.wax_compare.specs.{Selected.IsSelected, inner.Automata.option_places}
 use Rattle.wax_compare.proofs.automaton.Automaton.selects.Goals as goal
 
 pub returns : goal.returns

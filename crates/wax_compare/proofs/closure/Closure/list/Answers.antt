@@ -1,5 +1,4 @@
-use Rattle.std.proofs.Common.{◌≡◌, ◌<◌, length, slice_index, arith, subst, ◌∙◌}
-use Rattle.std.proofs.lemmas.List.{get_or_default}
+use Rattle.std.proofs.{Common.{◌≡◌, ◌<◌, length, slice_index, arith, subst, ◌∙◌}, lemmas.List.get_or_default}
 use Rattle.wax_compare.specs.inner.Distinctions.{GoesOnIn}
 use Rattle.wax_compare.proofs.Closures.{closing_more}
 use Rattle.wax_compare.proofs.closure.Closure.list.Goals as goal

@@ -1,7 +1,5 @@
-use Rattle.std.proofs.Common.{◌≡◌, not, List, length, replicate, slice_index, sym, ◌∙◌, ap, subst}
-use Rattle.std.proofs.Common.{inl, inr, arith}
-use Rattle.std.proofs.Common.{Bool}
-use Rattle.std.proofs.lemmas.List.{length-replicate}
+use Rattle.std.proofs.Common.{◌≡◌, not, List, length, replicate, slice_index, sym, ◌∙◌, ap, subst, inl, inr}
+use Rattle.std.proofs.{Common.{arith, Bool}, lemmas.List.length-replicate}
 use Rattle.wax_compare.specs.inner.Distinctions.{AreMarkedAt, KeepsMarks}
 use Rattle.wax_compare.proofs.Distinguished.{all_marked, keeps_marks_on, keeps_marks_same, marks_all}
 use Rattle.wax_compare.proofs.Distinguished.{marks_others, places_more, true_or_false}

@@ -1,7 +1,5 @@
 use Rattle.std.proofs.Common.{◌≡◌, Bool, true, false, IsTrue, not, refl}
-use Rattle.wax_compare.specs.inner.Automata.{state_places}
-use Rattle.wax_compare.specs.inner.Reaching.{Readings}
-use Rattle.wax_compare.specs.inner.Searching.{readings}
+use Rattle.wax_compare.specs.{inner.Automata.state_places, inner.Reaching.Readings, inner.Searching.readings}
 use Rattle.wax_compare.proofs.Steps.{goes_here}
 use Rattle.wax_compare.proofs.search.Search.is_wanted.Goals as goal
 

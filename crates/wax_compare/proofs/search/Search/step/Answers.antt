@@ -1,10 +1,8 @@
 use Rattle.std.proofs.Common.{◌≡◌, slice_index, refl, subst, sym, ap, true≢false, ◌∙◌}
 use Rattle.std.proofs.lemmas.List.{get_or_default}
-use Rattle.wax_compare.specs.declared.pairs.StatePair.{StatePair}
-use Rattle.wax_compare.specs.declared.search.Search.{Search}
+use Rattle.wax_compare.specs.{declared.pairs.StatePair.StatePair, declared.search.Search.Search}
 use Rattle.wax_compare.specs.inner.Going.{IsAllowed, begun_after}
-use Rattle.wax_compare.specs.inner.Automata.{LeadsToState, state_places}
-use Rattle.wax_compare.specs.inner.Reaching.{Readings}
+use Rattle.wax_compare.specs.{inner.Automata.{LeadsToState, state_places}, inner.Reaching.Readings}
 use Rattle.wax_compare.specs.inner.Searching.{readings}
 use Rattle.wax_compare.proofs.Searching.{next_first, next_not_allowed, next_pair, next_second, step_here}
 use Rattle.wax_compare.proofs.search.Search.step.Goals as goal

@@ -1,6 +1,5 @@
 use Rattle.std.proofs.Common.{◌≡◌, drop, fold}
-use Rattle.wax_components.specs.Parts.{literals_text}
-use Rattle.wax_components.specs.inner.Dots.{dot_after, dots_of}
+use Rattle.wax_components.specs.{Parts.literals_text, inner.Dots.{dot_after, dots_of}}
 use Rattle.wax_components.proofs.parts.LiteralSequence.dots.Given as goal
 
 abbrev pub invariant-loop-token : goal.invariant-loop-token

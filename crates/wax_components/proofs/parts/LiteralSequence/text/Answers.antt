@@ -1,6 +1,5 @@
 use Rattle.std.proofs.Common.{◌≡◌, ◌∙◌, ◌+◌, ◌++◌, ◌∷◌, ap, sym, chars, drop, string_bytes}
-use Rattle.std.proofs.lemmas.List.{append_assoc, drop_more}
-use Rattle.std.proofs.lemmas.Str.{chars-append, IsUtf8-string_bytes}
+use Rattle.std.proofs.{lemmas.List.{append_assoc, drop_more}, lemmas.Str.{chars-append, IsUtf8-string_bytes}}
 use Rattle.wax_components.proofs.Texts.{no_text}
 use Rattle.wax_components.specs.Parts.{literals_text}
 use Rattle.wax_components.proofs.parts.LiteralSequence.text.Goals as goal

@@ -1,8 +1,6 @@
 use Rattle.std.proofs.Common.{◌∙◌, ◌-◌, ap, sym}
-use Rattle.wax_components.specs.inner.Profiles.{power, power_range, union}
-use Rattle.wax_components.specs.inner.Saturation.{saturated}
-use Rattle.wax_components.proofs.Basics.{le_to}
-use Rattle.wax_components.proofs.Saturation.{power_range_closed, power_range_open}
+use Rattle.wax_components.specs.{inner.Profiles.{power, power_range, union}, inner.Saturation.saturated}
+use Rattle.wax_components.proofs.{Basics.le_to, Saturation.{power_range_closed, power_range_open}}
 use Rattle.wax_components.proofs.profile.Profile.power_range.Goals as goal
 
 pub returns-then-lower-upper : goal.returns-then-lower-upper

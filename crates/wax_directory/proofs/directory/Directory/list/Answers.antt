@@ -1,11 +1,10 @@
-use Rattle.std.proofs.Common.{rules, arith, ap, ◌∙◌, length, length-append, ◌+◌, ◌++◌, ◌∷◌}
-use Rattle.std.proofs.Common.{[], refl, subst, Option, Ok, Err, ◌≡◌}
-use Rattle.wax_directory.specs.Law.{HoldsLast}
-use Rattle.wax_directory.proofs.Listing.{taken_none, taken_more, coming_end, coming_most}
-use Rattle.wax_directory.proofs.Listing.{coming_still, coming_kept, left_dropped}
-use Rattle.wax_directory.proofs.Listing.{counts_on, counts_end, counts_most, opening_failed}
-use Rattle.wax_directory.specs.Counting.{Counts, next_counts}
+use Rattle.std.proofs.Common.{rules, arith, ap, ◌∙◌, length, length-append, ◌+◌, ◌++◌, ◌∷◌, [], refl, subst}
+use Rattle.std.proofs.Common.{Option, Ok, Err, ◌≡◌}
+use Rattle.wax_directory.specs.{Law.HoldsLast, Counting.{Counts, next_counts}}
 use Rattle.wax_directory.specs.declared.directory.ListItem.{ListItem}
+use Rattle.wax_directory.proofs.Listing.{taken_none, taken_more, coming_end, coming_most, coming_still}
+use Rattle.wax_directory.proofs.Listing.{coming_kept, left_dropped, counts_on, counts_end, counts_most}
+use Rattle.wax_directory.proofs.Listing.{opening_failed}
 use Rattle.wax_directory.proofs.directory.Directory.list.Goals as goal
 
 pub returns-in_err-cursor-clause-list : goal.returns-in_err-cursor-clause-list

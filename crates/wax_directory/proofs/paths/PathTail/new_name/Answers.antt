@@ -1,6 +1,5 @@
 use Rattle.std.proofs.Common.{◌≡◌, Some, true, false, sym, ◌∙◌}
-use Rattle.wax_directory.specs.Nodes.{names_of}
-use Rattle.wax_directory.specs.PathTails.{first_name, holds_name}
+use Rattle.wax_directory.specs.{Nodes.names_of, PathTails.{first_name, holds_name}}
 use Rattle.wax_directory.proofs.Planting.{first_of, has_among, name_taken, name_free}
 use Rattle.wax_directory.proofs.paths.PathTail.new_name.Goals as goal
 

@@ -1,11 +1,11 @@
 use Rattle.std.proofs.Common.{refl, ◌∙◌, subst}
-use Rattle.wax_directory.specs.declared.tree.Node.TheViews as V
 use Rattle.wax_directory.specs.declared.tree.Node.TheViews.{out-TreeItem}
-use Rattle.wax_directory.proofs.Copying.{SameLayer, SameItems, same_step, same_all, same_entry}
-use Rattle.wax_directory.proofs.Copying.{same_failed, same_not_text, folder_copy}
-use Rattle.wax_directory.proofs.tree.Node.+copied.Goals as goal
+use Rattle.wax_directory.proofs.Copying.{SameLayer, SameItems, same_step, same_all, same_entry, same_failed}
+use Rattle.wax_directory.proofs.Copying.{same_not_text, folder_copy}
 use Rattle.wax_directory.proofs.tree.Node.+copied.Goals.{in-Entry+in_ok-name-in-Entry+in_ok-copied-in-Entry}
 use Rattle.wax_directory.proofs.tree.Node.+copied.Goals.{in-Failed, in-NotText}
+use Rattle.wax_directory.specs.declared.tree.Node.TheViews as V
+use Rattle.wax_directory.proofs.tree.Node.+copied.Goals as goal
 
 pub loop-item-preserved : goal.loop-item-preserved
 loop-item-preserved t c =

@@ -1,7 +1,5 @@
 use Rattle.std.proofs.Common.{◌≡◌, ◌<◌, ℕ, List, Some, slice_get, subst, sym, ◌∙◌, ap, arith, MatchBool}
-use Rattle.wax_directory.specs.declared.tree.Node.{Node}
-use Rattle.wax_directory.specs.declared.tree.TreeItem.{TreeItem}
-use Rattle.wax_directory.specs.Names.{are_distinct}
+use Rattle.wax_directory.specs.{declared.tree.Node.Node, declared.tree.TreeItem.TreeItem, Names.are_distinct}
 use Rattle.wax_directory.specs.Nodes.{HasDistinctNames, HasDuplicateName, names_of, held, entry_node}
 use Rattle.wax_directory.proofs.Finding.{other_distinct, own_duplicate, below_duplicate, folder_held}
 use Rattle.wax_directory.proofs.Finding.{folder_distinct, entry_at, no_entry_at, entry_within, one_more}

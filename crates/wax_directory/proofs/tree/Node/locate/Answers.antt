@@ -1,6 +1,5 @@
 use Rattle.std.proofs.Common.{map, Ok, ap, ◌∙◌}
-use Rattle.wax_directory.specs.inner.Places.{reached_at}
-use Rattle.wax_directory.specs.Nodes.{reached}
+use Rattle.wax_directory.specs.{inner.Places.reached_at, Nodes.reached}
 use Rattle.wax_directory.proofs.Finding.{step_reached, step_placed}
 use Rattle.wax_directory.proofs.tree.Node.locate.Goals as goal
 

@@ -1,9 +1,7 @@
 use Rattle.std.proofs.Common.{◌≡◌, ◌+◌, ◌∙◌, sym, ap, drop, Some, None}
 use Rattle.std.specs.Option.{option_map}
-use Rattle.wax_directory.specs.Answers.{listed_of}
-use Rattle.wax_directory.specs.Nodes.{listed_item, items_shown}
-use Rattle.wax_directory.specs.Shown.{first_item, rest_of}
-use Rattle.wax_directory.specs.TreeCursors.{last_parts, one_more}
+use Rattle.wax_directory.specs.{Answers.listed_of, Nodes.{listed_item, items_shown}}
+use Rattle.wax_directory.specs.{Shown.{first_item, rest_of}, TreeCursors.{last_parts, one_more}}
 use Rattle.wax_directory.specs.Trees.{item_among}
 use Rattle.wax_directory.proofs.Cursors.{given, ended, none_of}
 use Rattle.wax_directory.proofs.tree.Tree.advance.Goals as goal

@@ -1,7 +1,5 @@
-use Rattle.std.proofs.Common.{◌<◌, ◌+◌, ◌≤◌, ap, chars, length, subst, sym}
-use Rattle.std.proofs.lemmas.Result.{IfOk-weaker}
-use Rattle.wax_exclude.proofs.DecidingLine.{deciding_by}
-use Rattle.wax_exclude.proofs.ListLengths.{list_within}
+use Rattle.std.proofs.{Common.{◌<◌, ◌+◌, ◌≤◌, ap, chars, length, subst, sym}, lemmas.Result.IfOk-weaker}
+use Rattle.wax_exclude.proofs.{DecidingLine.deciding_by, ListLengths.list_within}
 use Rattle.wax_lazy.specs.Cost.{path_visits}
 use Rattle.wax_exclude.specs.Deciding.{IsDecidingLine, SaysLines}
 use Rattle.wax_exclude.proofs.deciding.DecidingLines.deciding_line_metered.Goals as goal

@@ -1,13 +1,10 @@
 use Rattle.std.proofs.Common.{◌↔◌, ◌∷◌, [], ℕ, List, subst}
 use Rattle.std.specs.Prelude.{MatchOption}
 use Rattle.wax_compare.proofs.Answering.{answer_as}
-use Rattle.wax_compare.specs.Limit.{KeepsLimit}
-use Rattle.wax_compare.specs.declared.wanted.Texts.TheVariants.{Paths}
-use Rattle.wax_exclude.proofs.IdleLines.{only_one}
-use Rattle.wax_exclude.proofs.Undecided.{line_too_large, others_too_large, past_limit}
+use Rattle.wax_compare.specs.{Limit.KeepsLimit, declared.wanted.Texts.TheVariants.Paths}
+use Rattle.wax_exclude.proofs.{IdleLines.only_one, Undecided.{line_too_large, others_too_large, past_limit}}
 use Rattle.wax_exclude.proofs.idle.Lines.compare.Goals.{In-Some, In-Some-2}
-use Rattle.wax_exclude.specs.Idle.{LineMeans}
-use Rattle.wax_exclude.specs.Undecided.{AreTooLarge, SomeLineMeans}
+use Rattle.wax_exclude.specs.{Idle.LineMeans, Undecided.{AreTooLarge, SomeLineMeans}}
 use Rattle.wax_program.specs.Machine.{Accepts}
 use Rattle.wax_exclude.proofs.idle.Lines.compare.Goals as goal
 

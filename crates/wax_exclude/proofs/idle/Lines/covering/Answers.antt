@@ -1,11 +1,9 @@
 use Rattle.std.proofs.Common.{◌∙◌, ◌≤◌, ◌<◌, ◌∷◌, [], ℕ, Option, ap, arith, chars, length, length-append}
 use Rattle.std.proofs.Common.{refl, subst, sym}
 use Rattle.std.specs.Prelude.{unwrap_or}
-use Rattle.wax_compare.specs.Comparison.{IsWanted}
-use Rattle.wax_compare.specs.declared.wanted.Texts.TheVariants.{Paths}
+use Rattle.wax_compare.specs.{Comparison.IsWanted, declared.wanted.Texts.TheVariants.Paths}
 use Rattle.wax_compare.specs.declared.wanted.Wanted.TheVariants.{FirstOnly}
-use Rattle.wax_exclude.specs.Idle.{LineMeans}
-use Rattle.wax_exclude.specs.Undecided.{SomeLineMeans}
+use Rattle.wax_exclude.specs.{Idle.LineMeans, Undecided.SomeLineMeans}
 use Rattle.wax_exclude.proofs.IdleLines.{covered, last_of_some}
 use Rattle.wax_exclude.proofs.Undecided.{last_means, no_others, one_other, others_few}
 use Rattle.wax_exclude.proofs.idle.Lines.covering.Goals as goal

@@ -1,11 +1,9 @@
 use Rattle.std.proofs.Common.{◌<◌, ◌∷◌, ◌∙◌, [], arith, get_or, length, subst, sym}
 use Rattle.std.proofs.lemmas.Option.{slice_get-get_or}
-use Rattle.wax_compare.specs.Comparison.{IsAnswer, IsWanted}
-use Rattle.wax_compare.specs.declared.wanted.Texts.TheVariants.{Paths}
+use Rattle.wax_compare.specs.{Comparison.{IsAnswer, IsWanted}, declared.wanted.Texts.TheVariants.Paths}
 use Rattle.wax_compare.specs.declared.wanted.Wanted.TheVariants.{Both}
 use Rattle.wax_exclude.proofs.IdleLines.{takes_none_of_other, takes_nothing, takes_some}
-use Rattle.wax_exclude.specs.Idle.{LineMeans}
-use Rattle.wax_exclude.specs.Undecided.{SomeLineMeans}
+use Rattle.wax_exclude.specs.{Idle.LineMeans, Undecided.SomeLineMeans}
 use Rattle.wax_exclude.proofs.idle.Lines.has_effect.Goals as goal
 
 pub loop-earlier-preserved-then-not-ignores : goal.loop-earlier-preserved-then-not-ignores

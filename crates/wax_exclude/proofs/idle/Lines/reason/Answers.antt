@@ -1,9 +1,6 @@
-use Rattle.std.proofs.Common.{subst}
-use Rattle.std.proofs.lemmas.Option.{none-some}
-use Rattle.std.specs.Bool.{MatchBool}
-use Rattle.std.specs.Prelude.{MatchOption}
-use Rattle.wax_exclude.specs.Idle.{HasEffect, LineIgnores, LineMeans, TakesNothing}
-use Rattle.wax_exclude.specs.Undecided.{IsUndecided}
+use Rattle.std.proofs.{Common.subst, lemmas.Option.none-some}
+use Rattle.std.specs.{Bool.MatchBool, Prelude.MatchOption}
+use Rattle.wax_exclude.specs.{Idle.{HasEffect, LineIgnores, LineMeans, TakesNothing}, Undecided.IsUndecided}
 use Rattle.wax_exclude.specs.inner.Idle.{IsCovering}
 use Rattle.wax_exclude.proofs.idle.Lines.reason.Goals as goal
 

@@ -1,7 +1,6 @@
 use Rattle.std.proofs.Common.{◌↔◌, ◌++◌, ◌∷◌, [], IsTrue, false, subst, sym}
 use Rattle.wax_compare.specs.Selected.{HasOddLast}
-use Rattle.wax_program.specs.Closed.{IsClosed}
-use Rattle.wax_program.specs.Machine.{Accepts, mark}
+use Rattle.wax_program.specs.{Closed.IsClosed, Machine.{Accepts, mark}}
 use Rattle.wax_exclude.proofs.Numbering.{numbers_select}
 use Rattle.wax_exclude.specs.inner.Listed.{ignored_by}
 use Rattle.wax_exclude.proofs.numbers.NumberedLines.selector.Goals as goal

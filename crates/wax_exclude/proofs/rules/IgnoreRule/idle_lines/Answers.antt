@@ -1,7 +1,6 @@
 use Rattle.std.proofs.Common.{◌∙◌, subst}
 use Rattle.std.specs.Prelude.{IfOk}
-use Rattle.wax_exclude.specs.Idle.{AreIdle}
-use Rattle.wax_exclude.specs.Undecided.{AreUndecided}
+use Rattle.wax_exclude.specs.{Idle.AreIdle, Undecided.AreUndecided}
 use Rattle.wax_exclude.proofs.rules.IgnoreRule.idle_lines.Goals as goal
 
 pub returns-clause-idle : goal.returns-clause-idle

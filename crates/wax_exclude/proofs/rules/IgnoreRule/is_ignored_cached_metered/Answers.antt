@@ -1,11 +1,8 @@
 use Rattle.std.proofs.Common.{◌∙◌, ap, chars, map, subst}
 use Rattle.wax_walk.specs.Candidates.{in_characters}
-use Rattle.wax_exclude.proofs.ListingLines.{split_mark}
-use Rattle.wax_exclude.proofs.ListLengths.{lines_within}
+use Rattle.wax_exclude.proofs.{ListingLines.split_mark, ListLengths.lines_within}
 use Rattle.wax_exclude.proofs.Remembered.{excluded_if_ignored}
-use Rattle.wax_exclude.specs.Ignored.{is_ignored}
-use Rattle.wax_exclude.specs.inner.Numbers.{KnowsLines}
-use Rattle.wax_exclude.specs.inner.Split.{split_of}
+use Rattle.wax_exclude.specs.{Ignored.is_ignored, inner.Numbers.KnowsLines, inner.Split.split_of}
 use Rattle.wax_exclude.proofs.rules.IgnoreRule.is_ignored_cached_metered.Goals as goal
 
 pub residue-requires : goal.residue-requires

@@ -1,7 +1,6 @@
 use Rattle.std.proofs.Common.{◌∙◌, false, map, subst, sym}
 use Rattle.wax_exclude.proofs.ListingLines.{ignored_split}
-use Rattle.wax_exclude.specs.inner.Numbers.{KnowsLines}
-use Rattle.wax_exclude.specs.inner.Split.{split_of}
+use Rattle.wax_exclude.specs.{inner.Numbers.KnowsLines, inner.Split.split_of}
 use Rattle.wax_exclude.proofs.rules.IgnoreRuleCompared.selector.Goals as goal
 
 pub returns-clause-selects : goal.returns-clause-selects

@@ -1,10 +1,7 @@
-use Rattle.std.proofs.Common.{◌∙◌, ap, map, subst}
-use Rattle.std.proofs.lemmas.Result.{IfOk-weaker}
+use Rattle.std.proofs.{Common.{◌∙◌, ap, map, subst}, lemmas.Result.IfOk-weaker}
 use Rattle.wax_walk.specs.Candidates.{in_characters}
 use Rattle.wax_exclude.proofs.ListingLines.{split_mark}
-use Rattle.wax_exclude.specs.Ignored.{ignore_mark}
-use Rattle.wax_exclude.specs.inner.Numbers.{KnowsLines}
-use Rattle.wax_exclude.specs.inner.Split.{split_of}
+use Rattle.wax_exclude.specs.{Ignored.ignore_mark, inner.Numbers.KnowsLines, inner.Split.split_of}
 use Rattle.wax_exclude.proofs.rules.IgnoreRuleExclude.residue.Goals as goal
 
 pub returns : goal.returns

@@ -1,6 +1,5 @@
 use Rattle.std.proofs.Common.{◌≡◌, ◌++◌}
-use Rattle.wax_token.specs.Syntax.{trees_size}
-use Rattle.wax_token.specs.Words.{trees}
+use Rattle.wax_token.specs.{Syntax.trees_size, Words.trees}
 use Rattle.wax_facts.specs.Alternatives.{alternatives, joined, levels_each}
 use Rattle.wax_facts.proofs.alternatives.listed.by_level.Given as goal
 

@@ -1,14 +1,12 @@
 use Rattle.std.proofs.Common.{◌≡◌, ◌+◌, ◌≤◌, ◌∷◌, ◌++◌, [], List, arith, ap, ◌∙◌, drop, rules, sym}
 use Rattle.std.proofs.lemmas.List.{drop_more}
-use Rattle.wax_token.specs.Syntax.{Tree, tree_size, trees_size}
-use Rattle.wax_token.specs.Words.{trees}
-use Rattle.wax_facts.specs.Alternatives.{levels}
-use Rattle.wax_facts.specs.inner.Opened.{own_levels}
+use Rattle.wax_token.specs.{Syntax.{Tree, tree_size, trees_size}, Words.trees}
+use Rattle.wax_facts.specs.{Alternatives.levels, inner.Opened.own_levels}
 use Rattle.wax_facts.proofs.Levels.{branches_below, one_found, size_append, size_taken, still}
 use Rattle.wax_facts.proofs.Opens.{own_alone, own_branches}
-use Rattle.wax_facts.proofs.alternatives.listed.next_level.Goals as goal
 use Rattle.wax_facts.proofs.alternatives.listed.next_level.Goals.{in-Some+in_ok-push_each-in-Some}
 use Rattle.wax_facts.proofs.alternatives.listed.next_level.Goals.{in-None+in_ok-push-in-None}
+use Rattle.wax_facts.proofs.alternatives.listed.next_level.Goals as goal
 
 pub loop-alternative-preserved : goal.loop-alternative-preserved
 loop-alternative-preserved g c =

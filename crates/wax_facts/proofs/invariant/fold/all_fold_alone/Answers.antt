@@ -1,8 +1,7 @@
 use Rattle.std.proofs.Common.{◌≡◌, ◌+◌, ◌<◌, ◌∷◌, ◌++◌, [], ℕ, List, map, length, get_or, arith, refl, sym}
 use Rattle.std.proofs.Common.{subst, true≢false, drop, rules, IsTrue, chars}
 use Rattle.std.proofs.lemmas.Iterator.{YieldsList-from_chars}
-use Rattle.std.proofs.lemmas.Iterator.Consumers.{YieldsList-turn, YieldsList-end}
-use Rattle.std.proofs.lemmas.List.{length_push}
+use Rattle.std.proofs.{lemmas.Iterator.Consumers.{YieldsList-turn, YieldsList-end}, lemmas.List.length_push}
 use Rattle.wax_facts.specs.InvariantText.{AllFoldAlone}
 use Rattle.wax_facts.proofs.FoldedAlone.{alone_step, alone_at, alone_end}
 use Rattle.wax_facts.proofs.invariant.fold.all_fold_alone.Goals as goal

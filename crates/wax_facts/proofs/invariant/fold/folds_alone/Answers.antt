@@ -1,5 +1,4 @@
-use Rattle.std.proofs.Common.{rules}
-use Rattle.std.proofs.lemmas.List.Sorted.{answers_always}
+use Rattle.std.proofs.{Common.rules, lemmas.List.Sorted.answers_always}
 use Rattle.wax_facts.proofs.FoldTable.{searched_alone}
 use Rattle.wax_facts.proofs.invariant.fold.folds_alone.Goals as goal
 

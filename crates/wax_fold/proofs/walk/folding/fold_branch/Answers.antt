@@ -1,7 +1,6 @@
 use Rattle.std.proofs.Common.{◌∙◌, refl, map}
 use Rattle.wax_token.specs.Words.{annotation_of}
-use Rattle.wax_fold.specs.Branches.{branch_of}
-use Rattle.wax_fold.specs.inner.BranchFolded.{branch_folded}
+use Rattle.wax_fold.specs.{Branches.branch_of, inner.BranchFolded.branch_folded}
 use Rattle.wax_fold.specs.inner.OpenBranches.{open_branch, folding, counting}
 use Rattle.wax_fold.proofs.Folds.{folded_token, begun, deeper, back, fewer_deeper, fewer_back}
 use Rattle.wax_fold.proofs.Picking.{mapped_last}

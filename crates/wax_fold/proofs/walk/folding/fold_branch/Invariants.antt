@@ -1,7 +1,5 @@
 use Rattle.std.proofs.Common.{◌≡◌, ◌+◌, map}
-use Rattle.wax_fold.specs.Branches.{branch_of}
-use Rattle.wax_fold.specs.Folded.{folded}
-use Rattle.wax_fold.specs.inner.BranchFolded.{branch_folded}
+use Rattle.wax_fold.specs.{Branches.branch_of, Folded.folded, inner.BranchFolded.branch_folded}
 use Rattle.wax_fold.specs.inner.OpenBranches.{open_branch, folding, branch_visits}
 use Rattle.wax_fold.specs.inner.Opens.{closed, closed_all, steps_in, steps_left}
 use Rattle.wax_fold.proofs.walk.folding.fold_branch.Given as goal

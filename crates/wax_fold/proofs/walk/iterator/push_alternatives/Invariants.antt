@@ -1,6 +1,5 @@
 use Rattle.std.proofs.Common.{◌≡◌, ◌++◌, map, drop}
-use Rattle.wax_fold.specs.Order.{disjuncts}
-use Rattle.wax_fold.specs.Walking.{walk_entry}
+use Rattle.wax_fold.specs.{Order.disjuncts, Walking.walk_entry}
 use Rattle.wax_fold.proofs.walk.iterator.push_alternatives.Given as goal
 
 abbrev pub invariant-loop-branch : goal.invariant-loop-branch

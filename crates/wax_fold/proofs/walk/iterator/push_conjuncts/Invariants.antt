@@ -1,6 +1,5 @@
 use Rattle.std.proofs.Common.{◌≡◌, ◌++◌, map, drop}
-use Rattle.wax_fold.specs.Order.{conjuncts}
-use Rattle.wax_fold.specs.Walking.{walk_entry}
+use Rattle.wax_fold.specs.{Order.conjuncts, Walking.walk_entry}
 use Rattle.wax_fold.proofs.walk.iterator.push_conjuncts.Given as goal
 
 abbrev pub invariant-loop-child : goal.invariant-loop-child

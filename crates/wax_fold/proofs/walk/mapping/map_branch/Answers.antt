@@ -1,7 +1,6 @@
 use Rattle.std.proofs.Common.{◌∙◌, refl, map}
 use Rattle.wax_token.specs.View.{branch_tree}
-use Rattle.wax_fold.specs.Mapped.{mapped}
-use Rattle.wax_fold.specs.inner.OpenTokens.{open_token, mapping}
+use Rattle.wax_fold.specs.{Mapped.mapped, inner.OpenTokens.{open_token, mapping}}
 use Rattle.wax_fold.proofs.Maps.{mapped_parts, begun, deeper, back, fewer_deeper, fewer_back}
 use Rattle.wax_fold.proofs.Picking.{mapped_last}
 use Rattle.wax_fold.proofs.walk.mapping.map_branch.Goals as goal

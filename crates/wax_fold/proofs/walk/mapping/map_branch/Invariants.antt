@@ -1,7 +1,6 @@
 use Rattle.std.proofs.Common.{◌≡◌, ◌+◌, map}
 use Rattle.wax_token.specs.View.{branch_tree}
-use Rattle.wax_fold.specs.Mapped.{mapped}
-use Rattle.wax_fold.specs.inner.OpenTokens.{open_token, mapping, tree_visits}
+use Rattle.wax_fold.specs.{Mapped.mapped, inner.OpenTokens.{open_token, mapping, tree_visits}}
 use Rattle.wax_fold.specs.inner.Opens.{closed, closed_all, steps_in, steps_left}
 use Rattle.wax_fold.proofs.walk.mapping.map_branch.Given as goal
 

@@ -1,6 +1,5 @@
 use Rattle.std.proofs.Common.{◌≤◌, ℕ, ap, length, refl, sym, ◌∙◌, subst, arith, inl, inr}
-use Rattle.wax_lazy.specs.inner.Cached.{AreStepped}
-use Rattle.wax_lazy.specs.inner.Table.{KeepsStates, Leads, own_at}
+use Rattle.wax_lazy.specs.{inner.Cached.AreStepped, inner.Table.{KeepsStates, Leads, own_at}}
 use Rattle.wax_states.specs.States.{IsDead, IsTransition, LeadOn, LeadsNext, TakesAll, cell_of_next}
 use Rattle.wax_states.specs.States.{places_at, places_or_none}
 use Rattle.wax_lazy.proofs.Caches.{cache_filled}

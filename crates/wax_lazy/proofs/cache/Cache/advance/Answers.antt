@@ -1,5 +1,4 @@
-use Rattle.std.proofs.Common.{sym, subst}
-use Rattle.std.proofs.lemmas.Result.{IfOk-weaker}
+use Rattle.std.proofs.{Common.{sym, subst}, lemmas.Result.IfOk-weaker}
 use Rattle.wax_states.proofs.Replaced.{leads_alike}
 use Rattle.wax_states.specs.States.{LeadsNext, places_at}
 use Rattle.wax_lazy.proofs.cache.Cache.advance.Goals as goal

@@ -1,9 +1,7 @@
 use Rattle.std.proofs.Common.{◌≡◌, ◌+◌, ◌∷◌, ℕ, List, arith, drop, length, sym, ◌∙◌, ap}
 use Rattle.wax_states.specs.States.{places_at}
 use Rattle.wax_lazy.specs.Cost.{char_visits}
-use Rattle.wax_lazy.proofs.Costs.{fill_after, spent_all, spent_one}
-use Rattle.wax_lazy.proofs.Chains.{next_decides}
-use Rattle.wax_lazy.proofs.Walking.{next_of}
+use Rattle.wax_lazy.proofs.{Costs.{fill_after, spent_all, spent_one}, Chains.next_decides, Walking.next_of}
 use Rattle.wax_lazy.proofs.cache.Cache.advance_far.Goals as goal
 
 pub returns-clause-decides : goal.returns-clause-decides

@@ -1,8 +1,7 @@
 use Rattle.std.proofs.Common.{◌≡◌, ◌∷◌, [], ◌∙◌, sym, subst, rules}
 use Rattle.wax_lazy.specs.inner.Table.{BeginsTexts}
 use Rattle.wax_states.specs.States.{places_at}
-use Rattle.wax_lazy.proofs.Caches.{cache_cleared}
-use Rattle.wax_lazy.proofs.Tables.{begun}
+use Rattle.wax_lazy.proofs.{Caches.cache_cleared, Tables.begun}
 use Rattle.wax_lazy.proofs.cache.Cache.begin.Goals as goal
 
 pub intern-requires-clause-cache : goal.intern-requires-clause-cache

@@ -1,8 +1,6 @@
 use Rattle.std.proofs.Common.{[], arith, refl, sym, ◌∙◌, subst}
 use Rattle.wax_states.specs.States.{HasState, places_at}
-use Rattle.wax_lazy.proofs.Chains.{own_ends, failure_ends, said_ends}
-use Rattle.wax_lazy.proofs.Tables.{failure_at}
-use Rattle.wax_lazy.proofs.Walking.{decides_by}
+use Rattle.wax_lazy.proofs.{Chains.{own_ends, failure_ends, said_ends}, Tables.failure_at, Walking.decides_by}
 use Rattle.wax_program.specs.Threads.{AnyAmong}
 use Rattle.wax_lazy.proofs.cache.Cache.computed.Goals as goal
 

@@ -1,8 +1,6 @@
 use Rattle.std.proofs.Common.{IfOk, Some, subst, sym, ◌∙◌}
-use Rattle.wax_lazy.proofs.Joining.{joined_keeps}
-use Rattle.wax_lazy.proofs.Tables.{known_are, placed_keeps, places_keep}
-use Rattle.wax_lazy.specs.inner.Cached.{numbers_at}
-use Rattle.wax_lazy.specs.inner.Table.{AreNumbersOf, KeepsStates, numbers_in}
+use Rattle.wax_lazy.proofs.{Joining.joined_keeps, Tables.{known_are, placed_keeps, places_keep}}
+use Rattle.wax_lazy.specs.{inner.Cached.numbers_at, inner.Table.{AreNumbersOf, KeepsStates, numbers_in}}
 use Rattle.wax_states.specs.States.{HasState, places_at, places_in}
 use Rattle.wax_lazy.proofs.cache.Cache.find_numbers.Goals as goal
 

@@ -1,18 +1,12 @@
-use Rattle.std.proofs.Common.{◌≡◌, ◌+◌, ◌*◌, ◌↔◌, ◌⊎◌, ◌∷◌, ◌++◌}
-use Rattle.std.proofs.Common.{◌<◌, ◌≤◌, ℕ, List, IfSome, true, drop, length}
-use Rattle.std.proofs.Common.{refl, sym, ◌∙◌, ap, subst, arith}
-use Rattle.wax_lazy.specs.Cost.{char_visits, fill_visits}
-use Rattle.wax_lazy.specs.inner.Cached.{DecidesLeft}
+use Rattle.std.proofs.Common.{◌≡◌, ◌+◌, ◌*◌, ◌↔◌, ◌⊎◌, ◌∷◌, ◌++◌, ◌<◌, ◌≤◌, ℕ, List, IfSome, true, drop}
+use Rattle.std.proofs.Common.{length, refl, sym, ◌∙◌, ap, subst, arith}
+use Rattle.wax_lazy.specs.{Cost.{char_visits, fill_visits}, inner.Cached.DecidesLeft}
 use Rattle.wax_lazy.proofs.Costs.{char_large, fill_large, spent_all, spent_one, spent_two}
-use Rattle.wax_states.specs.States.{HasState, places_at, places_or_none}
 use Rattle.wax_lazy.proofs.Chains.{all_on, both_on, check_within, chain_begins, chain_ends, next_placed}
-use Rattle.wax_lazy.proofs.Chains.{failure_on}
-use Rattle.wax_lazy.proofs.Walking.{next_of}
-use Rattle.wax_program.specs.Checks.{IsCheckAt}
-use Rattle.wax_program.specs.Machine.{Accepts}
-use Rattle.wax_program.specs.Threads.{AnyAmong}
-use Rattle.wax_lazy.proofs.cache.Cache.follow_chain.Goals.{then-end-text}
-use Rattle.wax_lazy.proofs.cache.Cache.follow_chain.Goals.{else-end-text+else-is_full+in-None}
+use Rattle.wax_lazy.proofs.{Chains.failure_on, Walking.next_of}
+use Rattle.wax_lazy.proofs.cache.Cache.follow_chain.Goals.{then-end-text, else-end-text+else-is_full+in-None}
+use Rattle.wax_states.specs.States.{HasState, places_at, places_or_none}
+use Rattle.wax_program.specs.{Checks.IsCheckAt, Machine.Accepts, Threads.AnyAmong}
 use Rattle.wax_lazy.proofs.cache.Cache.follow_chain.Goals as goal
 
 pub loop-next-init : goal.loop-next-init

@@ -1,11 +1,8 @@
-use Rattle.std.proofs.Common.{◌≡◌, ◌↔◌, ◌⊎◌, ◌<◌, ◌≤◌, ◌+◌, ◌*◌, ◌-◌}
-use Rattle.std.proofs.Common.{◌++◌, ℕ, List, IfSome, drop, get_or, length, true}
-use Rattle.wax_lazy.specs.Cost.{char_visits}
-use Rattle.wax_lazy.specs.inner.Cached.{IsCacheOf, IsChain}
+use Rattle.std.proofs.Common.{◌≡◌, ◌↔◌, ◌⊎◌, ◌<◌, ◌≤◌, ◌+◌, ◌*◌, ◌-◌, ◌++◌, ℕ, List, IfSome, drop, get_or}
+use Rattle.std.proofs.Common.{length, true}
+use Rattle.wax_lazy.specs.{Cost.char_visits, inner.Cached.{IsCacheOf, IsChain}}
 use Rattle.wax_states.specs.States.{HasState, places_or_none}
-use Rattle.wax_program.specs.Checks.{IsCheckAt}
-use Rattle.wax_program.specs.Machine.{Accepts}
-use Rattle.wax_program.specs.Threads.{AnyAmong}
+use Rattle.wax_program.specs.{Checks.IsCheckAt, Machine.Accepts, Threads.AnyAmong}
 use Rattle.wax_lazy.proofs.cache.Cache.follow_chain.Given as goal
 
 abbrev pub invariant-loop-next : goal.invariant-loop-next

@@ -1,8 +1,6 @@
-use Rattle.std.proofs.Common.{◌∙◌, arith}
-use Rattle.std.proofs.lemmas.Result.{IfOk-weaker}
+use Rattle.std.proofs.{Common.{◌∙◌, arith}, lemmas.Result.IfOk-weaker}
 use Rattle.wax_lazy.proofs.Caches.{added_grows, added_places, added_room, added_within, cache_kept}
-use Rattle.wax_lazy.proofs.Caches.{state_parted}
-use Rattle.wax_lazy.proofs.Tables.{keeps_same}
+use Rattle.wax_lazy.proofs.{Caches.state_parted, Tables.keeps_same}
 use Rattle.wax_lazy.proofs.cache.Cache.intern.Goals as goal
 
 pub returns-in-Some-clause-interned : goal.returns-in-Some-clause-interned

@@ -1,9 +1,7 @@
-use Rattle.std.proofs.Common.{◌∙◌, ℕ, ap, refl, sym, subst}
-use Rattle.std.proofs.lemmas.Result.{IfOk-weaker}
+use Rattle.std.proofs.{Common.{◌∙◌, ℕ, ap, refl, sym, subst}, lemmas.Result.IfOk-weaker}
 use Rattle.wax_lazy.specs.inner.Table.{IsJoinOf}
 use Rattle.wax_states.specs.States.{places_at}
-use Rattle.wax_lazy.proofs.Caches.{interned_after}
-use Rattle.wax_lazy.proofs.Tables.{union_of_parts}
+use Rattle.wax_lazy.proofs.{Caches.interned_after, Tables.union_of_parts}
 use Rattle.wax_program.specs.Threads.{AreParts}
 use Rattle.wax_lazy.proofs.cache.Cache.intern_parted.Goals as goal
 

@@ -1,7 +1,6 @@
 use Rattle.std.proofs.Common.{◌≡◌, Some, refl, sym, ◌∙◌, subst}
 use Rattle.wax_states.specs.States.{places_at}
-use Rattle.wax_lazy.proofs.Caches.{cache_numbers}
-use Rattle.wax_lazy.proofs.Tables.{settled_keeps, settled_numbers}
+use Rattle.wax_lazy.proofs.{Caches.cache_numbers, Tables.{settled_keeps, settled_numbers}}
 use Rattle.wax_lazy.specs.inner.Table.{AreNumbersOf}
 use Rattle.wax_lazy.proofs.cache.Cache.keep_numbers.Goals as goal
 

@@ -1,6 +1,5 @@
 use Rattle.std.proofs.Common.{arith, refl, subst, sym, ◌∙◌}
-use Rattle.wax_lazy.proofs.Joining.{joined_more, joined_none}
-use Rattle.wax_lazy.proofs.Tables.{failure_at}
+use Rattle.wax_lazy.proofs.{Joining.{joined_more, joined_none}, Tables.failure_at}
 use Rattle.wax_lazy.specs.inner.Table.{AreJoined, own_at}
 use Rattle.wax_states.specs.States.{HasState}
 use Rattle.wax_lazy.proofs.cache.Cache.list_own_numbers.Goals as goal

@@ -1,6 +1,5 @@
 use Rattle.std.proofs.Common.{◌≡◌, ◌≤◌, ◌+◌, ◌*◌, length}
-use Rattle.wax_lazy.specs.inner.Cached.{IsCacheOf}
-use Rattle.wax_lazy.specs.inner.Table.{AreJoined}
+use Rattle.wax_lazy.specs.{inner.Cached.IsCacheOf, inner.Table.AreJoined}
 use Rattle.wax_states.specs.States.{HasState}
 use Rattle.wax_lazy.proofs.cache.Cache.list_own_numbers.Given as goal
 

@@ -1,7 +1,6 @@
 use Rattle.std.proofs.Common.{◌∙◌, [], true, ap, sym, subst}
-use Rattle.wax_states.specs.Reached.{AreReached, taken_if}
+use Rattle.wax_states.specs.{Reached.{AreReached, taken_if}, States.{IsDead, LeadOn, places_or_none}}
 use Rattle.wax_lazy.specs.inner.Table.{own_in}
-use Rattle.wax_states.specs.States.{IsDead, LeadOn, places_or_none}
 use Rattle.wax_lazy.proofs.Tables.{all_leads, nowhere_dead}
 use Rattle.wax_lazy.proofs.cache.Cache.step_own.Goals as goal
 

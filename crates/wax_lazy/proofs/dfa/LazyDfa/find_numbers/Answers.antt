@@ -1,6 +1,5 @@
 use Rattle.std.proofs.Common.{IfSome, chars, length, subst}
-use Rattle.wax_lazy.proofs.Costs.{listed_within}
-use Rattle.wax_lazy.proofs.Numbering.{followed_numbers}
+use Rattle.wax_lazy.proofs.{Costs.listed_within, Numbering.followed_numbers}
 use Rattle.wax_lazy.specs.inner.Cached.{IsKeptFor, numbers_at}
 use Rattle.wax_lazy.proofs.dfa.LazyDfa.find_numbers.Goals as goal
 

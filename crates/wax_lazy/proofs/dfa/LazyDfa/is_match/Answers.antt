@@ -1,7 +1,5 @@
 use Rattle.std.proofs.Common.{IfSome, chars, length, subst}
-use Rattle.wax_lazy.proofs.Costs.{matched_within, once_within}
-use Rattle.wax_lazy.proofs.Numbering.{followed_text}
-use Rattle.wax_lazy.proofs.Walking.{decides_by}
+use Rattle.wax_lazy.proofs.{Costs.{matched_within, once_within}, Numbering.followed_text, Walking.decides_by}
 use Rattle.wax_lazy.specs.inner.Cached.{IsKeptFor}
 use Rattle.wax_lazy.proofs.dfa.LazyDfa.is_match.Goals as goal
 

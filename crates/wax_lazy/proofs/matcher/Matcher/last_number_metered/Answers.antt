@@ -1,7 +1,6 @@
 use Rattle.std.proofs.Common.{◌≡◌, ◌∙◌, ◌-◌, chars, length, slice_get, subst, sym}
 use Rattle.wax_lazy.proofs.Numbering.{last_where}
-use Rattle.wax_lazy.specs.inner.Cached.{numbers_known}
-use Rattle.wax_lazy.specs.Numbers.{AreNumbers}
+use Rattle.wax_lazy.specs.{inner.Cached.numbers_known, Numbers.AreNumbers}
 use Rattle.wax_lazy.proofs.matcher.Matcher.last_number_metered.Goals as goal
 
 pub returns-clause-last : goal.returns-clause-last

@@ -1,6 +1,5 @@
 use Rattle.std.proofs.Common.{◌∙◌, chars, subst}
-use Rattle.wax_lazy.specs.inner.Cached.{numbers_known}
-use Rattle.wax_lazy.specs.Numbers.{AreNumbers}
+use Rattle.wax_lazy.specs.{inner.Cached.numbers_known, Numbers.AreNumbers}
 use Rattle.wax_lazy.proofs.matcher.Matcher.list_numbers_metered.Goals as goal
 
 pub returns-clause-numbers : goal.returns-clause-numbers

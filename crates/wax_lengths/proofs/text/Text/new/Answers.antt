@@ -1,5 +1,4 @@
-use Rattle.std.proofs.Common.{◌∙◌, rules, sym}
-use Rattle.std.proofs.lemmas.Str.{chars-IsAscii, chars_from_encodes}
+use Rattle.std.proofs.{Common.{◌∙◌, rules, sym}, lemmas.Str.{chars-IsAscii, chars_from_encodes}}
 use Rattle.wax_lengths.proofs.text.Text.new.Goals as goal
 
 pub returns-then-is_ascii : goal.returns-then-is_ascii

@@ -1,5 +1,4 @@
-use Rattle.std.proofs.Common.{eqb, w8, arith}
-use Rattle.std.proofs.lemmas.Simd.{bitmask_splat}
+use Rattle.std.proofs.{Common.{eqb, w8, arith}, lemmas.Simd.bitmask_splat}
 use Rattle.wax_lines.proofs.lines.feed.feeds.Goals as goal
 
 pub returns : goal.returns

@@ -1,5 +1,4 @@
-use Rattle.std.proofs.Common.{sym, ap, ◌∙◌, ◌+◌, arith}
-use Rattle.std.proofs.lemmas.List.Sums.{position_or_len_is}
+use Rattle.std.proofs.{Common.{sym, ap, ◌∙◌, ◌+◌, arith}, lemmas.List.Sums.position_or_len_is}
 use Rattle.wax_lines.specs.inner.Sifted.{is_feed}
 use Rattle.wax_lines.proofs.Feeds.{found_at, none_further}
 use lib.Count.{count_trailing_zeros}

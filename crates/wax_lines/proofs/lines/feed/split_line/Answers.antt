@@ -1,5 +1,4 @@
-use Rattle.std.proofs.Common.{◌+◌, refl, arith}
-use Rattle.std.proofs.lemmas.List.{take_all, length-drop}
+use Rattle.std.proofs.{Common.{◌+◌, refl, arith}, lemmas.List.{take_all, length-drop}}
 use Rattle.wax_lines.proofs.Cuts.{cut_at_feed, no_feed}
 use Rattle.wax_lines.proofs.lines.feed.split_line.Goals as goal
 

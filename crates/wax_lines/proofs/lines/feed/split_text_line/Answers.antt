@@ -1,8 +1,7 @@
 use Rattle.std.proofs.Common.{◌≡◌, ◌<◌, ℕ, ◌-◌, List, length, take, get_or, ap, ◌∙◌, subst, sym, arith}
 use Rattle.std.proofs.lemmas.Str.{IsCharBoundary-before_ascii, IsCharBoundary-after_ascii}
 use Rattle.std.specs.List.{position_or_len}
-use Rattle.wax_lines.proofs.Cuts.{cut_at_feed, no_feed}
-use Rattle.wax_lines.proofs.Feeds.{byte_at_feed}
+use Rattle.wax_lines.proofs.{Cuts.{cut_at_feed, no_feed}, Feeds.byte_at_feed}
 use Rattle.wax_lines.specs.inner.Sifted.{is_feed}
 use Rattle.wax_lines.proofs.lines.feed.split_text_line.Goals as goal
 

@@ -2,8 +2,7 @@ use Rattle.std.proofs.Common.{chars, [], ◌∷◌, ◌++◌, take, ap, sym, ◌
 use Rattle.std.proofs.lemmas.Option.{slice_get_within}
 use Rattle.wax_query.specs.Matched.{texts}
 use Rattle.wax_lines.specs.Lines.{tabbed}
-use Rattle.wax_lines.proofs.Sifting.{on_err}
-use Rattle.wax_lines.proofs.Tabs.{encoded, tabbed_next, added_next, longer_next}
+use Rattle.wax_lines.proofs.{Sifting.on_err, Tabs.{encoded, tabbed_next, added_next, longer_next}}
 use Rattle.wax_lines.proofs.lines.line_writer.add_texts.Goals as goal
 
 pub loop-capture-init : goal.loop-capture-init

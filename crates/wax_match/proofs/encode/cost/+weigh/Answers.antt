@@ -1,8 +1,6 @@
 use Rattle.std.proofs.Common.{◌≡◌, ◌+◌, ◌*◌, List, [], ◌∷◌, length, arith, refl, ap, ◌∙◌, min}
 use Rattle.wax_match.specs.inner.Limits.{longest}
-use Rattle.wax_token.specs.Cost.{branches_cost, costs}
-use Rattle.wax_token.specs.Syntax.{Tree}
-use Rattle.wax_token.specs.Words.{trees}
+use Rattle.wax_token.specs.{Cost.{branches_cost, costs}, Syntax.Tree, Words.trees}
 use Rattle.wax_match.proofs.encode.cost.+weigh.Goals as goal
 
 with_forks : {A : Type 0} (ts : List (Tree A)) → branches_cost (trees ts) ≡ costs (trees ts) + 2 * length ts

@@ -1,8 +1,6 @@
 use Rattle.std.proofs.Common.{◌≡◌, ◌+◌, ◌*◌, ◌≤◌, ◌||◌, drop, min}
 use Rattle.wax_match.specs.inner.Limits.{longest}
-use Rattle.wax_token.specs.Cost.{costs, some_holds_tree}
-use Rattle.wax_token.specs.Syntax.{tree_size, trees_size}
-use Rattle.wax_token.specs.Words.{trees}
+use Rattle.wax_token.specs.{Cost.{costs, some_holds_tree}, Syntax.{tree_size, trees_size}, Words.trees}
 use Rattle.wax_match.proofs.encode.cost.+weigh.Given as goal
 
 abbrev pub decreases-weigh : goal.decreases-weigh

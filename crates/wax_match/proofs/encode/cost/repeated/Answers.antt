@@ -1,6 +1,5 @@
 use Rattle.std.proofs.Common.{◌≡◌, ◌≤◌, ◌+◌, ◌*◌, ◌-◌, ◌^◌, ℕ, zero, suc, min, arith, inl, inr, ◌∙◌, ap}
-use Rattle.std.proofs.lemmas.Bool.{cases_lt}
-use Rattle.std.proofs.Math.Nat.{mul-le-mul_left, mul-le-mul_right}
+use Rattle.std.proofs.{lemmas.Bool.cases_lt, Math.Nat.{mul-le-mul_left, mul-le-mul_right}}
 use Rattle.wax_match.specs.inner.Limits.{longest}
 use Rattle.wax_token.specs.Cost.{copies_of}
 use Rattle.wax_match.proofs.encode.cost.repeated.Goals as goal

@@ -1,9 +1,7 @@
 use Rattle.std.proofs.Common.{◌≤◌, ◌+◌, ap, arith, length, length-append, ◌∷◌, [], subst, sum_by}
 use Rattle.std.proofs.lemmas.List.{take_all}
-use Rattle.wax_match.proofs.Joining.{left_all, left_more, left_none}
-use Rattle.wax_match.proofs.LeftCosts.{patterns_fit}
-use Rattle.wax_match.specs.Numbered.{numbered_length}
-use Rattle.wax_match.specs.inner.LeftCost.{left_cost}
+use Rattle.wax_match.proofs.{Joining.{left_all, left_more, left_none}, LeftCosts.patterns_fit}
+use Rattle.wax_match.specs.{Numbered.numbered_length, inner.LeftCost.left_cost}
 use Rattle.wax_match.proofs.encode.ends.all_of.Goals as goal
 
 pub loop-numbered-init : goal.loop-numbered-init

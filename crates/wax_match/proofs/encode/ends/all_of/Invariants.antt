@@ -1,7 +1,6 @@
 use Rattle.std.proofs.Common.{◌≡◌, ◌≤◌, ◌+◌, length, sum_by, take}
 use Rattle.wax_match.proofs.Joining.{AreLeft}
-use Rattle.wax_match.specs.Numbered.{numbered_length}
-use Rattle.wax_match.specs.inner.LeftCost.{left_cost}
+use Rattle.wax_match.specs.{Numbered.numbered_length, inner.LeftCost.left_cost}
 use Rattle.wax_match.proofs.encode.ends.all_of.Given as goal
 
 abbrev pub invariant-loop-numbered : goal.invariant-loop-numbered

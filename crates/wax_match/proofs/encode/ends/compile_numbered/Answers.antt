@@ -1,8 +1,7 @@
 use Rattle.std.proofs.Common.{◌≡◌, ◌↔◌, ◌++◌, ◌∷◌, [], ◌∙◌, ap, sym, subst}
 use Rattle.wax_match.proofs.EndPieces.{ends_accept}
 use Rattle.wax_match.specs.Numbered.{MeansNumbered}
-use Rattle.wax_program.specs.Closed.{IsClosed}
-use Rattle.wax_program.specs.Machine.{Accepts, mark}
+use Rattle.wax_program.specs.{Closed.IsClosed, Machine.{Accepts, mark}}
 use Rattle.wax_match.proofs.encode.ends.compile_numbered.Goals as goal
 
 pub returns-clause-means : goal.returns-clause-means

@@ -1,12 +1,7 @@
 use Rattle.std.proofs.Common.{◌≡◌, ◌∙◌, [], ◌∷◌, ap, arith, subst, sym, false}
-use Rattle.wax_match.proofs.LeftCosts.{slash_one}
-use Rattle.wax_match.proofs.Lefts.{spelt_literal, spelt_separator}
-use Rattle.wax_match.specs.declared.encode.left.Gap.TheVariants.{Nothing}
-use Rattle.wax_match.specs.inner.Left.{AreSame, SpeltMeans}
-use Rattle.wax_token.specs.Cost.{cost}
-use Rattle.wax_token.specs.Meaning.{Means}
-use Rattle.wax_token.specs.Syntax.{leaf, literal}
-use Rattle.wax_token.specs.View.{leaf_of}
+use Rattle.wax_match.proofs.{LeftCosts.slash_one, Lefts.{spelt_literal, spelt_separator}}
+use Rattle.wax_match.specs.{declared.encode.left.Gap.TheVariants.Nothing, inner.Left.{AreSame, SpeltMeans}}
+use Rattle.wax_token.specs.{Cost.cost, Meaning.Means, Syntax.{leaf, literal}, View.leaf_of}
 use Rattle.wax_token.specs.Words.{annotation_of}
 use Rattle.wax_match.proofs.encode.left.spelt.Goals as goal
 

@@ -1,7 +1,6 @@
 use Rattle.std.proofs.Common.{[], ◌∷◌, ap, inl, inr, refl}
 use Rattle.wax_match.specs.declared.encode.left.Gap.TheVariants.{Anything, Below, Folders}
-use Rattle.wax_match.proofs.LeftCosts.{spelt_few}
-use Rattle.wax_match.proofs.Lefts.{spelt_alone, spelt_first, spelt_inner, spelt_last}
+use Rattle.wax_match.proofs.{LeftCosts.spelt_few, Lefts.{spelt_alone, spelt_first, spelt_inner, spelt_last}}
 use Rattle.wax_match.proofs.encode.left.spelt_tree.Goals.{then-has_root, else-has_root, then-has_root-2}
 use Rattle.wax_match.proofs.encode.left.spelt_tree.Goals.{else-has_root-2}
 use Rattle.wax_match.proofs.encode.left.spelt_tree.Goals as goal

@@ -1,11 +1,7 @@
-use Rattle.std.proofs.Common.{ap, arith, length, subst, sym, []}
-use Rattle.std.proofs.lemmas.Str.{chars-nil}
+use Rattle.std.proofs.{Common.{ap, arith, length, subst, sym, []}, lemmas.Str.chars-nil}
 use Rattle.wax_match.proofs.Lefts.{spelt_bare}
-use Rattle.wax_match.specs.declared.encode.left.Gap.TheVariants.{Star}
-use Rattle.wax_match.specs.inner.Left.{AreSame, SpeltMeans}
-use Rattle.wax_token.specs.Cost.{leaf_cost}
-use Rattle.wax_token.specs.Meaning.{LeafMeans}
-use Rattle.wax_token.specs.View.{wildcard_leaf}
+use Rattle.wax_match.specs.{declared.encode.left.Gap.TheVariants.Star, inner.Left.{AreSame, SpeltMeans}}
+use Rattle.wax_token.specs.{Cost.leaf_cost, Meaning.LeafMeans, View.wildcard_leaf}
 use Rattle.wax_match.proofs.encode.left.spelt_wildcard.Goals as goal
 
 pub returns-in-ZeroOrMore-clause-means : goal.returns-in-ZeroOrMore-clause-means

@@ -1,6 +1,5 @@
 use Rattle.std.proofs.Common.{◌≡◌, chars, length}
-use denote.Text.{Utf8}
-use denote.Shadow.{shadow}
+use denote.{Text.Utf8, Shadow.shadow}
 use Rattle.wax_parse.specs.inner.Parser.{number_run, digits_run}
 use Rattle.wax_parse.proofs.parse.bounds.read_number.Given as goal
 

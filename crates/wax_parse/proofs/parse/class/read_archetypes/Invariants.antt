@@ -1,6 +1,5 @@
 use Rattle.std.proofs.Common.{◌≡◌, ◌≤◌, ℕ, chars, length}
-use denote.Text.{Utf8}
-use denote.Shadow.{shadow}
+use denote.{Text.Utf8, Shadow.shadow}
 use Rattle.wax_parse.specs.inner.Parser.{class_run, prefixed}
 use Rattle.wax_parse.proofs.parse.class.read_archetypes.Given as goal
 

@@ -1,6 +1,5 @@
 use Rattle.std.proofs.Common.{◌≡◌, ◌≤◌, ℕ, chars, length}
-use denote.Text.{Utf8}
-use denote.Shadow.{shadow}
+use denote.{Text.Utf8, Shadow.shadow}
 use Rattle.wax_parse.specs.inner.Parser.{at, flags_run, flags_end}
 use Rattle.wax_parse.proofs.parse.flags.read_flags.Given as goal
 

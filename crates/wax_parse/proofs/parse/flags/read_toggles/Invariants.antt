@@ -1,6 +1,5 @@
 use Rattle.std.proofs.Common.{◌≡◌, chars, length}
-use denote.Text.{Utf8}
-use denote.Shadow.{shadow}
+use denote.{Text.Utf8, Shadow.shadow}
 use Rattle.wax_parse.specs.inner.Parser.{group_end}
 use Rattle.wax_parse.proofs.parse.flags.read_toggles.Given as goal
 

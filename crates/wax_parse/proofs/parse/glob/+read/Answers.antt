@@ -2,24 +2,20 @@ use Rattle.std.specs.Str.{IsUtf8}
 use Rattle.std.proofs.Common.{rules, true, Some, None, ◌==◌, vec_len, ◌≡◌, ◌∷◌, ◌∙◌, chars, length, refl, sym}
 use Rattle.std.proofs.Common.{ap, subst, arith}
 use Rattle.wax_token.specs.Reads.{Place, Around, in_repetition, utf8_len}
-use Rattle.wax_token.specs.Syntax.{alternation, repetition, concatenation, leaf}
-use Rattle.wax_token.specs.View.{leaf_of}
-use Rattle.wax_token.specs.Words.{trees}
-use Rattle.wax_parse.specs.Accepted.{IsPlace}
-use Rattle.wax_parse.specs.inner.Parser.{around_of, place, at, strip, read_leaf}
+use Rattle.wax_token.specs.{Syntax.{alternation, repetition, concatenation, leaf}, View.leaf_of, Words.trees}
+use Rattle.wax_parse.specs.{Accepted.IsPlace, inner.Parser.{around_of, place, at, strip, read_leaf}}
 use Rattle.wax_parse.specs.inner.Reading.{HasSuffix, HasProperSuffix, BranchesFrom, GlobFrom, TokenFrom}
 use Rattle.wax_parse.specs.inner.Reading.{TokensFrom, Sole, Unreadable, Begun, is_nil}
 use Rattle.wax_parse.proofs.Outcomes.{passed_up, refused_as, as_made, leaf_taken, opening_taken, flags_beyond}
 use Rattle.wax_parse.proofs.Outcomes.{taken_more, one_beyond, inner_fails, inner_sole}
 use Rattle.wax_parse.proofs.Readings.{alternation_sole, alternation_unreadable, alternation_too_deep}
 use Rattle.wax_parse.proofs.Readings.{repetition_sole, repetition_unreadable, repetition_unbounded}
-use Rattle.wax_parse.proofs.Readings.{repetition_too_deep, leaf_sole, leaf_unreadable}
-use Rattle.wax_parse.proofs.Bounds.{bounds_beyond}
+use Rattle.wax_parse.proofs.{Readings.{repetition_too_deep, leaf_sole, leaf_unreadable}, Bounds.bounds_beyond}
 use Rattle.wax_parse.proofs.Rows.{nil_asked, begun_start, begun_token, begun_branch, glob_sole, glob_empty}
 use Rattle.wax_parse.proofs.Rows.{glob_unreadable, branches_sole, branches_unreadable, branches_unclosed}
-use Rattle.wax_token.proofs.Bytes.{bytes_len}
 use Rattle.wax_parse.proofs.Texts.{same_end, end_shorter, beyond_more, beyond_same, taken_beyond}
 use Rattle.wax_parse.proofs.Trees.{strip_is}
+use Rattle.wax_token.proofs.Bytes.{bytes_len}
 use Rattle.wax_parse.proofs.parse.glob.+read.Goals as goal
 
 -- ---- read_alternation

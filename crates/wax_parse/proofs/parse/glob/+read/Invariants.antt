@@ -1,6 +1,5 @@
 use Rattle.std.proofs.Common.{◌+◌, ◌*◌, chars, length, true}
-use denote.Text.{Utf8}
-use denote.Shadow.{shadow}
+use denote.{Text.Utf8, Shadow.shadow}
 use Rattle.wax_token.specs.Reads.{utf8_len}
 use Rattle.wax_parse.specs.inner.Reading.{is_nil, HasSuffix, Begun, BranchesFrom, TokensFrom}
 use Rattle.wax_parse.specs.inner.Parser.{around_of, place}

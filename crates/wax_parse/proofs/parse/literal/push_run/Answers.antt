@@ -1,8 +1,6 @@
-use Rattle.std.proofs.Common.{rules, ◌++◌, ◌∷◌, [], chars, string_bytes}
+use Rattle.std.proofs.{Common.{rules, ◌++◌, ◌∷◌, [], chars, string_bytes}, lemmas.Str.IsUtf8-string_bytes}
 use Rattle.std.specs.Char.{IsScalar}
-use Rattle.std.proofs.lemmas.Str.{IsUtf8-string_bytes}
-use Rattle.wax_parse.proofs.Runs.{run_more}
-use Rattle.wax_parse.proofs.Texts.{chars_pushed}
+use Rattle.wax_parse.proofs.{Runs.run_more, Texts.chars_pushed}
 use Rattle.wax_parse.proofs.parse.literal.push_run.Goals as goal
 
 pub loop-c-preserved : goal.loop-c-preserved

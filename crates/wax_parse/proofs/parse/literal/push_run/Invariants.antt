@@ -1,6 +1,5 @@
 use Rattle.std.proofs.Common.{◌≡◌, ◌++◌, List, ℕ, chars, string_bytes, length}
-use denote.Text.{Utf8}
-use denote.Shadow.{shadow}
+use denote.{Text.Utf8, Shadow.shadow}
 use Rattle.wax_parse.specs.inner.Parser.{literal_run}
 use Rattle.wax_parse.proofs.parse.literal.push_run.Given as goal
 

@@ -1,6 +1,5 @@
 use Rattle.std.proofs.Common.{◌≡◌, ◌++◌, List, ℕ, chars, true, length}
-use denote.Text.{Utf8}
-use denote.Shadow.{shadow}
+use denote.{Text.Utf8, Shadow.shadow}
 use Rattle.wax_parse.specs.inner.Parser.{is_plain_text}
 use Rattle.wax_parse.proofs.parse.literal.split_plain.Given as goal
 

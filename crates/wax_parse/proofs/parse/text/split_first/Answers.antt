@@ -1,5 +1,4 @@
-use Rattle.std.proofs.Common.{rules}
-use Rattle.std.proofs.lemmas.Str.{chars_past_char}
+use Rattle.std.proofs.{Common.rules, lemmas.Str.chars_past_char}
 use Rattle.wax_parse.proofs.parse.text.split_first.Goals as goal
 
 pub returns : goal.returns

@@ -1,11 +1,9 @@
 use Rattle.std.proofs.Common.{◌≡◌, IfSome, None, Some, chars, rules, string_bytes, subst, true}
 use Rattle.std.specs.Cow.{cow_str_bytes}
 use Rattle.wax_facts.specs.Orderly.{Flat}
-use Rattle.wax_partition.specs.Partition.{IsPartition, spelled_rest}
-use Rattle.wax_partition.specs.inner.Flatness.{is_flat}
+use Rattle.wax_partition.specs.{Partition.{IsPartition, spelled_rest}, inner.Flatness.is_flat}
 use Rattle.wax_rule.specs.Keeping.{KeepsRules}
-use Rattle.wax_token.specs.Reads.{Span}
-use Rattle.wax_token.specs.declared.token.Tokenized.{Tokenized}
+use Rattle.wax_token.specs.{Reads.Span, declared.token.Tokenized.Tokenized}
 use Rattle.wax_partition.proofs.RestKeeps.{flat_from}
 use Rattle.wax_partition.proofs.in_two.CheckedTokenizedExpressionMetadataPartitioned.partition.Goals as goal
 

@@ -1,6 +1,5 @@
 use Rattle.std.proofs.Common.{IsTrue, chars, ap, rules, subst, sym}
-use Rattle.wax_program.specs.Last.{ReadsLast}
-use Rattle.wax_program.specs.Machine.{Accepts}
+use Rattle.wax_program.specs.{Last.ReadsLast, Machine.Accepts}
 use Rattle.wax_prefilter.proofs.Names.{accepts_name}
 use Rattle.wax_prefilter.proofs.compiled.CompiledTokens.may_match.Goals as goal
 

@@ -1,9 +1,7 @@
 use Rattle.std.proofs.Common.{IfSome, subst}
 use Rattle.wax_prefilter.proofs.Holding.{members_hold}
-use Rattle.wax_prefilter.specs.Known.{EachContainsOne}
-use Rattle.wax_prefilter.specs.declared.needle.Anchor.TheVariants.{Anywhere}
-use Rattle.wax_token.specs.Meaning.{MeansEach}
-use Rattle.wax_token.specs.Words.{trees}
+use Rattle.wax_prefilter.specs.{Known.EachContainsOne, declared.needle.Anchor.TheVariants.Anywhere}
+use Rattle.wax_token.specs.{Meaning.MeansEach, Words.trees}
 use Rattle.wax_prefilter.proofs.literals.Literals.add.Goals as goal
 
 pub returns-in_ok-append-in-Some-clause-adds : goal.returns-in_ok-append-in-Some-clause-adds

@@ -1,10 +1,9 @@
 use Rattle.std.proofs.Common.{◌++◌, IsTrue, List, subst, sym, ℕ}
 use Rattle.wax_prefilter.proofs.Holding.{any_left, any_right}
-use Rattle.wax_prefilter.specs.Facts.{ContainsOne, ContainsAt}
-use Rattle.wax_prefilter.specs.Literals.{MayPass}
-use Rattle.wax_prefilter.specs.declared.needle.Anchor.TheVariants.{Anywhere}
 use Rattle.wax_prefilter.proofs.literals.Literals.append.Goals.{then-len-gt-MOST_NEEDLES}
 use Rattle.wax_prefilter.proofs.literals.Literals.append.Goals.{else-len-gt-MOST_NEEDLES}
+use Rattle.wax_prefilter.specs.{Facts.{ContainsOne, ContainsAt}, Literals.MayPass}
+use Rattle.wax_prefilter.specs.declared.needle.Anchor.TheVariants.{Anywhere}
 use Rattle.wax_prefilter.proofs.literals.Literals.append.Goals as goal
 
 passes : (c : goal.After-drop-needles-2) (text : List ℕ)

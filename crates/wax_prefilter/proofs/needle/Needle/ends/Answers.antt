@@ -1,7 +1,5 @@
 use Rattle.std.proofs.Common.{rules, ◌≡◌, ◌++◌, List, ℕ, encode_utf8_all, chars, string_bytes, sym, ◌∙◌, ap}
-use Rattle.std.proofs.Common.{true}
-use Rattle.std.proofs.lemmas.Bool.Decides.{Decides-eqb}
-use Rattle.std.proofs.lemmas.Slice.Eq.{ends_is}
+use Rattle.std.proofs.{Common.true, lemmas.Bool.Decides.Decides-eqb, lemmas.Slice.Eq.ends_is}
 use Rattle.wax_prefilter.proofs.MeantEdges.{bytes_end, plain_text}
 use Rattle.wax_prefilter.proofs.needle.Needle.ends.Goals as goal
 

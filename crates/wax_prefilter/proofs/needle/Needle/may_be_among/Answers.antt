@@ -1,6 +1,5 @@
 use Rattle.std.proofs.Common.{◌≡◌, ◌++◌, ◌∙◌, List, ℕ, ap, chars, encode_utf8_all, string_bytes}
-use Rattle.wax_prefilter.proofs.MeantEdges.{plain_text}
-use Rattle.wax_prefilter.proofs.MeantPieces.{bytes_within}
+use Rattle.wax_prefilter.proofs.{MeantEdges.plain_text, MeantPieces.bytes_within}
 use Rattle.wax_prefilter.proofs.needle.Needle.may_be_among.Goals as goal
 
 pub returns-else-self : goal.returns-else-self

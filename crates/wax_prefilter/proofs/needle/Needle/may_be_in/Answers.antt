@@ -1,7 +1,6 @@
 use Rattle.std.proofs.Common.{rules, true, ◌≡◌, ◌∙◌, ◌++◌, List, ℕ, ap, encode_utf8_all, chars, string_bytes}
 use Rattle.std.proofs.lemmas.Str.Pattern.{contains_text}
-use Rattle.wax_prefilter.proofs.MeantEdges.{plain_text}
-use Rattle.wax_prefilter.proofs.MeantPieces.{bytes_within}
+use Rattle.wax_prefilter.proofs.{MeantEdges.plain_text, MeantPieces.bytes_within}
 use Rattle.wax_prefilter.proofs.needle.Needle.may_be_in.Goals as goal
 
 pub returns : goal.returns

@@ -3,10 +3,8 @@ use Rattle.std.proofs.Common.{encode_utf8_all, chars, get_or, string_bytes, sym,
 use Rattle.std.proofs.lemmas.List.{get_or-take, length-take, take-append-drop}
 use Rattle.std.proofs.lemmas.Str.{IsUtf8-from_ascii, chars-IsAscii, chars-append}
 use Rattle.std.specs.Str.{IsAscii}
-use Rattle.wax_prefilter.specs.inner.Forms.{HasAsciiForms}
-use Rattle.wax_prefilter.specs.inner.Pairs.{LineHasOne}
-use Rattle.wax_prefilter.proofs.AsciiForms.{held_ascii, same_beginning}
-use Rattle.wax_prefilter.proofs.MeantEdges.{as_seen, plain_text}
+use Rattle.wax_prefilter.specs.{inner.Forms.HasAsciiForms, inner.Pairs.LineHasOne}
+use Rattle.wax_prefilter.proofs.{AsciiForms.{held_ascii, same_beginning}, MeantEdges.{as_seen, plain_text}}
 use Rattle.wax_prefilter.proofs.MeantPieces.{bytes_within}
 use Rattle.wax_prefilter.proofs.Pairs.{alike_has, part_has, part_of_line, stands_somewhere}
 use Rattle.wax_token.specs.Meaning.{SameText}

@@ -1,9 +1,7 @@
 use Rattle.std.proofs.Common.{◌+◌, ◌≤◌, drop, length, subst, arith}
 use Rattle.wax_prefilter.specs.inner.Pairs.{NoPairBefore, ZeroWhere, lowered}
 use lib.Lanes.{chunk}
-use Rattle.wax_prefilter.proofs.Lowered.{length_lowered, zero_lowered}
-use Rattle.wax_prefilter.proofs.Marks.{before_lane}
-use Rattle.wax_prefilter.proofs.Pairs.{is_drop}
+use Rattle.wax_prefilter.proofs.{Lowered.{length_lowered, zero_lowered}, Marks.before_lane, Pairs.is_drop}
 use Rattle.wax_prefilter.proofs.pair.Pair.find.Goals as goal
 
 pub returns-then-lane-lt-LANES-clause-before : goal.returns-then-lane-lt-LANES-clause-before

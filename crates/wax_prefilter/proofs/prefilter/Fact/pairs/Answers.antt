@@ -1,5 +1,4 @@
-use Rattle.std.proofs.Common.{◌≡◌, ◌<◌, ◌+◌, ◌∙◌, IfSome, length, get_or}
-use Rattle.std.proofs.Common.{ap, subst, sym, arith}
+use Rattle.std.proofs.Common.{◌≡◌, ◌<◌, ◌+◌, ◌∙◌, IfSome, length, get_or, ap, subst, sym, arith}
 use Rattle.wax_prefilter.specs.inner.Pairs.{IsPairOf}
 use Rattle.wax_prefilter.proofs.Pairs.{HavePairs, next_has}
 use Rattle.wax_prefilter.proofs.prefilter.Fact.pairs.Goals as goal

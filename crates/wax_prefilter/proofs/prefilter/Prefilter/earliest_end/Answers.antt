@@ -1,11 +1,9 @@
 use Rattle.std.proofs.Common.{◌≡◌, ◌<◌, ◌∙◌, ap, length, get_or, chars, sym, subst, arith}
 use Rattle.std.specs.Option.{IfSome}
-use Rattle.wax_prefilter.specs.Facts.{FactsHold, ContainsOne}
-use Rattle.wax_prefilter.specs.declared.needle.Anchor.TheVariants.{End}
+use Rattle.wax_prefilter.specs.{Facts.{FactsHold, ContainsOne}, declared.needle.Anchor.TheVariants.End}
 use Rattle.wax_prefilter.specs.inner.Ends.{IsOfFirst, NoneEndsBefore}
 use Rattle.wax_prefilter.specs.inner.Pairs.{ArePairsOf, NoPairsBefore, lowered}
-use Rattle.wax_prefilter.proofs.Ends.{line_ends_after}
-use Rattle.wax_prefilter.proofs.Pairs.{ends_after}
+use Rattle.wax_prefilter.proofs.{Ends.line_ends_after, Pairs.ends_after}
 use Rattle.wax_prefilter.proofs.prefilter.Prefilter.earliest_end.Goals as goal
 
 pub returns-in-Some : goal.returns-in-Some

@@ -1,7 +1,6 @@
 use Rattle.std.proofs.Common.{subst}
 use Rattle.std.specs.Option.{IfSome}
-use Rattle.wax_prefilter.specs.inner.Ends.{IsOfFirst}
-use Rattle.wax_prefilter.specs.inner.Pairs.{ArePairsOf}
+use Rattle.wax_prefilter.specs.{inner.Ends.IsOfFirst, inner.Pairs.ArePairsOf}
 use Rattle.wax_prefilter.proofs.prefilter.Prefilter.new.Goals as goal
 
 pub invariant_of-result : goal.invariant_of-result

@@ -2,8 +2,8 @@ use Rattle.std.proofs.Common.{◌≡◌, ◌+◌, ◌<◌, ℕ, None, Some, leng
 use Rattle.std.proofs.lemmas.List.{get_or_read_under}
 use Rattle.wax_program.specs.inner.Jumps.{AreJumpsBelow}
 use Rattle.wax_program.proofs.Jumping.{linked, none_more, some_is, target_of}
-use Rattle.wax_program.proofs.jumps.Jumps.new.Goals as goal
 use Rattle.wax_program.proofs.jumps.Jumps.new.Goals.{in-Some+then-to-len, in-Some+else-to-len, in_default}
+use Rattle.wax_program.proofs.jumps.Jumps.new.Goals as goal
 
 pub loop-at-preserved : goal.loop-at-preserved
 loop-at-preserved c =

@@ -1,6 +1,5 @@
 use Rattle.std.proofs.Common.{◌+◌, ◌*◌, ◌-◌, ◌≤◌, ℕ, length}
-use Rattle.wax_program.specs.Onward.{AreLevelsOf}
-use Rattle.wax_program.specs.Visits.{flags_visits}
+use Rattle.wax_program.specs.{Onward.AreLevelsOf, Visits.flags_visits}
 use Rattle.wax_program.proofs.levels.Levels.add_up_to.Given as goal
 
 abbrev pub invariant-loop-alloc : goal.invariant-loop-alloc

@@ -1,6 +1,5 @@
-use Rattle.std.proofs.Common.{◌≡◌, ◌-◌, ◌≤◌, ◌+◌, ℕ, List, Some, ap, arith, get_or, length, refl}
-use Rattle.std.proofs.Common.{slice_get, subst}
-use Rattle.std.proofs.lemmas.Option.{slice_get_read}
+use Rattle.std.proofs.Common.{◌≡◌, ◌-◌, ◌≤◌, ◌+◌, ℕ, List, Some, ap, arith, get_or, length, refl, slice_get}
+use Rattle.std.proofs.{Common.subst, lemmas.Option.slice_get_read}
 use Rattle.wax_program.specs.Onward.{LevelFlags, PlaceFlags}
 use Rattle.wax_program.proofs.Limits.{flags_beyond, some_levels}
 use Rattle.wax_program.proofs.levels.Levels.level.Goals as goal

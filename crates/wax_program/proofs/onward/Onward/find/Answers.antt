@@ -1,13 +1,9 @@
-use Rattle.std.proofs.Common.{◌≡◌, ◌∷◌, [], Contains, length, arith, inl, inr, sym}
-use Rattle.std.proofs.Common.{◌∙◌, subst, ap}
-use Rattle.std.proofs.lemmas.List.{length-append}
-use Rattle.std.proofs.lemmas.List.Elements.{Contains-append_left, Contains-push}
+use Rattle.std.proofs.Common.{◌≡◌, ◌∷◌, [], Contains, length, arith, inl, inr, sym, ◌∙◌, subst, ap}
+use Rattle.std.proofs.{lemmas.List.length-append, lemmas.List.Elements.{Contains-append_left, Contains-push}}
 use Rattle.std.specs.Option.{option_copied}
-use Rattle.wax_program.specs.declared.onward.Ahead.TheVariants.{Rest}
-use Rattle.wax_program.specs.inner.Leads.{Holds}
+use Rattle.wax_program.specs.{declared.onward.Ahead.TheVariants.Rest, inner.Leads.Holds}
 use Rattle.wax_program.specs.inner.Spreads.{AreSpread, Spreads}
-use Rattle.wax_program.proofs.Leading.{flags_are}
-use Rattle.wax_program.proofs.Marking.{begins_soundly}
+use Rattle.wax_program.proofs.{Leading.flags_are, Marking.begins_soundly}
 use Rattle.wax_program.proofs.Settling.{length_zero, none_due, spread_closed, spread_popped}
 use Rattle.wax_program.proofs.onward.Onward.find.Goals as goal
 

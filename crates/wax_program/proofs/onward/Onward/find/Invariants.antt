@@ -1,8 +1,7 @@
 use Rattle.std.proofs.Common.{◌≡◌, ◌<◌, ◌≤◌, ◌+◌, ◌-◌, ◌*◌, ℕ, Contains, length}
 use Rattle.std.specs.Option.{option_copied}
 use Rattle.wax_program.specs.declared.onward.Ahead.TheVariants.{Rest}
-use Rattle.wax_program.specs.inner.Leads.{AreSoundAfter, Holds, flag_count}
-use Rattle.wax_program.specs.inner.Spreads.{AreSpread}
+use Rattle.wax_program.specs.{inner.Leads.{AreSoundAfter, Holds, flag_count}, inner.Spreads.AreSpread}
 use Rattle.wax_program.proofs.onward.Onward.find.Given as goal
 
 abbrev pub invariant-loop-at : goal.invariant-loop-at

@@ -1,6 +1,5 @@
 use Rattle.std.proofs.Common.{ℕ, ◌<◌}
-use Rattle.wax_program.specs.declared.onward.Ahead.TheVariants.{Rest}
-use Rattle.wax_program.specs.inner.Leads.{Holds}
+use Rattle.wax_program.specs.{declared.onward.Ahead.TheVariants.Rest, inner.Leads.Holds}
 use Rattle.wax_program.proofs.onward.Onward.goes_on_within.Given as goal
 
 abbrev pub invariant-loop-at : goal.invariant-loop-at

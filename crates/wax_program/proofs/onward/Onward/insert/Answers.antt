@@ -1,6 +1,5 @@
 use Rattle.std.proofs.Common.{◌≤◌, sym, subst}
-use Rattle.wax_program.specs.Onward.{PlaceFlags}
-use Rattle.wax_program.specs.inner.Leads.{Holds, Marks}
+use Rattle.wax_program.specs.{Onward.PlaceFlags, inner.Leads.{Holds, Marks}}
 use Rattle.wax_program.proofs.Marking.{few_rest, few_below, few_path, marks_rest, marks_below, marks_path}
 use Rattle.wax_program.proofs.onward.Onward.insert.Goals as goal
 

@@ -1,6 +1,5 @@
 use Rattle.std.specs.Option.{option_copied}
-use Rattle.wax_program.proofs.Marking.{gains_both}
-use Rattle.wax_program.proofs.Settling.{reached_thrice}
+use Rattle.wax_program.proofs.{Marking.gains_both, Settling.reached_thrice}
 use Rattle.wax_program.proofs.onward.Onward.settle.Goals as goal
 
 pub returns-then-path-clause-gains : goal.returns-then-path-clause-gains

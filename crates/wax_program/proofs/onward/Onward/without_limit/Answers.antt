@@ -1,5 +1,4 @@
-use Rattle.std.proofs.Common.{None}
-use Rattle.std.proofs.lemmas.Result.{IfOk-weaker}
+use Rattle.std.proofs.{Common.None, lemmas.Result.IfOk-weaker}
 use Rattle.wax_program.proofs.onward.Onward.without_limit.Goals as goal
 
 pub returns-clause-flags : goal.returns-clause-flags

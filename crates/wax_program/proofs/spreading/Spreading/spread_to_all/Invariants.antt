@@ -1,7 +1,6 @@
 use Rattle.std.proofs.Common.{◌+◌, ◌*◌, ◌≤◌, Contains, length}
 use Rattle.std.specs.Option.{option_copied}
-use Rattle.wax_program.specs.inner.Leads.{flag_count}
-use Rattle.wax_program.specs.inner.Spreads.{AreSpreadFrom, Spreads}
+use Rattle.wax_program.specs.{inner.Leads.flag_count, inner.Spreads.{AreSpreadFrom, Spreads}}
 use Rattle.wax_program.proofs.spreading.Spreading.spread_to_all.Given as goal
 
 abbrev pub invariant-loop-at : goal.invariant-loop-at

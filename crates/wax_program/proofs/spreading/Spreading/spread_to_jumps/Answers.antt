@@ -1,12 +1,9 @@
 use Rattle.std.proofs.Common.{◌<◌, ◌≤◌, None, length, inl, inr, refl, sym, ◌∙◌, subst, arith}
-use Rattle.std.proofs.lemmas.Bool.{cases_eq, cases_lt}
-use Rattle.std.proofs.lemmas.List.{get_or_read_under}
+use Rattle.std.proofs.{lemmas.Bool.{cases_eq, cases_lt}, lemmas.List.get_or_read_under}
 use Rattle.std.proofs.lemmas.Option.{slice_get_within}
 use Rattle.std.specs.Option.{option_copied}
-use Rattle.wax_program.specs.inner.Jumps.{IsUpTo}
-use Rattle.wax_program.specs.inner.Leads.{Holds}
-use Rattle.wax_program.proofs.Jumping.{rank_smaller}
-use Rattle.wax_program.proofs.Settling.{spreads_both, spreads_none}
+use Rattle.wax_program.specs.{inner.Jumps.IsUpTo, inner.Leads.Holds}
+use Rattle.wax_program.proofs.{Jumping.rank_smaller, Settling.{spreads_both, spreads_none}}
 use Rattle.wax_program.proofs.spreading.Spreading.spread_to_jumps.Goals as goal
 
 pub loop-next-init : goal.loop-next-init

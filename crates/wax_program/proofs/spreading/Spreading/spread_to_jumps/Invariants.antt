@@ -1,9 +1,7 @@
 use Rattle.std.proofs.Common.{◌≡◌, ◌+◌, ◌*◌, ◌≤◌, ℕ, Some}
 use Rattle.std.specs.Option.{option_copied}
-use Rattle.wax_program.specs.declared.onward.Ahead.{Ahead}
-use Rattle.wax_program.specs.inner.Jumps.{IsJump, IsUpTo}
-use Rattle.wax_program.specs.inner.Leads.{Holds, flag_count}
-use Rattle.wax_program.specs.inner.Spreads.{Spreads}
+use Rattle.wax_program.specs.{declared.onward.Ahead.Ahead, inner.Jumps.{IsJump, IsUpTo}}
+use Rattle.wax_program.specs.{inner.Leads.{Holds, flag_count}, inner.Spreads.Spreads}
 use Rattle.wax_program.proofs.Jumping.{link_rank}
 use Rattle.wax_program.proofs.spreading.Spreading.spread_to_jumps.Given as goal
 

@@ -1,8 +1,7 @@
 use Rattle.std.proofs.Common.{◌+◌, drop, Option, sym, ◌∙◌, ap}
 use Rattle.std.specs.Option.{option_or}
-use Rattle.wax_facts.specs.declared.rules.Break.{Break}
+use Rattle.wax_facts.specs.{declared.rules.Break.Break, Rules.alternative_breaks}
 use Rattle.wax_rule.specs.FirstBreak.{head_of}
-use Rattle.wax_facts.specs.Rules.{alternative_breaks}
 use Rattle.wax_rule.proofs.Firsts.{alternatives_step}
 use Rattle.wax_token.specs.Words.{trees}
 use Rattle.wax_rule.proofs.rule.branch.alternative_break.Goals as goal

@@ -1,5 +1,4 @@
-use Rattle.std.proofs.Common.{arith, rules}
-use Rattle.std.proofs.lemmas.Grind.{common_steps}
+use Rattle.std.proofs.{Common.{arith, rules}, lemmas.Grind.common_steps}
 use Rattle.wax_rule.specs.Keeping.{KeepsRules}
 use Rattle.wax_rule.proofs.Keeping.{push_keeps}
 use Rattle.wax_rule.proofs.rule.checked_tokens.tokens_of.Goals as goal

@@ -1,9 +1,7 @@
 use Rattle.std.proofs.Common.{◌≡◌, ◌++◌, length, map}
-use Rattle.std.specs.List.{Contains}
-use Rattle.std.specs.Vec.Iter.{into_iter_items, into_iter_len}
+use Rattle.std.specs.{List.Contains, Vec.Iter.{into_iter_items, into_iter_len}}
 use Rattle.wax_rule.specs.Keeping.{KeepsRules}
-use Rattle.wax_token.specs.Reads.{Span}
-use Rattle.wax_token.specs.Syntax.{Tree}
+use Rattle.wax_token.specs.{Reads.Span, Syntax.Tree}
 use Rattle.wax_rule.proofs.rule.checked_tokens.tokens_of.Given as goal
 
 -- the tokens that were taken, and those that are left

@@ -1,8 +1,7 @@
 use Rattle.std.proofs.Common.{rules, subst}
 use Rattle.wax_rule.proofs.Rows.{outermost_found, outermost_size}
 use Rattle.wax_rule.specs.inner.Queue.{IsOutermost}
-use Rattle.wax_token.specs.Kinds.{is_boundary_leaf, is_zero_or_more_leaf}
-use Rattle.wax_token.specs.Words.{annotation_of}
+use Rattle.wax_token.specs.{Kinds.{is_boundary_leaf, is_zero_or_more_leaf}, Words.annotation_of}
 use Rattle.wax_rule.proofs.rule.situated.+found_at.Goals as goal
 
 pub found_at-found_at-requires : goal.found_at-found_at-requires

@@ -1,7 +1,6 @@
 use Rattle.std.proofs.Common.{◌≡◌, ◌||◌, drop}
 use Rattle.wax_rule.specs.inner.Queue.{is_found_at_some}
-use Rattle.wax_token.specs.Kinds.{is_boundary_leaf, is_zero_or_more_leaf}
-use Rattle.wax_token.specs.Syntax.{tree_size, trees_size}
+use Rattle.wax_token.specs.{Kinds.{is_boundary_leaf, is_zero_or_more_leaf}, Syntax.{tree_size, trees_size}}
 use Rattle.wax_token.specs.Words.{trees}
 use Rattle.wax_rule.proofs.rule.situated.+found_at.Given as goal
 

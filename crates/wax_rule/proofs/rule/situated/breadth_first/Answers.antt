@@ -4,8 +4,7 @@ use Rattle.std.specs.List.{flat_map}
 use Rattle.wax_rule.specs.inner.Queue.{children, only_branches}
 use Rattle.wax_facts.specs.Situated.{Situated}
 use Rattle.wax_rule.proofs.Branches.{branches_of_branches, listed, listed_branches, next_branches, row_after}
-use Rattle.wax_rule.proofs.Branches.{shorter_after}
-use Rattle.wax_rule.proofs.Levels.{first_row}
+use Rattle.wax_rule.proofs.{Branches.shorter_after, Levels.first_row}
 use Rattle.wax_rule.proofs.rule.situated.breadth_first.Goals as goal
 
 pub loop-from-init : goal.loop-from-init

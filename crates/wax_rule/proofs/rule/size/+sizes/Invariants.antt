@@ -1,6 +1,5 @@
 use Rattle.std.proofs.Common.{◌≡◌, Some, drop}
-use Rattle.wax_token.specs.Syntax.{tree_size, trees_size}
-use Rattle.wax_token.specs.Words.{trees}
+use Rattle.wax_token.specs.{Syntax.{tree_size, trees_size}, Words.trees}
 use Rattle.wax_facts.specs.Sizes.{are_of_size, option_sum, total_size}
 use Rattle.wax_rule.proofs.rule.size.+sizes.Given as goal
 

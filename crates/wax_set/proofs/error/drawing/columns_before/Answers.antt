@@ -1,8 +1,6 @@
 use Rattle.std.proofs.Common.{rules, ◌≡◌, ◌<◌, ◌∙◌, ◌-◌, ◌==◌, [], ap, arith, chars, false}
-use Rattle.std.proofs.lemmas.List.{nil_from_length}
-use Rattle.std.proofs.lemmas.Str.{IsUtf8-past_char, chars-nil, chars_past_char}
-use Rattle.std.specs.Char.{len_utf8}
-use Rattle.std.specs.Str.Iter.{chars_rest}
+use Rattle.std.proofs.{lemmas.List.nil_from_length, lemmas.Str.{IsUtf8-past_char, chars-nil, chars_past_char}}
+use Rattle.std.specs.{Char.len_utf8, Str.Iter.chars_rest}
 use Rattle.wax_set.specs.Drawn.{columns_before}
 use Rattle.wax_set.proofs.Columns.{columns_at_none, columns_past}
 use Rattle.wax_set.proofs.error.drawing.columns_before.Goals as goal

@@ -1,7 +1,6 @@
 use Rattle.std.proofs.Common.{◌≡◌, ◌≤◌, ◌∙◌, IfOk, ap, subst, sym}
 use Rattle.wax_token.specs.Cost.{program_length}
-use Rattle.wax_set.specs.Conflicts.{AreConflicts}
-use Rattle.wax_set.specs.inner.Conflicts.{set_tree}
+use Rattle.wax_set.specs.{Conflicts.AreConflicts, inner.Conflicts.set_tree}
 use Rattle.wax_set.proofs.set.Any.conflicts.Goals as goal
 
 pub new-requires : goal.new-requires

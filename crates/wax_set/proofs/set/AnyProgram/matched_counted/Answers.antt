@@ -1,5 +1,4 @@
-use Rattle.std.proofs.Common.{[], arith, length, sym, subst}
-use Rattle.std.proofs.lemmas.List.Elements.{All-cons, All-nil}
+use Rattle.std.proofs.{Common.{[], arith, length, sym, subst}, lemmas.List.Elements.{All-cons, All-nil}}
 use Rattle.std.proofs.lemmas.Str.{IsCharBoundary-end, IsCharBoundary-start}
 use Rattle.std.specs.List.{All}
 use Rattle.wax_query.specs.Parts.{IsPart}

@@ -1,5 +1,4 @@
-use Rattle.std.proofs.Common.{chars, string_bytes}
-use Rattle.std.proofs.lemmas.Str.{IsUtf8-string_bytes}
+use Rattle.std.proofs.{Common.{chars, string_bytes}, lemmas.Str.IsUtf8-string_bytes}
 use Rattle.wax_set.proofs.Edges.{begun_more, begun_none, begun_text, chars_added}
 use Rattle.wax_set.proofs.set.edges.beginning_of.Goals as goal
 

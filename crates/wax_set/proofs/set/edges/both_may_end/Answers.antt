@@ -1,5 +1,4 @@
-use Rattle.std.proofs.Common.{◌∙◌, ◌++◌, ap, inl, inr, sym, true≢false}
-use Rattle.std.proofs.lemmas.Bool.Decides.{Decides-eqb}
+use Rattle.std.proofs.{Common.{◌∙◌, ◌++◌, ap, inl, inr, sym, true≢false}, lemmas.Bool.Decides.Decides-eqb}
 use Rattle.std.proofs.lemmas.Slice.Eq.{ends_is}
 use Rattle.wax_set.proofs.Edges.{bytes_end_so}
 use Rattle.wax_set.proofs.set.edges.both_may_end.Goals as goal

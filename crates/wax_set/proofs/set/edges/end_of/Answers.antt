@@ -1,5 +1,4 @@
-use Rattle.std.proofs.Common.{◌≡◌, ◌-◌, Some, chars, length, rules, slice_get}
-use Rattle.std.proofs.lemmas.Option.{IfSome_then}
+use Rattle.std.proofs.{Common.{◌≡◌, ◌-◌, Some, chars, length, rules, slice_get}, lemmas.Option.IfSome_then}
 use Rattle.wax_set.proofs.Edges.{last_only}
 use Rattle.wax_set.proofs.set.edges.end_of.Goals as goal
 

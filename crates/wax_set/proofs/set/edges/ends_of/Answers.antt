@@ -1,5 +1,4 @@
-use Rattle.std.proofs.Common.{◌≡◌, ◌-◌, Some, length, rules, slice_get}
-use Rattle.std.proofs.lemmas.Result.{IfOk-weaker}
+use Rattle.std.proofs.{Common.{◌≡◌, ◌-◌, Some, length, rules, slice_get}, lemmas.Result.IfOk-weaker}
 use Rattle.wax_set.proofs.Edges.{last_ends}
 use Rattle.wax_set.proofs.set.edges.ends_of.Goals as goal
 

@@ -1,6 +1,5 @@
 use Rattle.std.proofs.Common.{◌∙◌, sym, true≢false}
-use Rattle.wax_set.proofs.Edges.{known_ends}
-use Rattle.wax_set.proofs.set.edges.may_end.Goals.{then-is_empty, else-is_empty}
+use Rattle.wax_set.proofs.{Edges.known_ends, set.edges.may_end.Goals.{then-is_empty, else-is_empty}}
 use Rattle.wax_set.proofs.set.edges.may_end.Goals as goal
 
 pub returns-else-is_empty-2 : goal.returns-else-is_empty-2

@@ -1,6 +1,5 @@
 use Rattle.std.proofs.Common.{◌≡◌, ◌∙◌, [], ◌∷◌, chars, false, subst, sym}
-use Rattle.wax_prefilter.proofs.Holding.{chars_slash}
-use Rattle.wax_prefilter.proofs.MeantEdges.{as_seen, same_text}
+use Rattle.wax_prefilter.proofs.{Holding.chars_slash, MeantEdges.{as_seen, same_text}}
 use Rattle.wax_token.specs.Meaning.{Means, SameText}
 use Rattle.wax_set.proofs.set.edges.only_text.Goals as goal
 

@@ -1,12 +1,9 @@
 use Rattle.std.proofs.Common.{◌≡◌, ◌∙◌, ap, subst, sym, map, chars}
 use Rattle.wax_exclude.proofs.Origins.{can_least}
-use Rattle.wax_exclude.specs.BeginsRequest.{within}
-use Rattle.wax_exclude.specs.Premises.{BeginsWith}
+use Rattle.wax_exclude.specs.{BeginsRequest.within, Premises.BeginsWith}
 use Rattle.wax_query.specs.Ranges.{bounds}
-use Rattle.wax_token.specs.Syntax.{alternation}
-use Rattle.wax_token.specs.Words.{trees}
-use Rattle.wax_tree.specs.Begins.{behavior_range}
-use Rattle.wax_tree.specs.Prefix.{from_last}
+use Rattle.wax_token.specs.{Syntax.alternation, Words.trees}
+use Rattle.wax_tree.specs.{Begins.behavior_range, Prefix.from_last}
 use Rattle.wax_walk.proofs.Collecting.{map_ok}
 use Rattle.wax_set.proofs.Walks.{set_begins}
 use Rattle.wax_set.proofs.set.walking.walk_in.Goals as goal

@@ -1,6 +1,5 @@
-use Rattle.std.proofs.Common.{◌≡◌, ◌+◌, length, sym, subst, arith}
+use Rattle.std.proofs.{Common.{◌≡◌, ◌+◌, length, sym, subst, arith}, lemmas.Result.IfOk-weaker}
 use Rattle.wax_program.proofs.Members.{members_within}
-use Rattle.std.proofs.lemmas.Result.{IfOk-weaker}
 use Rattle.wax_program.specs.Threads.{IsDone}
 use Rattle.wax_states.proofs.Listings.{list_read}
 use Rattle.wax_states.proofs.listed_sets.ListedSets.list_ends.Goals as goal

@@ -18,7 +18,7 @@ returns-clause-reaches c =
     let sized : loaded.size ≡ length code = c.load.ensures.size ∙ c.self.view_is ∙ c.requires in
     let same : c.add_next.new.self.size ≡ loaded.size = c.add_next.ensures.size ∙ c.advance.ensures.size in
     let listed = lists_permuted c.list_next-listed.new.places.items c.sort_unstable.new.self.items
-    c.add_next.new.self.next c.sort_unstable.ensures.permutation c.in_ok-listed.ensures in
+    c.add_next.new.self.next c.sort_unstable.ensures.permutation c.in_ok-listed.ensures.lists in
     reached_listed code c.args.places.now loaded.size loaded.pending sized c.load.ensures.loaded c.args.c
     c.args.also.now c.sort_unstable.new.self.items
     c.advance.new.sets.next c.add_next.new.self.next c.advance.ensures.advances
@@ -41,4 +41,4 @@ returns-clause-own c =
     let next = c.advance.new.sets.next in
     reached_listed code c.args.places.now loaded.size loaded.pending sized c.load.ensures.loaded c.args.c []
     c.list_next-listed_own.new.places.items
-    next next c.advance.ensures.advances (joined_nothing next loaded.size) c.in_ok-listed_own.ensures
+    next next c.advance.ensures.advances (joined_nothing next loaded.size) c.in_ok-listed_own.ensures.lists

@@ -1,5 +1,4 @@
-use Rattle.std.proofs.Common.{length, refl, sym, ◌∙◌, ap}
-use Rattle.std.proofs.lemmas.Option.{slice_get_read}
+use Rattle.std.proofs.{Common.{length, refl, sym, ◌∙◌, ap}, lemmas.Option.slice_get_read}
 use Rattle.wax_states.specs.States.{places_in}
 use Rattle.wax_states.proofs.table.Table.places.Goals as goal
 

@@ -1,5 +1,4 @@
-use Rattle.std.proofs.Common.{length, refl}
-use Rattle.std.proofs.lemmas.Option.{slice_get_read}
+use Rattle.std.proofs.{Common.{length, refl}, lemmas.Option.slice_get_read}
 use Rattle.wax_states.proofs.table.Table.settle_numbers.Goals as goal
 
 pub returns-clause-states : goal.returns-clause-states

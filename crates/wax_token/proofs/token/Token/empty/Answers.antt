@@ -1,5 +1,4 @@
-use Rattle.std.proofs.Common.{◌≡◌, [], chars, false, ap, ◌∙◌}
-use Rattle.std.proofs.lemmas.Str.{chars-nil}
+use Rattle.std.proofs.{Common.{◌≡◌, [], chars, false, ap, ◌∙◌}, lemmas.Str.chars-nil}
 use Rattle.wax_token.specs.Syntax.{leaf, literal}
 use Rattle.wax_token.proofs.token.Token.empty.Goals as goal
 

@@ -1,7 +1,5 @@
 use Rattle.std.proofs.Common.{◌≡◌, drop}
-use Rattle.wax_token.specs.Kinds.{some_has_boundary}
-use Rattle.wax_token.specs.Syntax.{tree_size, trees_size}
-use Rattle.wax_token.specs.Words.{trees}
+use Rattle.wax_token.specs.{Kinds.some_has_boundary, Syntax.{tree_size, trees_size}, Words.trees}
 use Rattle.wax_token.proofs.token.boundary.+has_boundary.Given as goal
 
 abbrev pub decreases-has_boundary : goal.decreases-has_boundary

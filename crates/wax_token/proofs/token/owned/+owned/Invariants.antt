@@ -1,7 +1,6 @@
 use Rattle.std.proofs.Common.{◌≡◌, ◌++◌, length}
 use Rattle.std.specs.Vec.Iter.{into_iter_items, into_iter_len}
-use Rattle.wax_token.specs.Syntax.{tree_size, trees_size}
-use Rattle.wax_token.specs.Words.{trees}
+use Rattle.wax_token.specs.{Syntax.{tree_size, trees_size}, Words.trees}
 use Rattle.wax_token.proofs.token.owned.+owned.Given as goal
 
 abbrev pub decreases-owned : goal.decreases-owned

@@ -1,7 +1,5 @@
 use Rattle.std.proofs.Common.{◌≡◌, ◌↔◌, ◌∙◌, IsTrue, rules, sym}
-use Rattle.wax_token.specs.Syntax.{alternation, concatenation}
-use Rattle.wax_token.specs.View.{branch_tree}
-use Rattle.wax_token.specs.Words.{trees}
+use Rattle.wax_token.specs.{Syntax.{alternation, concatenation}, View.branch_tree, Words.trees}
 use Rattle.wax_token.proofs.Same.{alternation_same, concatenation_same}
 use Rattle.wax_token.proofs.token.same.+same.Goals as goal
 

@@ -1,6 +1,5 @@
 use Rattle.std.proofs.Common.{◌≡◌, chars, rules}
-use Rattle.wax_token.specs.Syntax.{literal}
-use Rattle.wax_token.specs.View.{leaf_of}
+use Rattle.wax_token.specs.{Syntax.literal, View.leaf_of}
 use Rattle.wax_token.proofs.Same.{literal_same}
 use Rattle.wax_token.proofs.token.same.same_leaf.Goals as goal
 

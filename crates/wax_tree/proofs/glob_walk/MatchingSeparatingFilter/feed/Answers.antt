@@ -1,13 +1,11 @@
 use Rattle.std.specs.Prelude.{Some, None, ◌≡◌}
 use Rattle.std.proofs.Common.{refl, sym, subst, ◌∙◌}
-use Rattle.wax_walk.specs.Candidates.{of_candidate}
-use Rattle.wax_walk.specs.Entries.{facts_of, given_of}
+use Rattle.wax_walk.specs.{Candidates.of_candidate, Entries.{facts_of, given_of}}
 use Rattle.wax_walk.specs.Given.{mark_by, changed_by, cut_by}
 use Rattle.wax_walk.proofs.RuleSteps.{ruled_ends, ruled_cuts, ruled_lacks, ruled_passes, ruled_stays}
-use Rattle.wax_tree.specs.Matches.{glob_facts}
-use Rattle.wax_tree.specs.Programs.{leading_mark}
-use Rattle.wax_tree.proofs.glob_walk.MatchingSeparatingFilter.feed.Goals as goal
+use Rattle.wax_tree.specs.{Matches.glob_facts, Programs.leading_mark}
 use Rattle.wax_tree.proofs.glob_walk.MatchingSeparatingFilter.feed.Goals.{then-cuts, else-cuts}
+use Rattle.wax_tree.proofs.glob_walk.MatchingSeparatingFilter.feed.Goals as goal
 
 pub returns-in_err-separation-clause-steps : goal.returns-in_err-separation-clause-steps
 returns-in_err-separation-clause-steps g c =

@@ -1,28 +1,22 @@
-use Rattle.std.proofs.Common.{◌≡◌, ap, arith, refl, sym, subst, length, ◌+◌, inl}
+use Rattle.std.proofs.Common.{◌≡◌, ap, arith, refl, sym, subst, length, ◌+◌, inl, [], ◌∷◌, ◌∙◌, ◌++◌}
 use Rattle.std.specs.Prelude.{Ok, Err, None, Some}
-use Rattle.wax_directory.specs.declared.directory.DirectoryFault.TheVariants as F
-use Rattle.wax_directory.specs.Counting.{kind_counts}
+use Rattle.wax_directory.specs.{Counting.kind_counts, History.{absent, found, unseen}}
 use Rattle.wax_walk.specs.declared.error.FaultKind.TheVariants.{NotFound, Listing}
-use Rattle.wax_walk.specs.declared.error.WalkError.TheVariants.{Fault}
-use Rattle.wax_walk.specs.Given.{fault, no_memory}
-use Rattle.wax_walk.specs.View.{IsLast}
+use Rattle.wax_walk.specs.{declared.error.WalkError.TheVariants.Fault, Given.{fault, no_memory}, View.IsLast}
+use Rattle.wax_walk.specs.Course.{asking, call}
 use Rattle.wax_tree.specs.Prefix.{from_last}
-use Rattle.wax_tree.specs.Walking.{scope_of, located, cursors_of, begins, names_left, open_lists}
-use Rattle.wax_tree.specs.Walking.{step_given}
+use Rattle.wax_tree.specs.Walking.{scope_of, located, cursors_of, begins, names_left, open_lists, step_given}
+use Rattle.wax_tree.specs.Reaching.{OfAny, OnWay, ReachesFrom, no_folders}
+use Rattle.wax_tree.specs.Courses.{AlongComes, is_failing, is_missing, is_there}
 use Rattle.wax_tree.proofs.Showing.{has_kind, begins_missing, begins_failing}
 use Rattle.wax_tree.proofs.Resting.{rest_moved, comes_rest}
 use Rattle.wax_tree.proofs.UsingAnswers.{counted_same, answer_used, failed_uses_answer, gives_uses_answer}
 use Rattle.wax_tree.proofs.UsingAnswers.{kind_no_listing, none_begins, stopped_uses_answer, stops_with}
-use Rattle.wax_tree.proofs.UsingAnswers.{step_from}
-use Rattle.wax_tree.proofs.Stepping.{gives_fault}
-use Rattle.wax_tree.specs.Reaching.{OfAny, OnWay, ReachesFrom, no_folders}
+use Rattle.wax_tree.proofs.{UsingAnswers.step_from, Stepping.gives_fault}
 use Rattle.wax_tree.proofs.Reaching.{fault_places, leads_here, reaches_more, stopped_places, way_here}
 use Rattle.wax_tree.proofs.Coursing.{ends_spends, fault_uses, memory_uses, nothing_spent, stopped_uses}
 use Rattle.wax_tree.proofs.Coursing.{some_along, uses_more}
-use Rattle.std.proofs.Common.{[], ◌∷◌, ◌∙◌, ◌++◌}
-use Rattle.wax_directory.specs.History.{absent, found, unseen}
-use Rattle.wax_walk.specs.Course.{asking, call}
-use Rattle.wax_tree.specs.Courses.{AlongComes, is_failing, is_missing, is_there}
+use Rattle.wax_directory.specs.declared.directory.DirectoryFault.TheVariants as F
 use Rattle.wax_tree.proofs.steps.Steps.begin.Goals as goal
 
 pub returns-in-Ok-Some-clause-continues : goal.returns-in-Ok-Some-clause-continues

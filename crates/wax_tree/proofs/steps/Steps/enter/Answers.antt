@@ -1,32 +1,22 @@
 use Rattle.std.specs.Prelude.{Some}
-use Rattle.std.proofs.Common.{subst, refl, sym, ap, inl, Err, ◌++◌, ◌∷◌, []}
+use Rattle.std.proofs.Common.{subst, refl, sym, ap, inl, Err, ◌++◌, ◌∷◌, [], ◌≡◌, ◌+◌, ◌≤◌, ◌∙◌, arith, cond}
+use Rattle.std.proofs.Common.{length, length-append, true}
 use Rattle.wax_walk.specs.declared.error.FaultKind.TheVariants.{Listing}
-use Rattle.wax_walk.specs.declared.error.WalkError.TheVariants.{Fault, Memory}
-use Rattle.wax_walk.specs.Given.{fault, no_memory}
-use Rattle.wax_walk.specs.View.{lacks_memory}
-use Rattle.wax_tree.specs.Walking.{cursors_of, located}
-use Rattle.wax_tree.proofs.Resting.{rest_moved, listed_more}
-use Rattle.wax_tree.proofs.Stepping.{enters, enters_sealed}
-use Rattle.wax_tree.specs.Reaching.{IsOf, OfAny, ReachesFrom, no_folders}
+use Rattle.wax_walk.specs.{declared.error.WalkError.TheVariants.{Fault, Memory}, Given.{fault, no_memory}}
+use Rattle.wax_walk.specs.{View.lacks_memory, Course.{asking, asks, call, stop, yields}}
+use Rattle.wax_tree.specs.Walking.{cursors_of, located, scope_of, allowance, begins, names_left, open_lists}
+use Rattle.wax_tree.specs.{Walking.step_given, Reaching.{IsOf, OfAny, ReachesFrom, no_folders}}
+use Rattle.wax_tree.specs.{Stepping.{FolderComes, Asked}, declared.steps.Step.TheVariants.{GoesOn, Gives}}
+use Rattle.wax_tree.proofs.{Resting.{rest_moved, listed_more}, Stepping.{enters, enters_sealed}}
 use Rattle.wax_tree.proofs.Reaching.{failed_places, fault_places, leads_here, pushed_reaches, reaches_more}
 use Rattle.wax_tree.proofs.Reaching.{silent_places}
 use Rattle.wax_tree.proofs.Coursing.{ends_spends, fault_uses, memory_uses, nothing_spent, opened_uses}
-use Rattle.wax_tree.proofs.Coursing.{some_folder, some_opened}
-use Rattle.wax_directory.specs.History.{opened, refused}
-use Rattle.wax_walk.specs.Course.{asking, asks, call, stop, yields}
-use Rattle.wax_directory.specs.Shown.{a_sealed}
-use Rattle.wax_tree.specs.Stepping.{FolderComes}
-use Rattle.wax_tree.specs.Walking.{scope_of}
-use Rattle.wax_tree.proofs.steps.Steps.enter.Goals as goal
-use Rattle.wax_tree.proofs.steps.Steps.enter.Goals.{in-Ok-push, in-Err}
-use Rattle.std.proofs.Common.{◌≡◌, ◌+◌, ◌≤◌, ◌∙◌, arith, cond, length, length-append, true}
-use Rattle.wax_directory.specs.Counting.{no_counts}
-use Rattle.wax_tree.specs.Stepping.{Asked}
-use Rattle.wax_tree.specs.declared.steps.Step.TheVariants.{GoesOn, Gives}
-use Rattle.wax_tree.specs.Walking.{allowance, begins, names_left, open_lists, step_given}
+use Rattle.wax_tree.proofs.{Coursing.{some_folder, some_opened}, steps.Steps.enter.Goals.{in-Ok-push, in-Err}}
 use Rattle.wax_tree.proofs.UsingAnswers.{answer_used, counted_same, failed_uses_answer, failure_counted}
 use Rattle.wax_tree.proofs.UsingAnswers.{gives_uses_answer, memory_uses_answer, opening_counted, opening_lost}
 use Rattle.wax_tree.proofs.UsingAnswers.{none_enters, silent_uses_answer}
+use Rattle.wax_directory.specs.{History.{opened, refused}, Shown.a_sealed, Counting.no_counts}
+use Rattle.wax_tree.proofs.steps.Steps.enter.Goals as goal
 
 pub returns-after-push-clause-continues : goal.returns-after-push-clause-continues
 returns-after-push-clause-continues g c s h i rest items r e =

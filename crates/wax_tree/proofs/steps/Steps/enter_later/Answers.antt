@@ -1,11 +1,8 @@
 use Rattle.std.proofs.Common.{rules, arith, ◌≡◌, ◌∙◌, ◌+◌, refl, subst}
 use Rattle.wax_directory.specs.declared.directory.FileType.TheVariants.{Folder}
 use Rattle.wax_walk.specs.Entries.{facts_of}
-use Rattle.wax_tree.specs.Walking.{entry_location, scope_of}
-use Rattle.wax_tree.specs.Plain.{HasKind}
-use Rattle.wax_tree.proofs.Resting.{enters_later}
-use Rattle.wax_tree.specs.Stepping.{remembered}
-use Rattle.wax_tree.proofs.Locations.{folder_is}
+use Rattle.wax_tree.specs.{Walking.{entry_location, scope_of}, Plain.HasKind, Stepping.remembered}
+use Rattle.wax_tree.proofs.{Resting.enters_later, Locations.folder_is}
 use Rattle.wax_tree.proofs.steps.Steps.enter_later.Goals as goal
 
 pub returns-in_ok-path-clause-entered : goal.returns-in_ok-path-clause-entered

@@ -1,33 +1,25 @@
-use Rattle.std.proofs.Common.{rules, true, false, ◌≡◌, ◌+◌, ◌<◌, ◌∷◌, [], length, arith, ap, sym}
-use Rattle.std.proofs.Common.{subst, ◌∙◌, string_bytes, length-append, inl, refl}
+use Rattle.std.proofs.Common.{rules, true, false, ◌≡◌, ◌+◌, ◌<◌, ◌∷◌, [], length, arith, ap, sym, subst, ◌∙◌}
+use Rattle.std.proofs.Common.{string_bytes, length-append, inl, refl, cond}
 use Rattle.std.specs.Prelude.{Some}
 use Rattle.wax_directory.specs.declared.directory.FileType.TheVariants.{Folder}
-use Rattle.wax_walk.specs.declared.error.FaultKind.TheVariants.{NotAFolder}
-use Rattle.wax_walk.specs.Forest.{pending, nothing}
+use Rattle.wax_walk.specs.{declared.error.FaultKind.TheVariants.NotAFolder, Forest.{pending, nothing}}
 use Rattle.wax_walk.specs.Given.{Facts, fault}
 use Rattle.wax_tree.specs.Prefix.{from_last, walk_from}
-use Rattle.wax_tree.specs.Stepping.{Continues, StepIs, StepPlaces}
-use Rattle.wax_tree.specs.Plain.{count_shown, entry_forest}
-use Rattle.wax_tree.specs.Walking.{entry_location, scope_of, located}
-use Rattle.wax_tree.specs.Plain.{HasKind}
-use Rattle.wax_tree.proofs.Showing.{none_left, plain_is, from_last_end, follows_leaf}
-use Rattle.wax_tree.proofs.Locations.{onward_is}
-use Rattle.wax_tree.proofs.UsingAnswers.{leaf_counted, stopped_uses_answer, stops_with}
-use Rattle.wax_tree.proofs.Stepping.{follows}
+use Rattle.wax_tree.specs.Stepping.{Continues, StepIs, StepPlaces, ComesLast, EntryComes, UsesCourse}
+use Rattle.wax_tree.specs.Plain.{count_shown, entry_forest, HasKind}
+use Rattle.wax_tree.specs.Walking.{entry_location, scope_of, located, begins, names_left}
 use Rattle.wax_tree.specs.declared.steps.StartPoint.{StartPoint}
 use Rattle.wax_tree.specs.Reaching.{LeadsUnseen, OfAny, OnWay, OneFolder, ReachesFrom, no_folders}
+use Rattle.wax_tree.specs.Courses.{FoundComes}
+use Rattle.wax_tree.proofs.{Showing.{none_left, plain_is, from_last_end, follows_leaf}, Locations.onward_is}
+use Rattle.wax_tree.proofs.UsingAnswers.{leaf_counted, stopped_uses_answer, stops_with, kind_counted}
+use Rattle.wax_tree.proofs.UsingAnswers.{kind_uses_answer, memory_uses_answer, none_begins, none_either}
+use Rattle.wax_tree.proofs.{UsingAnswers.silent_uses_answer, Stepping.follows}
 use Rattle.wax_tree.proofs.Reaching.{leads_here, leads_more, next_reaches, places_more, reaches_more}
 use Rattle.wax_tree.proofs.Reaching.{silent_places, stopped_places, way_here}
 use Rattle.wax_tree.proofs.Coursing.{follows_uses, memory_uses, misplaced_place, some_place, uses_moved}
-use Rattle.wax_tree.specs.Courses.{FoundComes}
-use Rattle.wax_tree.specs.Stepping.{ComesLast, EntryComes, UsesCourse}
 use Rattle.wax_tree.proofs.Coursing as course
 use Rattle.wax_tree.proofs.steps.Steps.follow.Goals as goal
-use Rattle.std.proofs.Common.{cond}
-use Rattle.wax_tree.specs.Walking.{begins, names_left}
-use Rattle.wax_tree.proofs.UsingAnswers.{kind_counted, kind_uses_answer, memory_uses_answer, none_begins}
-use Rattle.wax_tree.proofs.UsingAnswers.{none_either}
-use Rattle.wax_tree.proofs.UsingAnswers.{silent_uses_answer}
 
 pub returns-in_default-clause-continues : goal.returns-in_default-clause-continues
 returns-in_default-clause-continues g c s h k p d empty rest items r e =

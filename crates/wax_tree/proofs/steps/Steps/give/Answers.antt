@@ -1,17 +1,15 @@
-use Rattle.std.proofs.Common.{◌≡◌, ap, arith, []}
+use Rattle.std.proofs.Common.{◌≡◌, ap, arith, [], ◌+◌, ◌∙◌, refl}
 use Rattle.std.specs.Prelude.{Ok}
 use Rattle.wax_walk.specs.Entries.{facts_of}
 use Rattle.wax_tree.specs.Plain.{plain_entry}
-use Rattle.wax_tree.specs.Walking.{entry_location, tree_given}
-use Rattle.wax_tree.proofs.Stepping.{goes_silently, gives_entry}
-use Rattle.wax_tree.proofs.steps.Steps.give.Goals as goal
-use Rattle.std.proofs.Common.{◌+◌, ◌∙◌, refl}
+use Rattle.wax_tree.specs.Walking.{entry_location, tree_given, allowance, begins, entering, names_left}
 use Rattle.wax_tree.specs.Stepping.{nothing_asked}
-use Rattle.wax_tree.specs.Walking.{allowance, begins, entering, names_left}
-use Rattle.wax_tree.proofs.UsingAnswers.{counted_same, entered_uses_answer, one_enters}
+use Rattle.wax_tree.proofs.Stepping.{goes_silently, gives_entry}
+use Rattle.wax_tree.proofs.UsingAnswers.{counted_same, entered_uses_answer, one_enters, memory_uses_answer}
+use Rattle.wax_tree.proofs.UsingAnswers.{silent_uses_answer}
 use Rattle.wax_tree.proofs.Coursing.{gives_uses, memory_uses, passes_uses, some_entry}
 use Rattle.wax_tree.proofs.Listing.{remembers_one}
-use Rattle.wax_tree.proofs.UsingAnswers.{memory_uses_answer, silent_uses_answer}
+use Rattle.wax_tree.proofs.steps.Steps.give.Goals as goal
 
 pub returns-then-depth-self-clause-continues : goal.returns-then-depth-self-clause-continues
 returns-then-depth-self-clause-continues g c s h k rest items r e =

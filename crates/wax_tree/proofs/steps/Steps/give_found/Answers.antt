@@ -1,18 +1,12 @@
-use Rattle.std.proofs.Common.{arith, ap, refl, subst, string_bytes, ◌≡◌, ◌≤◌, ◌+◌, ◌-◌}
+use Rattle.std.proofs.Common.{arith, ap, refl, subst, string_bytes, ◌≡◌, ◌≤◌, ◌+◌, ◌-◌, []}
 use Rattle.std.specs.Prelude.{Err}
-use Rattle.wax_walk.specs.declared.error.WalkError.TheVariants as W
 use Rattle.wax_walk.specs.Given.{fault}
-use Rattle.wax_tree.specs.Plain.{count_shown}
-use Rattle.wax_tree.specs.Reaching.{OneFolder, ReachesFrom}
-use Rattle.wax_tree.specs.Stepping.{StepPlaces}
-use Rattle.wax_tree.specs.Walking.{begins, names_left, scope_of}
+use Rattle.wax_tree.specs.{Plain.count_shown, Reaching.{OneFolder, ReachesFrom}}
+use Rattle.wax_tree.specs.{Stepping.{StepPlaces, ItemComes}, Walking.{begins, names_left, scope_of}}
 use Rattle.wax_tree.proofs.Finding.{found_entry, found_fault, entry_uses_answer, found_uses_answer}
-use Rattle.wax_tree.proofs.Resting.{comes_rest}
-use Rattle.wax_tree.proofs.Stepping.{gives_fault}
-use Rattle.wax_tree.proofs.Reaching.{entry_places, found_places}
+use Rattle.wax_tree.proofs.{Resting.comes_rest, Stepping.gives_fault, Reaching.{entry_places, found_places}}
 use Rattle.wax_tree.proofs.Coursing.{entry_item, fault_item, fault_uses, uses_moved}
-use Rattle.std.proofs.Common.{[]}
-use Rattle.wax_tree.specs.Stepping.{ItemComes}
+use Rattle.wax_walk.specs.declared.error.WalkError.TheVariants as W
 use Rattle.wax_tree.proofs.steps.Steps.give_found.Goals as goal
 
 pub returns-in-Entry-clause-uses_answer : goal.returns-in-Entry-clause-uses_answer

@@ -1,26 +1,16 @@
-use Rattle.std.proofs.Common.{arith, refl}
-use Rattle.wax_directory.specs.Shown.{rest_of}
-use Rattle.wax_tree.specs.Walking.{cursors_of, located}
-use Rattle.wax_tree.proofs.Resting.{rest_moved}
-use Rattle.wax_tree.proofs.UsingAnswers.{step_from}
-use Rattle.wax_tree.proofs.Showing.{shows_in_moved, shows_rest}
-use Rattle.wax_tree.proofs.Stepping.{goes_up}
-use Rattle.wax_tree.proofs.Coursing.{closed_uses, ends_spends, item_taken, memory_uses, nothing_spent}
-use Rattle.wax_tree.proofs.Coursing.{some_rest, uses_moved}
-use Rattle.wax_walk.specs.Given.{no_memory}
-use Rattle.std.proofs.Common.{ap, ◌∙◌, [], ◌∷◌}
-use Rattle.wax_directory.specs.Answers.{listed_of}
-use Rattle.wax_directory.specs.History.{at_end, listed}
-use Rattle.wax_walk.specs.Course.{call}
-use Rattle.wax_tree.specs.Walking.{scope_of}
-use Rattle.wax_tree.proofs.steps.Steps.list_next.Goals as goal
-use Rattle.std.proofs.Common.{◌+◌}
+use Rattle.std.proofs.Common.{arith, refl, ap, ◌∙◌, [], ◌∷◌, ◌+◌}
+use Rattle.wax_directory.specs.{Shown.rest_of, Answers.listed_of, History.{at_end, listed}}
 use Rattle.wax_directory.specs.Counting.{end_counts, item_counts, no_counts}
+use Rattle.wax_tree.specs.Walking.{cursors_of, located, scope_of, begins, names_left, open_lists, step_given}
 use Rattle.wax_tree.specs.declared.steps.Step.TheVariants.{GoesOn}
-use Rattle.wax_tree.specs.Walking.{begins, names_left, open_lists, step_given}
-use Rattle.wax_tree.proofs.Finding.{one_item}
-use Rattle.wax_tree.proofs.UsingAnswers.{answer_used, counted_same, ending_counted, failed_uses_answer}
-use Rattle.wax_tree.proofs.UsingAnswers.{none_enters, silent_uses_answer}
+use Rattle.wax_tree.proofs.Resting.{rest_moved}
+use Rattle.wax_tree.proofs.UsingAnswers.{step_from, answer_used, counted_same, ending_counted}
+use Rattle.wax_tree.proofs.UsingAnswers.{failed_uses_answer, none_enters, silent_uses_answer}
+use Rattle.wax_tree.proofs.{Showing.{shows_in_moved, shows_rest}, Stepping.goes_up}
+use Rattle.wax_tree.proofs.Coursing.{closed_uses, ends_spends, item_taken, memory_uses, nothing_spent}
+use Rattle.wax_tree.proofs.{Coursing.{some_rest, uses_moved}, Finding.one_item}
+use Rattle.wax_walk.specs.{Given.no_memory, Course.call}
+use Rattle.wax_tree.proofs.steps.Steps.list_next.Goals as goal
 
 pub returns-in-Ok-None-clause-lists : goal.returns-in-Ok-None-clause-lists
 returns-in-Ok-None-clause-lists g c l rest items b e =

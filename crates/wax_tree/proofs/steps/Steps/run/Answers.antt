@@ -1,14 +1,10 @@
-use Rattle.std.proofs.Common.{◌≡◌, ◌∙◌, ℕ, [], ap, refl, sym, subst, arith}
-use Rattle.std.proofs.lemmas.List.{append-nil}
-use Rattle.wax_tree.specs.declared.steps.Step.TheVariants.{Gives, Ends}
-use Rattle.wax_tree.proofs.Stepping.{leads_on, run_gives}
-use Rattle.wax_tree.proofs.Reaching.{run_places, run_reaches}
+use Rattle.std.proofs.{Common.{◌≡◌, ◌∙◌, ℕ, [], ap, refl, sym, subst, arith, ◌++◌}, lemmas.List.append-nil}
+use Rattle.wax_tree.specs.{declared.steps.Step.TheVariants.{Gives, Ends}, Walking.{step_given, entering}}
+use Rattle.wax_tree.proofs.{Stepping.{leads_on, run_gives}, Reaching.{run_places, run_reaches}}
 use Rattle.wax_tree.proofs.Listing.{accounts_none, accounts_on, accounts_run, stopped_begun, stopped_closed}
-use Rattle.wax_tree.specs.Walking.{step_given, entering}
-use Rattle.wax_walk.specs.View.{opens_one, is_above}
-use Rattle.std.proofs.Common.{◌++◌}
 use Rattle.wax_tree.proofs.CourseRuns.{course_begun, course_on, run_answered, run_begins, run_follows}
 use Rattle.wax_tree.proofs.CourseRuns.{run_spends, run_stops}
+use Rattle.wax_walk.specs.View.{opens_one, is_above}
 use Rattle.wax_tree.proofs.steps.Steps.run.Goals as goal
 
 pub loop-item-init : goal.loop-item-init

@@ -1,11 +1,7 @@
 use Rattle.std.proofs.Common.{◌≡◌, ◌≤◌, ◌+◌, ℕ, List}
-use Rattle.wax_walk.specs.Forest.{Pending}
-use Rattle.wax_walk.specs.Given.{Given}
-use Rattle.wax_tree.proofs.CourseRuns.{CourseSoFar}
-use Rattle.wax_tree.proofs.Lead.{ListsBetween}
-use Rattle.wax_tree.proofs.Listing.{AccountsSoFar}
-use Rattle.wax_tree.specs.Reaching.{MayReach}
-use Rattle.wax_tree.specs.Stepping.{items_left, steps_left}
+use Rattle.wax_walk.specs.{Forest.Pending, Given.Given}
+use Rattle.wax_tree.proofs.{CourseRuns.CourseSoFar, Lead.ListsBetween, Listing.AccountsSoFar}
+use Rattle.wax_tree.specs.{Reaching.MayReach, Stepping.{items_left, steps_left}}
 use Rattle.wax_tree.specs.Walking.{PlainToCome, allowance, names_left, HasStopped}
 use Rattle.wax_tree.proofs.steps.Steps.run.Given as goal
 

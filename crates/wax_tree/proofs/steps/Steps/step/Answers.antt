@@ -1,21 +1,16 @@
-use Rattle.std.specs.Prelude.{None}
+use Rattle.std.specs.Prelude.{None, Some}
 use Rattle.std.proofs.Common.{rules, ◌≡◌, ◌∙◌, false, true, [], ap, arith, sym, refl, inl, inr, ℕ, List}
-use Rattle.wax_tree.proofs.UsingAnswers.{step_from}
-use Rattle.wax_tree.proofs.Showing.{none_left}
+use Rattle.std.proofs.Common.{subst, ◌+◌, cond, length, length-append}
+use Rattle.wax_tree.proofs.{UsingAnswers.step_from, Showing.none_left}
 use Rattle.wax_tree.proofs.Stepping.{steps_begin, steps_enter, steps_list, steps_none, steps_ended}
-use Rattle.wax_tree.specs.Reaching.{IsOf, MayReach, OnWay, ReachesFrom}
 use Rattle.wax_tree.proofs.Reaching.{entered_reaches, first_reaches, places_more, popped_reaches}
-use Rattle.wax_tree.proofs.Coursing.{comes_ahead, course_moved, levels_push, stops_so}
-use Rattle.std.proofs.Common.{subst}
+use Rattle.wax_tree.proofs.{Coursing.{comes_ahead, course_moved, levels_push, stops_so}, Listing.step_is}
+use Rattle.wax_tree.specs.{Reaching.{IsOf, MayReach, OnWay, ReachesFrom}, Courses.entered_course}
+use Rattle.wax_tree.specs.Walking.{EnteredComes, FirstComes, LevelsCome, located, scope_of, begins, entering}
+use Rattle.wax_tree.specs.Walking.{entering_after, if_some, names_left, names_of_first, open_lists}
+use Rattle.wax_tree.specs.Walking.{steps_view, HasStopped}
 use Rattle.wax_walk.specs.Course.{ahead, stop}
-use Rattle.wax_tree.specs.Courses.{entered_course}
-use Rattle.wax_tree.specs.Walking.{EnteredComes, FirstComes, LevelsCome, located, scope_of}
 use Rattle.wax_tree.proofs.steps.Steps.step.Goals as goal
-use Rattle.std.proofs.Common.{◌+◌, cond, length, length-append}
-use Rattle.std.specs.Prelude.{Some}
-use Rattle.wax_tree.specs.Walking.{begins, entering, entering_after, if_some, names_left, names_of_first}
-use Rattle.wax_tree.specs.Walking.{open_lists, steps_view, HasStopped}
-use Rattle.wax_tree.proofs.Listing.{step_is}
 
 pub returns-then-self-clause-step : goal.returns-then-self-clause-step
 returns-then-self-clause-step g c p h = steps_ended g.D.Directory.law c.args.self.now p h c.if-self.true

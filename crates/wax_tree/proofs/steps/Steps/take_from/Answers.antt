@@ -1,28 +1,17 @@
-use Rattle.std.proofs.Common.{arith, ap, inl, refl, ◌≡◌, ◌≤◌, ◌+◌, ◌∙◌, cond}
-use Rattle.std.proofs.Common.{length-append, length, ◌-◌}
-use Rattle.wax_directory.specs.Answers.{listed_of}
-use Rattle.wax_directory.specs.Counting.{item_counts}
-use Rattle.wax_directory.specs.Shown.{rest_of}
-use Rattle.wax_tree.specs.inner.Heads.{own_count}
-use Rattle.wax_tree.specs.Plain.{count}
-use Rattle.wax_tree.specs.Walking.{scope_of, located, allowance, begins, names_left}
-use Rattle.wax_tree.proofs.Finding.{taken_uses_answer}
-use Rattle.wax_tree.proofs.Resting.{rest_pushed, rest_spent}
-use Rattle.wax_tree.proofs.UsingAnswers.{stops_over, step_from}
-use Rattle.wax_tree.proofs.Showing.{headed_is, count_rest}
-use Rattle.wax_tree.proofs.Stepping.{saves_after}
-use Rattle.wax_walk.specs.declared.error.FaultKind.TheVariants.{Budget}
+use Rattle.std.proofs.Common.{arith, ap, inl, refl, ◌≡◌, ◌≤◌, ◌+◌, ◌∙◌, cond, length-append, length, ◌-◌, []}
+use Rattle.std.proofs.Common.{◌∷◌, inr, subst}
+use Rattle.wax_directory.specs.{Answers.listed_of, Counting.item_counts, Shown.rest_of, History.listed}
+use Rattle.wax_tree.specs.{inner.Heads.own_count, Plain.count}
+use Rattle.wax_tree.specs.Walking.{scope_of, located, allowance, begins, names_left, LevelsCome}
 use Rattle.wax_tree.specs.Reaching.{IsOf, OfAny, OneFolder, ReachesFrom}
+use Rattle.wax_tree.proofs.{Finding.{taken_uses_answer, item_lost}, Resting.{rest_pushed, rest_spent}}
+use Rattle.wax_tree.proofs.UsingAnswers.{stops_over, step_from, memory_uses_answer, none_begins}
+use Rattle.wax_tree.proofs.{UsingAnswers.stopped_uses_answer, Showing.{headed_is, count_rest}}
+use Rattle.wax_tree.proofs.Stepping.{saves_after}
 use Rattle.wax_tree.proofs.Reaching.{leads_here, places_more, pushed_reaches, stopped_places}
 use Rattle.wax_tree.proofs.Coursing.{levels_last, memory_uses, some_taken, uses_more}
-use Rattle.std.proofs.Common.{[], ◌∷◌, inr, subst}
-use Rattle.wax_directory.specs.History.{listed}
-use Rattle.wax_walk.specs.Course.{call}
-use Rattle.wax_tree.specs.Walking.{LevelsCome}
+use Rattle.wax_walk.specs.{declared.error.FaultKind.TheVariants.Budget, Course.call, Given.fault}
 use Rattle.wax_tree.proofs.steps.Steps.take_from.Goals as goal
-use Rattle.wax_walk.specs.Given.{fault}
-use Rattle.wax_tree.proofs.Finding.{item_lost}
-use Rattle.wax_tree.proofs.UsingAnswers.{memory_uses_answer, none_begins, stopped_uses_answer}
 
 pub returns-then-self-eq0-clause-lists : goal.returns-then-self-eq0-clause-lists
 returns-then-self-eq0-clause-lists g c l rest items h b i e =

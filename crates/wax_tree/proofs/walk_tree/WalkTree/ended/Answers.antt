@@ -1,9 +1,7 @@
 use Rattle.std.proofs.Common.{refl, ap, length, inr, false}
 use Rattle.std.specs.Prelude.{None}
-use Rattle.wax_tree.specs.declared.steps.Steps.{Steps}
-use Rattle.wax_tree.specs.Lacking.{goes}
-use Rattle.wax_tree.proofs.Making.{made_nothing, none_takes}
-use Rattle.wax_tree.proofs.Reaching.{none_entered, none_reached}
+use Rattle.wax_tree.specs.{declared.steps.Steps.Steps, Lacking.goes}
+use Rattle.wax_tree.proofs.{Making.{made_nothing, none_takes}, Reaching.{none_entered, none_reached}}
 use Rattle.wax_tree.proofs.walk_tree.WalkTree.ended.Goals as goal
 
 pub returns-clause-ended : goal.returns-clause-ended

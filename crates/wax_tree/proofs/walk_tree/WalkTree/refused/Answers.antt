@@ -1,9 +1,7 @@
 use Rattle.std.proofs.Common.{refl, ap, length, inl, false, true}
 use Rattle.std.specs.Prelude.{None}
-use Rattle.wax_tree.specs.declared.steps.Steps.{Steps}
-use Rattle.wax_tree.specs.Lacking.{lacks}
-use Rattle.wax_tree.proofs.Making.{lacks_takes}
-use Rattle.wax_tree.proofs.Reaching.{none_entered, none_reached}
+use Rattle.wax_tree.specs.{declared.steps.Steps.Steps, Lacking.lacks}
+use Rattle.wax_tree.proofs.{Making.lacks_takes, Reaching.{none_entered, none_reached}}
 use Rattle.wax_tree.proofs.walk_tree.WalkTree.refused.Goals as goal
 
 pub returns-clause-lacks : goal.returns-clause-lacks

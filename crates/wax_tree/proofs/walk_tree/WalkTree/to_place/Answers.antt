@@ -1,11 +1,7 @@
 use Rattle.std.proofs.Common.{◌≡◌, ◌≤◌, ◌+◌, ◌-◌, ◌^◌, length, refl, arith, ap, inl, false}
 use Rattle.std.specs.Prelude.{Some, None}
-use Rattle.wax_tree.specs.declared.steps.StartPoint.{StartPoint}
-use Rattle.wax_tree.specs.declared.steps.Steps.{Steps}
-use Rattle.wax_tree.specs.Begins.{along}
-use Rattle.wax_tree.specs.Lacking.{goes}
-use Rattle.wax_tree.specs.declared.location.Location.{Location}
-use Rattle.wax_tree.specs.Prefix.{from_last}
+use Rattle.wax_tree.specs.{declared.steps.StartPoint.StartPoint, declared.steps.Steps.Steps, Begins.along}
+use Rattle.wax_tree.specs.{Lacking.goes, declared.location.Location.Location, Prefix.from_last}
 use Rattle.wax_tree.specs.Walking.{located}
 use Rattle.wax_tree.proofs.Making.{ended_at, lacking_at, made_at, made_takes, from_last_length}
 use Rattle.wax_tree.proofs.Reaching.{begins_passed, none_entered}

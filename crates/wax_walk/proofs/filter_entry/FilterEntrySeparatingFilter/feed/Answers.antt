@@ -2,8 +2,8 @@ use Rattle.std.specs.Prelude.{Some, None}
 use Rattle.wax_walk.specs.Entries.{given_of}
 use Rattle.wax_walk.proofs.ClosureSteps.{closure_ends, closure_cuts, closure_passes}
 use Rattle.wax_walk.proofs.Knowing.{keeps_passed, keeps_cut}
-use Rattle.wax_walk.proofs.filter_entry.FilterEntrySeparatingFilter.feed.Goals as goal
 use Rattle.wax_walk.proofs.filter_entry.FilterEntrySeparatingFilter.feed.Goals.{then-cuts, else-cuts}
+use Rattle.wax_walk.proofs.filter_entry.FilterEntrySeparatingFilter.feed.Goals as goal
 
 pub returns-in_err-separation-clause-steps : goal.returns-in_err-separation-clause-steps
 returns-in_err-separation-clause-steps g c =

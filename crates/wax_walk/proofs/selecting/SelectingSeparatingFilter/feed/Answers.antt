@@ -2,10 +2,9 @@ use Rattle.std.proofs.Common.{sym, ◌∙◌}
 use Rattle.std.specs.Prelude.{Some, None}
 use Rattle.wax_walk.specs.Entries.{given_of}
 use Rattle.wax_walk.proofs.PrunedSteps.{selected_cuts, selected_ends, selected_lacks, selected_passes}
-use Rattle.wax_walk.proofs.PrunedSteps.{selected_stays}
-use Rattle.wax_walk.proofs.Knowing.{keeps_passed, keeps_cut}
-use Rattle.wax_walk.proofs.selecting.SelectingSeparatingFilter.feed.Goals as goal
+use Rattle.wax_walk.proofs.{PrunedSteps.selected_stays, Knowing.{keeps_passed, keeps_cut}}
 use Rattle.wax_walk.proofs.selecting.SelectingSeparatingFilter.feed.Goals.{then-selected, else-selected}
+use Rattle.wax_walk.proofs.selecting.SelectingSeparatingFilter.feed.Goals as goal
 
 pub returns-in_err-separation-clause-steps : goal.returns-in_err-separation-clause-steps
 returns-in_err-separation-clause-steps g c =

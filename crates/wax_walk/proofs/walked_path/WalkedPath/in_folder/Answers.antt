@@ -1,9 +1,7 @@
 use Rattle.std.proofs.Common.{◌≡◌, ◌∙◌, ap, string_bytes, subst, sym, arith, length, ◌-◌, take}
-use Rattle.std.proofs.lemmas.List.{length-take-le}
-use Rattle.std.proofs.lemmas.Str.{IsUtf8-string_bytes}
+use Rattle.std.proofs.{lemmas.List.length-take-le, lemmas.Str.IsUtf8-string_bytes}
 use Rattle.wax_directory.specs.Shown.{join}
-use Rattle.wax_walk.specs.Paths.{PathTexts}
-use Rattle.wax_walk.specs.inner.Shared.{IsShared}
+use Rattle.wax_walk.specs.{Paths.PathTexts, inner.Shared.IsShared}
 use Rattle.wax_walk.specs.inner.Texts.{FitsPath, candidate_text, root_text}
 use Rattle.wax_walk.proofs.Sharing.{parts_shared, shared_name, shared_candidate}
 use Rattle.wax_walk.proofs.walked_path.WalkedPath.in_folder.Goals.{then-is_empty, else-is_empty}

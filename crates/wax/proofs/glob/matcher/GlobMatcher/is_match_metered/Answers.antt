@@ -1,13 +1,11 @@
-use Rattle.std.proofs.Common.{◌↔◌, ◌+◌, ◌<◌, ◌≤◌, List, IfOk, IsTrue, ap, chars, length, true, false}
-use Rattle.std.proofs.Common.{refl, sym, subst, rules}
+use Rattle.std.proofs.Common.{◌↔◌, ◌+◌, ◌<◌, ◌≤◌, List, IfOk, IsTrue, ap, chars, length, true, false, refl}
+use Rattle.std.proofs.Common.{sym, subst, rules}
 use Rattle.wax_lazy.proofs.Costs.{path_within}
 use Rattle.wax_lazy.specs.Cost.{path_visits}
 use Rattle.wax_program.specs.declared.instruction.Instruction.{Instruction}
-use Rattle.wax_token.specs.Cost.{program_length}
-use Rattle.wax.specs.GlobView.{IsMeant}
-use Rattle.wax.specs.Matching.{AcceptsMeant}
+use Rattle.wax_token.specs.{Cost.program_length, Decided.means_tested}
+use Rattle.wax.specs.{GlobView.IsMeant, Matching.AcceptsMeant}
 use Rattle.wax_program.proofs.LastNames.{same_answer}
-use Rattle.wax_token.specs.Decided.{means_tested}
 use Rattle.wax_set.proofs.Matchers.{decided_alike, same_truth}
 use Rattle.wax.proofs.glob.matcher.GlobMatcher.is_match_metered.Goals as goal
 

@@ -1,8 +1,7 @@
 use Rattle.std.proofs.Common.{◌≡◌, ◌+◌, ◌≤◌, ◌↔◌, IfOk, IsTrue, false, length, subst}
 use Rattle.wax.specs.GlobView.{IsMeant}
 use Rattle.wax_lazy.specs.Cost.{path_visits}
-use Rattle.wax_token.specs.Cost.{program_length}
-use Rattle.wax_token.specs.Decided.{means_test}
+use Rattle.wax_token.specs.{Cost.program_length, Decided.means_test}
 use Rattle.wax.proofs.glob.owned.OwnedGlobMatcher.is_match_metered.Goals as goal
 
 pub returns-clause-means : goal.returns-clause-means

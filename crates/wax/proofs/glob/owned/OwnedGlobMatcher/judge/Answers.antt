@@ -1,8 +1,7 @@
 use Rattle.std.proofs.Common.{◌≡◌, ◌+◌, ◌≤◌, IfOk, false, length, subst}
 use Rattle.wax_lazy.specs.Cost.{first_visits, path_visits}
 use Rattle.wax_prefilter.specs.Below.{goes_test}
-use Rattle.wax_token.specs.Cost.{program_length}
-use Rattle.wax_token.specs.Decided.{means_test}
+use Rattle.wax_token.specs.{Cost.program_length, Decided.means_test}
 use Rattle.wax.proofs.glob.owned.OwnedGlobMatcher.judge.Goals as goal
 
 pub returns-clause-decides : goal.returns-clause-decides

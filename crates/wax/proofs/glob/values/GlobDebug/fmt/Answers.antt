@@ -1,5 +1,4 @@
-use Rattle.std.proofs.Common.{◌≡◌, ◌∙◌, ap, encode_utf8_all, sym}
-use Rattle.std.proofs.lemmas.Str.{encodes-chars}
+use Rattle.std.proofs.{Common.{◌≡◌, ◌∙◌, ap, encode_utf8_all, sym}, lemmas.Str.encodes-chars}
 use Rattle.wax.proofs.glob.values.GlobDebug.fmt.Goals as goal
 
 pub returns : goal.returns

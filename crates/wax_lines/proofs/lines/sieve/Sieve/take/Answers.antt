@@ -1,5 +1,4 @@
-use Rattle.std.proofs.Common.{[], ◌∷◌, ◌++◌, ap, ◌∙◌, subst, append_assoc}
-use Rattle.std.proofs.lemmas.Result.{on_err_weaker}
+use Rattle.std.proofs.{Common.{[], ◌∷◌, ◌++◌, ap, ◌∙◌, subst, append_assoc}, lemmas.Result.on_err_weaker}
 use Rattle.wax_lines.specs.inner.Progress.{TakesIn}
 use Rattle.wax_lines.proofs.Sifting.{TakesIn-then, on_err}
 use Rattle.wax_lines.proofs.lines.sieve.Sieve.take.Goals as goal

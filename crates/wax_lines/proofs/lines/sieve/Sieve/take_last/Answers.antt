@@ -1,5 +1,4 @@
-use Rattle.std.proofs.Common.{◌≢◌, [], refl, subst}
-use Rattle.std.proofs.lemmas.Result.{on_ok_weaker}
+use Rattle.std.proofs.{Common.{◌≢◌, [], refl, subst}, lemmas.Result.on_ok_weaker}
 use Rattle.wax_lines.specs.Lines.{Gives}
 use Rattle.wax_lines.proofs.Sifting.{TakesLast-none, TakesLast-line, empty_items, filled_items}
 use Rattle.wax_lines.proofs.lines.sieve.Sieve.take_last.Goals as goal

@@ -1,5 +1,4 @@
-use Rattle.std.proofs.Common.{◌≡◌, [], ◌++◌, append-nil, refl, sym, ◌∙◌, subst}
-use Rattle.std.proofs.lemmas.Result.{on_ok_weaker}
+use Rattle.std.proofs.{Common.{◌≡◌, [], ◌++◌, append-nil, refl, sym, ◌∙◌, subst}, lemmas.Result.on_ok_weaker}
 use Rattle.wax_lines.proofs.Sifting.{TakesIn-more, TakesIn-none, TakesIn-line, on_err, empty_items}
 use Rattle.wax_lines.specs.Lines.{Gives}
 use Rattle.wax_lines.proofs.lines.sieve.Sieve.take_line.Goals as goal

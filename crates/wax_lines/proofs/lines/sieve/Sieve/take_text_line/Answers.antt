@@ -1,5 +1,4 @@
-use Rattle.std.proofs.Common.{refl}
-use Rattle.std.proofs.lemmas.Result.{on_ok_weaker}
+use Rattle.std.proofs.{Common.refl, lemmas.Result.on_ok_weaker}
 use Rattle.wax_lines.proofs.Sifting.{TakesIn-text}
 use Rattle.wax_lines.proofs.lines.sieve.Sieve.take_text_line.Goals as goal
 

@@ -1,8 +1,6 @@
-use Rattle.std.proofs.Common.{rules, subst}
-use Rattle.std.proofs.lemmas.List.{nil_from_length}
+use Rattle.std.proofs.{Common.{rules, subst}, lemmas.List.nil_from_length}
 use Rattle.wax_match.proofs.Lefts.{after_wild}
-use Rattle.wax_match.specs.declared.encode.left.Lead.TheVariants.{Wild}
-use Rattle.wax_match.specs.inner.Left.{IsAfter}
+use Rattle.wax_match.specs.{declared.encode.left.Lead.TheVariants.Wild, inner.Left.IsAfter}
 use Rattle.wax_match.proofs.encode.left.Left.after_gap.Goals as goal
 
 pub returns : goal.returns

@@ -1,5 +1,4 @@
-use Rattle.std.proofs.Common.{◌≡◌, ◌++◌, ◌∙◌, ap, sym, drop, length, rules}
-use Rattle.std.proofs.lemmas.List.{take-append-drop}
+use Rattle.std.proofs.{Common.{◌≡◌, ◌++◌, ◌∙◌, ap, sym, drop, length, rules}, lemmas.List.take-append-drop}
 use Rattle.wax_match.proofs.Lefts.{after_letters}
 use Rattle.wax_match.proofs.encode.left.Left.after_text.Goals as goal
 

@@ -1,5 +1,4 @@
-use Rattle.std.proofs.Common.{rules, refl}
-use Rattle.std.proofs.lemmas.List.{nil_from_length}
+use Rattle.std.proofs.{Common.{rules, refl}, lemmas.List.nil_from_length}
 use Rattle.wax_match.proofs.Lefts.{after_token, after_wild, head_rest, left_ending}
 use Rattle.wax_match.proofs.encode.left.Left.head.Goals as goal
 

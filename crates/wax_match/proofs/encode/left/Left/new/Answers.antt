@@ -1,7 +1,5 @@
-use Rattle.std.proofs.Common.{ap, arith, length, not, refl}
-use Rattle.std.proofs.lemmas.Str.{chars-nil}
-use Rattle.wax_match.proofs.LeftCosts.{spelt_fits}
-use Rattle.wax_match.proofs.Lefts.{head_rest, left_plain, left_spelt}
+use Rattle.std.proofs.{Common.{ap, arith, length, not, refl}, lemmas.Str.chars-nil}
+use Rattle.wax_match.proofs.{LeftCosts.spelt_fits, Lefts.{head_rest, left_plain, left_spelt}}
 use Rattle.wax_match.proofs.encode.left.Left.new.Goals as goal
 
 pub returns-in-Some-clause-means : goal.returns-in-Some-clause-means

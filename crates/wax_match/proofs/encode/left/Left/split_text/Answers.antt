@@ -1,5 +1,4 @@
-use Rattle.std.proofs.Common.{◌≡◌, ◌++◌, ◌∙◌, ap, sym, drop, append-nil}
-use Rattle.std.proofs.lemmas.List.{take-append-drop}
+use Rattle.std.proofs.{Common.{◌≡◌, ◌++◌, ◌∙◌, ap, sym, drop, append-nil}, lemmas.List.take-append-drop}
 use Rattle.wax_match.proofs.Lefts.{after_letters}
 use Rattle.wax_match.proofs.encode.left.Left.split_text.Goals as goal
 

@@ -1,5 +1,4 @@
-use Rattle.std.proofs.Common.{rules}
-use Rattle.std.proofs.lemmas.List.{nil_from_length}
+use Rattle.std.proofs.{Common.rules, lemmas.List.nil_from_length}
 use Rattle.wax_match.proofs.Lefts.{without_text}
 use Rattle.wax_match.proofs.encode.left.Left.with_text.Goals as goal
 

@@ -1,11 +1,9 @@
 use Rattle.std.proofs.Common.{◌≡◌, ◌+◌, ◌-◌, ◌++◌, ◌∷◌, [], List, ℕ, length, length-append, append_assoc, set}
-use Rattle.std.proofs.Common.{arith, rules, sym, ◌∙◌, ap}
-use Rattle.std.proofs.lemmas.Result.{on_ok_weaker}
+use Rattle.std.proofs.{Common.{arith, rules, sym, ◌∙◌, ap}, lemmas.Result.on_ok_weaker}
 use Rattle.wax_program.specs.declared.instruction.Instruction.{Instruction}
 use Rattle.wax_program.specs.declared.instruction.Instruction.TheVariants.{Back, Fork}
 use Rattle.wax_match.specs.inner.Code.{instructions_of}
-use Rattle.wax_match.proofs.Sequences.{sequence_put}
-use Rattle.wax_match.proofs.Tails.{set_seam}
+use Rattle.wax_match.proofs.{Sequences.sequence_put, Tails.set_seam}
 use Rattle.wax_match.proofs.encode.tail.Tail.+put.Goals as goal
 
 pub put_loop_of-returns : goal.put_loop_of-returns

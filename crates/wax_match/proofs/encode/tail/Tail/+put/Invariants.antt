@@ -1,7 +1,6 @@
 use Rattle.std.proofs.Common.{◌≡◌, ◌+◌, ◌*◌, ◌≤◌, ◌++◌, ◌||◌, ltb, drop, length}
 use Rattle.wax_match.specs.inner.Code.{branches_code, copies_code, sequence_code, instructions_of, up_to_code}
-use Rattle.wax_token.specs.Syntax.{tree_size, trees_size}
-use Rattle.wax_token.specs.Words.{trees}
+use Rattle.wax_token.specs.{Syntax.{tree_size, trees_size}, Words.trees}
 use Rattle.wax_match.proofs.encode.tail.Tail.+put.Given as goal
 
 abbrev pub decreases-put_token : goal.decreases-put_token

@@ -1,7 +1,6 @@
 use Rattle.std.proofs.Common.{◌≡◌, ◌+◌, ◌-◌, ◌<◌, ◌≤◌, ◌∷◌, length, arith, ap, rules, ◌∙◌}
 use Rattle.std.proofs.lemmas.List.Sorted.{length_permutation}
-use Rattle.wax_match.proofs.Joining.{begun_kept, begun_more, first_led}
-use Rattle.wax_match.proofs.LeftCosts.{all_fit, begun_fits}
+use Rattle.wax_match.proofs.{Joining.{begun_kept, begun_more, first_led}, LeftCosts.{all_fit, begun_fits}}
 use Rattle.wax_match.proofs.SharedEnds.{ends_stay, written_stay}
 use Rattle.wax_match.specs.inner.LeadCode.{lead_code}
 use Rattle.wax_program.specs.declared.instruction.Instruction.TheVariants.{Fork}

@@ -1,6 +1,5 @@
 use Rattle.std.proofs.Common.{◌≤◌, ◌-◌, ◌+◌, ◌*◌, All, length}
-use Rattle.wax_match.proofs.Joining.{IsBegun}
-use Rattle.wax_match.proofs.LeftCosts.{BegunFits}
+use Rattle.wax_match.proofs.{Joining.IsBegun, LeftCosts.BegunFits}
 use Rattle.wax_match.specs.inner.Ends.{IsIn}
 use Rattle.wax_match.proofs.encode.tail.Tail.+put_lefts.Given as goal
 

@@ -1,7 +1,5 @@
-use Rattle.std.proofs.Common.{◌∙◌, ap, false, ◌++◌}
-use Rattle.std.proofs.lemmas.Result.{on_ok_weaker}
-use Rattle.wax_match.proofs.Joining.{written_apart}
-use Rattle.wax_match.proofs.LeftCosts.{apart_fits}
+use Rattle.std.proofs.{Common.{◌∙◌, ap, false, ◌++◌}, lemmas.Result.on_ok_weaker}
+use Rattle.wax_match.proofs.{Joining.written_apart, LeftCosts.apart_fits}
 use Rattle.wax_match.specs.inner.Code.{sequence_code}
 use Rattle.wax_token.specs.Words.{trees}
 use Rattle.wax_match.proofs.encode.tail.Tail.put_apart.Goals as goal

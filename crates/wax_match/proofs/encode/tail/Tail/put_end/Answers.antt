@@ -1,5 +1,4 @@
-use Rattle.std.proofs.Common.{◌∷◌, ◌-◌, ◌<◌, [], get_or, length, ap, arith}
-use Rattle.std.proofs.lemmas.Result.{on_ok_weaker}
+use Rattle.std.proofs.{Common.{◌∷◌, ◌-◌, ◌<◌, [], get_or, length, ap, arith}, lemmas.Result.on_ok_weaker}
 use Rattle.wax_match.proofs.SharedEnds.{end_kept, ends_stay, known_end, written_jump, written_stay}
 use Rattle.wax_match.specs.declared.encode.left.Gap.TheVariants.{Nothing}
 use Rattle.wax_match.specs.declared.encode.shared.WrittenEnd.{WrittenEnd}

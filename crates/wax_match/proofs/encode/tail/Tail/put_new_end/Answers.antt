@@ -1,5 +1,4 @@
-use Rattle.std.proofs.Common.{◌∙◌, ap, ◌++◌}
-use Rattle.std.proofs.lemmas.Result.{on_ok_weaker}
+use Rattle.std.proofs.{Common.{◌∙◌, ap, ◌++◌}, lemmas.Result.on_ok_weaker}
 use Rattle.wax_match.proofs.SharedEnds.{written_end}
 use Rattle.wax_match.specs.inner.LeadCode.{gap_code}
 use Rattle.wax_match.proofs.encode.tail.Tail.put_new_end.Goals as goal

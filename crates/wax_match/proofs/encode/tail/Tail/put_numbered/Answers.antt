@@ -1,7 +1,5 @@
-use Rattle.std.proofs.Common.{◌<◌, ap, arith, length, rules}
-use Rattle.std.proofs.lemmas.List.{nil_from_length}
-use Rattle.std.proofs.lemmas.List.Sorted.{length_permutation}
-use Rattle.std.proofs.lemmas.Result.{on_ok_weaker}
+use Rattle.std.proofs.{Common.{◌<◌, ap, arith, length, rules}, lemmas.List.nil_from_length}
+use Rattle.std.proofs.{lemmas.List.Sorted.length_permutation, lemmas.Result.on_ok_weaker}
 use Rattle.wax_match.proofs.Joining.{none_written, numbered_written}
 use Rattle.wax_match.proofs.encode.tail.Tail.put_numbered.Goals as goal
 

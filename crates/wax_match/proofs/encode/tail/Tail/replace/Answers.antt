@@ -1,5 +1,4 @@
-use Rattle.std.proofs.Common.{◌≡◌, ◌<◌, length, ap, arith}
-use Rattle.std.proofs.lemmas.List.{length-reverse}
+use Rattle.std.proofs.{Common.{◌≡◌, ◌<◌, length, ap, arith}, lemmas.List.length-reverse}
 use Rattle.wax_match.proofs.Tails.{reverse-set}
 use Rattle.wax_match.proofs.encode.tail.Tail.replace.Goals as goal
 

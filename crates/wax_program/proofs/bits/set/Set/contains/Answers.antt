@@ -1,6 +1,5 @@
 use Rattle.std.proofs.Common.{◌≡◌, ◌*◌, ◌/◌, ◌%◌, ◌<◌, ◌∙◌, length, get_or, eqb, sym, ap, arith}
-use Rattle.std.proofs.lemmas.List.{get_or_read}
-use Rattle.std.proofs.lemmas.Nat.Bits.{shr_and_one}
+use Rattle.std.proofs.{lemmas.List.get_or_read, lemmas.Nat.Bits.shr_and_one}
 use Rattle.std.specs.Int.{bit_at}
 use Rattle.wax_program.proofs.BitFlags.{length-bits_of, get_or-bits_of}
 use Rattle.wax_program.proofs.bits.set.Set.contains.Goals as goal

@@ -1,5 +1,4 @@
-use Rattle.std.proofs.Common.{◌≡◌, ◌<◌, ◌^◌, length, get_or, arith}
-use Rattle.std.proofs.lemmas.List.{get_or_read}
+use Rattle.std.proofs.{Common.{◌≡◌, ◌<◌, ◌^◌, length, get_or, arith}, lemmas.List.get_or_read}
 use Rattle.wax_program.proofs.BitFlags.{first_has, first_least, none_from}
 use Rattle.wax_program.proofs.bits.set.Set.first_from.Goals as goal
 

@@ -1,5 +1,4 @@
-use Rattle.std.proofs.Common.{◌≡◌, ◌*◌, ◌/◌, ◌<◌, length, get_or, ap, arith}
-use Rattle.std.proofs.lemmas.List.{get_or_read}
+use Rattle.std.proofs.{Common.{◌≡◌, ◌*◌, ◌/◌, ◌<◌, length, get_or, ap, arith}, lemmas.List.get_or_read}
 use Rattle.wax_program.proofs.BitFlags.{length-bits_of, bits_of-insert}
 use Rattle.wax_program.proofs.bits.set.Set.insert.Goals as goal
 

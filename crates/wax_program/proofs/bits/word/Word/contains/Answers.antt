@@ -1,5 +1,4 @@
-use Rattle.std.proofs.Common.{◌<◌, ◌%◌, ◌∙◌, length, eqb, ap, arith}
-use Rattle.std.proofs.lemmas.Nat.Bits.{shr_and_one}
+use Rattle.std.proofs.{Common.{◌<◌, ◌%◌, ◌∙◌, length, eqb, ap, arith}, lemmas.Nat.Bits.shr_and_one}
 use Rattle.wax_program.proofs.Words.{length_word, word_contains}
 use Rattle.wax_program.proofs.bits.word.Word.contains.Goals as goal
 

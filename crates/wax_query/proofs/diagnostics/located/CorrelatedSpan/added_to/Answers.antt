@@ -1,7 +1,6 @@
 use Rattle.std.proofs.Common.{◌≡◌, ℕ, List, [], ◌∷◌, ◌++◌, map, refl, ap}
 use Rattle.std.specs.Borrow.{Bor}
-use Rattle.wax_query.specs.Labels.{seen}
-use Rattle.wax_query.specs.Spans.{Span}
+use Rattle.wax_query.specs.{Labels.seen, Spans.Span}
 use Rattle.wax_query.proofs.diagnostics.located.CorrelatedSpan.added_to.Goals as goal
 
 one_more : (ls : List (Bor (List ℕ) × Span)) (l : Bor (List ℕ) × Span)

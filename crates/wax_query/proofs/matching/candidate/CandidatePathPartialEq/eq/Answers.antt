@@ -1,8 +1,6 @@
 use Rattle.std.proofs.Common.{◌≡◌, ◌∙◌, List, ℕ, ap, chars, encode_utf8_all, nat_eq, sym}
-use Rattle.std.specs.Bool.{one_answer}
-use Rattle.std.specs.Cmp.Lexicographic.{bytes_decides, pointwise}
-use Rattle.std.specs.Str.{IsUtf8}
 use Rattle.std.proofs.lemmas.Str.{encodes-chars}
+use Rattle.std.specs.{Bool.one_answer, Cmp.Lexicographic.{bytes_decides, pointwise}, Str.IsUtf8}
 use Rattle.wax_query.proofs.matching.candidate.CandidatePathPartialEq.eq.Goals as goal
 
 -- texts are equal where their characters are

@@ -1,12 +1,8 @@
 use Rattle.std.proofs.Common.{◌≡◌, ◌∷◌, ◌-◌, ◌<◌, ◌≤◌, ℕ, suc, List, length, map, get_or, Some, slice_get}
 use Rattle.std.proofs.Common.{rules, arith, refl, sym, ◌∙◌, ap, subst}
-use Rattle.std.specs.Cow.{cow_str_bytes}
-use Rattle.std.specs.List.{slice_range}
-use Rattle.std.specs.Option.{option_map}
 use Rattle.std.proofs.lemmas.Option.{slice_get-map, slice_get_read}
-use Rattle.std.specs.Str.{chars}
-use Rattle.wax_query.specs.Matched.{MatchedView, texts}
-use Rattle.wax_query.specs.Parts.{cut}
+use Rattle.std.specs.{Cow.cow_str_bytes, List.slice_range, Option.option_map, Str.chars}
+use Rattle.wax_query.specs.{Matched.{MatchedView, texts}, Parts.cut}
 use Rattle.wax_query.proofs.matching.matched.MatchedText.get.Goals as goal
 
 capture_at : (text : List ℕ) (bytes : List ℕ) (items : List (ℕ × ℕ)) (index : ℕ) (place : ℕ × ℕ) → 1 ≤ index

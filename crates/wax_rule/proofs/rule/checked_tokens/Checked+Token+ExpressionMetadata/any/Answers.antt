@@ -1,7 +1,6 @@
 use Rattle.std.proofs.Common.{rules, subst, sym, ◌≡◌}
 use Rattle.wax_rule.specs.Keeping.{KeepsRules, combined}
-use Rattle.wax_token.specs.Syntax.{alternation}
-use Rattle.wax_token.specs.Words.{trees}
+use Rattle.wax_token.specs.{Syntax.alternation, Words.trees}
 use Rattle.wax_rule.proofs.rule.checked_tokens.Checked+Token+ExpressionMetadata.any.Goals as goal
 
 pub invariant_of-result : goal.invariant_of-result

@@ -1,6 +1,5 @@
 use Rattle.std.proofs.Common.{◌<◌, arith, length, subst}
-use Rattle.wax_compare.specs.Comparison.{IsAnswer, IsWanted}
-use Rattle.wax_compare.specs.Limit.{KeepsLimit}
+use Rattle.wax_compare.specs.{Comparison.{IsAnswer, IsWanted}, Limit.KeepsLimit}
 use Rattle.wax_compare.specs.declared.wanted.Comparison.TheVariants.{Nothing, Text}
 use Rattle.wax_compare.specs.declared.wanted.Texts.TheVariants.{Paths}
 use Rattle.wax_compare.specs.declared.wanted.Wanted.TheVariants.{Both}

@@ -1,5 +1,4 @@
-use Rattle.std.proofs.Common.{length, refl}
-use Rattle.std.proofs.lemmas.Option.{slice_get_read}
+use Rattle.std.proofs.{Common.{length, refl}, lemmas.Option.slice_get_read}
 use Rattle.wax_set.proofs.Conflicts.{all_compiled, branch_fits, one_compiled}
 use Rattle.wax_set.proofs.set.conflicts.ComparedPatterns.new.Goals as goal
 

@@ -2,11 +2,9 @@ use Rattle.std.proofs.Common.{◌↔◌, ◌+◌, ◌<◌, ◌≤◌, IfOk, IsTr
 use Rattle.wax_lazy.proofs.Costs.{path_within}
 use Rattle.wax_lazy.specs.Cost.{path_visits}
 use Rattle.wax_program.specs.declared.instruction.Instruction.{Instruction}
-use Rattle.wax_token.specs.Cost.{program_length}
+use Rattle.wax_token.specs.{Cost.program_length, Decided.means_tested}
 use Rattle.wax_program.proofs.LastNames.{same_answer}
-use Rattle.wax_token.specs.Decided.{means_tested}
-use Rattle.wax_set.specs.Sets.{MeansText}
-use Rattle.wax_set.specs.Sets.{AcceptsText}
+use Rattle.wax_set.specs.Sets.{MeansText, AcceptsText}
 use Rattle.wax_set.proofs.Matchers.{decided_alike}
 use Rattle.wax_set.proofs.set.matcher.AnyMatcher.is_match_metered.Goals as goal
 

@@ -1,9 +1,8 @@
 use Rattle.std.proofs.Common.{◌≡◌, ◌≤◌, ◌+◌, ap, chars, length, false, subst, sym, true≢false, ◌∙◌, rules}
 use Rattle.std.proofs.lemmas.Result.{IfOk-weaker}
 use Rattle.wax_exclude.proofs.ListLengths.{list_within}
-use Rattle.wax_lazy.specs.Cost.{path_visits}
+use Rattle.wax_lazy.specs.{Cost.path_visits, Numbers.AreNumbers}
 use Rattle.wax_token.specs.Cost.{program_length}
-use Rattle.wax_lazy.specs.Numbers.{AreNumbers}
 use Rattle.wax_set.specs.Sets.{IsNumbered, MeansText}
 use Rattle.wax_set.proofs.Numbers.{are_matches, no_matches}
 use Rattle.wax_set.proofs.set.matcher.AnyMatcher.matches_into_metered.Goals as goal

@@ -1,7 +1,6 @@
 use Rattle.std.proofs.Common.{◌↔◌, ◌+◌, ◌≤◌, IfOk, IsTrue, false, length, subst}
 use Rattle.wax_lazy.specs.Cost.{path_visits}
-use Rattle.wax_token.specs.Cost.{program_length}
-use Rattle.wax_token.specs.Decided.{means_tested}
+use Rattle.wax_token.specs.{Cost.program_length, Decided.means_tested}
 use Rattle.wax_set.specs.Sets.{MeansText}
 use Rattle.wax_set.proofs.Matchers.{decided_alike}
 use Rattle.wax_set.proofs.set.owned.OwnedAnyMatcher.is_match_metered.Goals as goal

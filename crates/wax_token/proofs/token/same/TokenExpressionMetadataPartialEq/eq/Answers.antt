@@ -1,7 +1,5 @@
-use Rattle.std.specs.Bool.{one_answer}
-use Rattle.std.specs.Coded.{coded_ℕ, coded×}
-use Rattle.wax_token.specs.Same.{is_same, same_decides}
-use Rattle.wax_token.specs.TreeCode.{tree_code}
+use Rattle.std.specs.{Bool.one_answer, Coded.{coded_ℕ, coded×}}
+use Rattle.wax_token.specs.{Same.{is_same, same_decides}, TreeCode.tree_code}
 use Rattle.wax_token.proofs.token.same.TokenExpressionMetadataPartialEq.eq.Goals as goal
 
 pub returns : goal.returns

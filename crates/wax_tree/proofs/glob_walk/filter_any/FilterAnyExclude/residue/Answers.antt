@@ -1,13 +1,11 @@
-use Rattle.std.proofs.Common.{◌+◌, ◌<◌, ◌∙◌, sym, ap, length, length-set, arith}
-use Rattle.std.proofs.Math.Seq.{map-set_same}
+use Rattle.std.proofs.{Common.{◌+◌, ◌<◌, ◌∙◌, sym, ap, length, length-set, arith}, Math.Seq.map-set_same}
 use Rattle.std.proofs.lemmas.List.{drop-set-lt}
 use Rattle.std.specs.Prelude.{Some}
-use Rattle.wax_walk.specs.Candidates.{in_characters}
-use Rattle.wax_walk.specs.Said.{mark_of}
+use Rattle.wax_walk.specs.{Candidates.in_characters, Said.mark_of}
 use Rattle.wax_tree.specs.Programs.{any_mark}
 use Rattle.wax_tree.proofs.Rules.{if_ok_of_err, said_nothing, said_alone, said_with_tree}
-use Rattle.wax_tree.proofs.glob_walk.filter_any.FilterAnyExclude.residue.Goals as goal
 use Rattle.wax_tree.proofs.glob_walk.filter_any.FilterAnyExclude.residue.Goals.{in-None, in-Some-File}
+use Rattle.wax_tree.proofs.glob_walk.filter_any.FilterAnyExclude.residue.Goals as goal
 
 pub loop-at-preserved : goal.loop-at-preserved
 loop-at-preserved g c =

@@ -1,6 +1,5 @@
 use Rattle.std.proofs.Common.{◌≡◌, map, drop, length}
-use Rattle.wax_walk.specs.Candidates.{in_characters}
-use Rattle.wax_walk.specs.Given.{combined_mark}
+use Rattle.wax_walk.specs.{Candidates.in_characters, Given.combined_mark}
 use Rattle.wax_tree.specs.Programs.{any_mark}
 use Rattle.wax_tree.proofs.Rules.{so_far}
 use Rattle.wax_tree.proofs.glob_walk.filter_any.FilterAnyExclude.residue.Given as goal

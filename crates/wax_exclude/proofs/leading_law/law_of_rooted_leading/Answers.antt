@@ -1,5 +1,0 @@
-use Rattle.wax_exclude.proofs.RootedLeads.{leads_from_root}
-use Rattle.wax_exclude.proofs.leading_law.law_of_rooted_leading.Goals as goal
-
-pub returns : goal.returns
-returns c = λ t h. leads_from_root t h
