@@ -10,7 +10,8 @@ use Rattle.wax_tree.specs.Programs.{any_mark}
 use Rattle.wax_walk.specs.{Candidates.Candidate, Given.{Mark, with_tree}}
 use Rattle.wax_query.specs.Below.{IsBelow}
 use Rattle.wax_walk.proofs.Collecting.{map_ok}
-use Rattle.wax_set.specs.{Patterns.SpellEach, declared.error.build_error.BuildError.BuildError}
+use Rattle.wax_rule.specs.declared.error.build_error.BuildError.{BuildError}
+use Rattle.wax_set.specs.Patterns.{SpellEach}
 use Rattle.wax.specs.Exclusions.{FitsAlone, IsAnyExclusionOf, IsExclusionOf, NoAnyExclusion, NoExclusion}
 
 -- the first of those that are left is taken

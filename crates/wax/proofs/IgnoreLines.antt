@@ -10,8 +10,8 @@ use Rattle.wax_token.specs.Reads.{Span}
 use Rattle.wax_tree.specs.{Begins.{Begins, behavior_range}, declared.behavior.WalkBehavior.WalkBehavior}
 use Rattle.wax_walk.specs.View.{WalkView}
 use Rattle.wax.specs.Ignoring.{IsFirstUnread, IsNoList, IsReadAs, IsUnread, refused_at}
-use Rattle.wax_set.specs.declared.error.build_error.BuildError.{BuildError}
-use Rattle.wax_set.specs.declared.error.build_error.BuildError.TheVariants.{Parse, Rule, Compile, Memory}
+use Rattle.wax_rule.specs.declared.error.build_error.BuildError.{BuildError}
+use Rattle.wax_rule.specs.declared.error.build_error.BuildError.TheVariants.{Parse, Rule, Compile, Memory}
 
 -- ---- lines that are read
 

@@ -1,7 +1,7 @@
 -- How the building of a glob ends.
 use Rattle.std.specs.Prelude.{◌≡◌, ◌↔◌, ℕ, List, [], codes, Result, Ok, Err}
 use Rattle.wax.specs.GlobView.{GlobView, IsMeant, empty_tree}
-use Rattle.wax_set.specs.declared.error.build_error.BuildError.{BuildError}
+use Rattle.wax_rule.specs.declared.error.build_error.BuildError.{BuildError}
 pub use Rattle.wax_exclude.specs.TreeRequests.{tree_alone}
 
 -- the glob of the empty expression: an empty literal, which means the empty text alone

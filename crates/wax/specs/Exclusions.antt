@@ -5,8 +5,8 @@ use Rattle.wax_token.specs.{Cost.program_length, Reads.Span, Syntax.Tree}
 use Rattle.wax_walk.specs.{Candidates.Candidate, Given.Mark, Ruled.ruled_view, View.{IsSeenAs, WalkView}}
 use Rattle.wax_tree.specs.Programs.{any_mark}
 use Rattle.wax_set.specs.Patterns.{IsFirstRefused, IsOnly, SpellEach, WhyNotBuilt}
-use Rattle.wax_set.specs.declared.error.build_error.BuildError.{BuildError}
-use Rattle.wax_set.specs.declared.error.build_error.BuildError.TheVariants.{Memory}
+use Rattle.wax_rule.specs.declared.error.build_error.BuildError.{BuildError}
+use Rattle.wax_rule.specs.declared.error.build_error.BuildError.TheVariants.{Memory}
 use Rattle.wax.specs.{declared.ignoring.IgnoreList.IgnoreList, declared.walk_filter.WalkFilter.WalkFilter}
 use Rattle.wax.specs.declared.walk_filter.WalkFilter.TheVariants.{Not, Ignore}
 

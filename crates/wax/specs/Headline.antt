@@ -1,10 +1,10 @@
 -- What is proved of globs, on one page: which expressions are accepted, which texts match, and what a walk
 -- yields. The contracts of `Glob` are written in these words.
 use Rattle.std.specs.Prelude.{◌≡◌, ◌<◌, ◌≤◌, ℕ, List, [], Result, Ok, Err, ⊤}
-use Rattle.wax_set.specs.declared.error.build_error.BuildError.{BuildError}
-use Rattle.wax_set.specs.declared.error.build_error.BuildError.TheVariants.{Parse, Rule, Compile, Memory}
-use Rattle.wax_parse.specs.Accepted.{IsPlace}
+use Rattle.wax_rule.specs.declared.error.build_error.BuildError.{BuildError}
+use Rattle.wax_rule.specs.declared.error.build_error.BuildError.TheVariants.{Parse, Rule, Compile, Memory}
 use Rattle.wax_rule.specs.FirstBreak.{TellsFirst}
+use Rattle.wax_parse.specs.Accepted.{IsPlace}
 use Rattle.wax_token.specs.Syntax.{Tree}
 -- ---- Walks (`Glob::collect_excluding`; or `walk`, then `not` and `ignore`, then `collect`). Over a lawful
 -- directory, a walk yields exactly the entries of the whole tree (`whole_at`) that are in range (`is_in`),

@@ -7,13 +7,13 @@ use Rattle.wax_walk.specs.{Ruled.ruled_view, View.{IsSeenAs, WalkView}}
 use Rattle.wax.specs.{Exclusions.{FitsAlone, NoExclusion}, declared.ignoring.IgnoreError.IgnoreError}
 use Rattle.wax.specs.declared.ignoring.IgnoreError.TheVariants.{BadLine, Memory}
 use Rattle.wax.specs.declared.ignoring.IgnoreList.{IgnoreList}
-use Rattle.wax_set.specs.{Expressions.{Refuses, Spells}, declared.error.build_error.BuildError.BuildError}
+use Rattle.wax_rule.specs.{Expressions.{Refuses, Spells}, declared.error.build_error.BuildError.BuildError}
 pub use Rattle.wax_exclude.specs.Deciding.{DecidingLineDecides, IsDecidingLine, IsLastMatch, LastMatchDecides}
 pub use Rattle.wax_exclude.specs.Deciding.{SaysLines, ignores_at, ignores_if}
 pub use Rattle.wax_exclude.specs.Ignored.{IgnoresBelow, Line, ignore_mark, is_ignored}
 pub use Rattle.wax_exclude.specs.{Kept.{KeepsUnignored, PlainRequest, unignored_request}, Length.list_length}
 pub use Rattle.wax_exclude.specs.{Lines.{written_lines, written_of}, Unignored.{GivesUnignored, LosesIgnored}}
-use Rattle.wax_set.specs.declared.error.build_error.BuildError.TheVariants as build
+use Rattle.wax_rule.specs.declared.error.build_error.BuildError.TheVariants as build
 
 -- The line that is written so: its glob is the only tree that its expression spells, which fits.
 pub record IsReadAs (written : Written) (line : Line Span) : Type 0 where

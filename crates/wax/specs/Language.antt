@@ -1,17 +1,17 @@
 -- Words of contracts on the language: what expressions spell, what breaks the rules, and what trees mean.
 pub use Rattle.wax_facts.specs.{Alternatives.{MeansOneOf, alternatives, levels, levels_each}, Rules.broken}
 pub use Rattle.wax_facts.specs.Sizes.{saturated_size}
-pub use Rattle.wax_set.specs.{Drawn.{label_lines, picture}, Locations.{error_labels, location_of}}
-pub use Rattle.wax_set.specs.{Numbers.build_number, Refusals.IsRuleRefusal}
-pub use Rattle.wax_set.specs.declared.error.build_error.BuildError.{BuildError}
-pub use Rattle.wax_set.specs.declared.error.build_error.BuildError.TheVariants.{Memory}
+pub use Rattle.wax_rule.specs.{Drawn.{label_lines, picture}, Locations.{error_labels, location_of}}
+pub use Rattle.wax_rule.specs.{Numbers.build_number, Refusals.IsRuleRefusal}
+pub use Rattle.wax_rule.specs.declared.error.build_error.BuildError.{BuildError}
+pub use Rattle.wax_rule.specs.declared.error.build_error.BuildError.TheVariants.{Memory}
+pub use Rattle.wax_rule.specs.{FirstBreak.TellsFirst, Keeping.KeepsRules}
 pub use Rattle.wax_fold.specs.{Bare.bare, Branches.{Branch, branch_of, composed, picked, tokens_in}}
 pub use Rattle.wax_fold.specs.{Folded.{Folding, folded, folded_each, listed_term}, Mapped.{Mapping, mapped}}
 pub use Rattle.wax_fold.specs.Order.{level, root_entry, tree_order}
 pub use Rattle.wax_fold.specs.Sequences.{ending_chosen, forward_chosen, places, starting_chosen}
 pub use Rattle.wax_fold.specs.{Subtrees.subtrees, Walking.{below, cancelled, to_come, walk_begun, walking}}
 pub use Rattle.wax_parse.specs.{Accepted.IsPlace, Backslash.HasNoBackslash}
-pub use Rattle.wax_rule.specs.{FirstBreak.TellsFirst, Keeping.KeepsRules}
 pub use Rattle.wax_token.specs.Compositions.{children_of, composition_copied, composition_of}
 pub use Rattle.wax_token.specs.Compositions.{composition_value, conjunctive, disjunctive, on_inner}
 pub use Rattle.wax_token.specs.Cost.{branches_cost, cost, costs, holds_tree, is_tree, program_length}

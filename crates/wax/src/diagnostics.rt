@@ -4,4 +4,4 @@ pub use wax_components::{SemanticLiteralWarning, TerminatingSeparatorWarning, Wa
 pub use wax_query::diagnostics::{
     CompositeSpan, CorrelatedSpan, LocatedError, NoMemory, Refusal, Span, SpanExt, Spanned,
 };
-pub use wax_set::picture;
+pub use wax_rule::picture;

@@ -11,7 +11,8 @@ use std::alloc::Global;
 use wax_exclude::Exclusion;
 use wax_filter::filter::SeparatingFilter;
 use wax_query::diagnostics::Refusal;
-use wax_set::{BuildError, Pattern};
+use wax_rule::BuildError;
+use wax_set::Pattern;
 use wax_tree::FilterAny;
 use wax_walk::{Exclude, Excluding, FileIterator};
 

@@ -39,7 +39,7 @@ use wax_query::diagnostics::{NoMemory, Refusal, Span};
 use wax_query::matching::{CandidatePath, MatchedText, Program};
 use wax_query::query::{CapturingToken, DepthVariance, TextVariance, Variance, When};
 use wax_rule::rule::Checked;
-use wax_set::{BuildError, parse_and_check};
+use wax_rule::{BuildError, parse_and_check};
 use wax_token::token::{ExpressionMetadata, LeafKind, Token, Tokenized};
 
 /// A glob, built from an expression by `Glob::new`. It implements `Program`, which has the calls

@@ -29,7 +29,8 @@ use wax_exclude::{
 use wax_match::encode::Meter;
 use wax_query::diagnostics::NoMemory;
 use wax_query::matching::CandidatePath;
-use wax_set::{BuildError, Pattern};
+use wax_rule::BuildError;
+use wax_set::Pattern;
 use wax_tree::{PathExt, WalkBehavior};
 use wax_walk::{Candidate, Entry, EntryResidue, Exclude, TreeEntry, WalkError};
 

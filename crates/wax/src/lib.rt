@@ -28,6 +28,7 @@ pub mod encode;
 mod exclusions;
 pub mod filter;
 mod glob;
+mod glob_error;
 mod ignoring;
 pub mod prelude;
 pub mod query;
@@ -38,6 +39,7 @@ pub mod walk;
 mod walk_filter;
 
 pub use glob::{Glob, GlobMatcher, OwnedGlobMatcher};
+pub use glob_error::GlobError;
 pub use unignored::filter_unignored;
 pub use wax_compare::{
     Compared, Comparison, Criterion, MOST_STATES, Selector, Texts, compare, difference,
@@ -49,6 +51,5 @@ pub use wax_query::diagnostics::{NoMemory, Refusal};
 pub use wax_query::matching::{
     BuildMatcher, CandidatePath, MatchedText, PathMatcher, Program, ProgramMatcher,
 };
-pub use wax_set::{
-    Any, AnyMatcher, BuildError, Conflict, ErrorLocation, GlobError, OwnedAnyMatcher, Pattern, any,
-};
+pub use wax_rule::{BuildError, ErrorLocation};
+pub use wax_set::{Any, AnyMatcher, Conflict, OwnedAnyMatcher, Pattern, any};

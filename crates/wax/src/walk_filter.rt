@@ -13,7 +13,8 @@ use std::alloc::Global;
 use wax_exclude::Exclusion;
 use wax_query::diagnostics::NoMemory;
 use wax_query::matching::CandidatePath;
-use wax_set::{BuildError, Pattern};
+use wax_rule::BuildError;
+use wax_set::Pattern;
 use wax_walk::{Candidate, EntryResidue, Exclude};
 
 /// A filter of a walk: it excludes what a pattern matches, or what an ignore list ignores.

@@ -1,7 +1,7 @@
 -- Ignore lists in files.
 use Rattle.std.specs.{Prelude.{ℕ, List, Result, Ok, Err, Vec}, List.AllZip, Str.IsUtf8}
 use Rattle.wax.specs.Ignoring.{IsFirstUnread, IsReadAs}
-use Rattle.wax_set.specs.declared.error.build_error.BuildError.{BuildError}
+use Rattle.wax_rule.specs.declared.error.build_error.BuildError.{BuildError}
 use Rattle.wax_exclude.specs.{Lines.written_lines, Ignored.Line}
 use Rattle.wax_token.specs.Reads.{Span}
 use Rattle.wax_commands.specs.declared.files.FileFault.{FileFault}

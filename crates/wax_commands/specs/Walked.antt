@@ -6,8 +6,8 @@ use Rattle.wax.specs.GlobWalks.{Beginning, GaveBy, HasBrokenPrefix, request_by, 
 use Rattle.wax.specs.Patterns.{Refuses, Spells}
 use Rattle.wax_exclude.specs.{Pruned.by_matches, GlobRequests.{KeepsWanted, GlobRequest, request_walk}}
 use Rattle.wax_exclude.specs.{Told.KeepsAnswered, Wanted.{Filter, not_meant, not_ignored}}
-use Rattle.wax_set.specs.declared.error.build_error.BuildError.{BuildError}
-use Rattle.wax_set.specs.declared.error.build_error.BuildError.TheVariants.{Memory}
+use Rattle.wax_rule.specs.declared.error.build_error.BuildError.{BuildError}
+use Rattle.wax_rule.specs.declared.error.build_error.BuildError.TheVariants.{Memory}
 use Rattle.wax_components.specs.Depth.{Depth}
 use Rattle.wax_directory.specs.{Law.Law, Shown.Shown}
 use Rattle.wax_query.specs.Ranges.{Bounds}

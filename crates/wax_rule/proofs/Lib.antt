@@ -1,9 +1,13 @@
 pub mod Adjacent
 pub mod Branches
+pub mod Columns
 pub mod Digits
 pub mod Examples
 pub mod Firsts
 pub mod Keeping
 pub mod Levels
+pub mod Lined
+pub mod Marking
+pub mod Pushed
 pub mod Rows
 pub mod Terminals

@@ -1,4 +1,10 @@
+pub mod Drawn
+pub mod Expressions
 pub mod FirstBreak
 pub mod Keeping
+pub mod Locations
+pub mod Numbers
+pub mod PictureLines
+pub mod Refusals
 pub mod Shifted
 pub mod inner

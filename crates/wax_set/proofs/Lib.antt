@@ -1,10 +1,6 @@
-pub mod Columns
 pub mod Conflicts
 pub mod Edges
-pub mod Lined
-pub mod Marking
 pub mod Matchers
 pub mod Numbers
 pub mod Patterns
-pub mod Pushed
 pub mod Walks

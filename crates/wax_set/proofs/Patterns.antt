@@ -5,8 +5,9 @@ use Rattle.wax_token.specs.{Cost.program_length, Meaning.{Means, MeansSome}, Rea
 use Rattle.wax_token.specs.{Syntax.{Tree, alternation}, Words.trees}
 use Rattle.wax_set.specs.Sets.{BranchMeans, MeansAt, MeansText}
 use Rattle.wax_set.specs.Patterns.{AreOversized, IsAnyOf, IsFirstRefused, IsOnly, NoSet, NumberMeans}
-use Rattle.wax_set.specs.{Patterns.{OneMeans, SpellEach}, declared.error.build_error.BuildError.BuildError}
-use Rattle.wax_set.specs.declared.error.build_error.BuildError.TheVariants.{Parse, Rule, Compile, Memory}
+use Rattle.wax_set.specs.Patterns.{OneMeans, SpellEach}
+use Rattle.wax_rule.specs.declared.error.build_error.BuildError.{BuildError}
+use Rattle.wax_rule.specs.declared.error.build_error.BuildError.TheVariants.{Parse, Rule, Compile, Memory}
 
 module _ {P : Type 0} (S : P → Tree Span → Type 0) where
   -- one branch means what the tree of its pattern does

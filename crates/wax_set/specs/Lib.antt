@@ -1,11 +1,5 @@
 pub mod Conflicts
-pub mod Drawn
-pub mod Expressions
-pub mod Locations
-pub mod Numbers
 pub mod Patterns
-pub mod PictureLines
-pub mod Refusals
 pub mod Sets
 pub mod Walks
 pub mod inner

@@ -2,8 +2,9 @@
 use Rattle.std.specs.Prelude.{◌≡◌, ◌↔◌, ◌<◌, ◌≤◌, ◌++◌, ◌∷◌, ◌⊎◌, ℕ, zero, suc, List, [], Result, Ok, Err, ⊤}
 use Rattle.std.specs.List.{AllZip}
 use Rattle.wax_token.specs.{Cost.program_length, Reads.Span, Syntax.{Tree, alternation}, Words.trees}
-use Rattle.wax_set.specs.{Sets.{MeansAt, MeansText}, declared.error.build_error.BuildError.BuildError}
-use Rattle.wax_set.specs.declared.error.build_error.BuildError.TheVariants.{Parse, Rule, Compile, Memory}
+use Rattle.wax_rule.specs.declared.error.build_error.BuildError.{BuildError}
+use Rattle.wax_rule.specs.declared.error.build_error.BuildError.TheVariants.{Parse, Rule, Compile, Memory}
+use Rattle.wax_set.specs.Sets.{MeansAt, MeansText}
 
 -- ---- single patterns
 

@@ -1,15 +1,15 @@
 //! Patterns, and sets that are built from them.
 ghost use Rattle.std.specs.Prelude.{◌≡◌, ◌++◌, ◌∷◌, [], IfOk, MatchResult, OnOk, chars};
 ghost use Rattle.wax_token.specs.{Reads.Span, Syntax.Tree};
-ghost use Rattle.wax_set.specs.Expressions.{Refuses, Spells};
+ghost use Rattle.wax_rule.specs.Expressions.{Refuses, Spells};
+ghost use Rattle.wax_rule.specs.declared.error.build_error.BuildError.{BuildError};
 ghost use Rattle.wax_set.specs.Patterns.{IsAnyOf, IsOnly, LacksMemory, NoSet, RefusesOk, SpellEach, SpellsOk};
-ghost use Rattle.wax_set.specs.declared.error.build_error.BuildError.{BuildError};
 
-use crate::error::{BuildError, parse_and_check};
 use crate::set::{Any, compiled};
 use std::alloc::Global;
 use wax_query::diagnostics::{NoMemory, Refusal};
 use wax_rule::rule::Checked;
+use wax_rule::{BuildError, parse_and_check};
 use wax_token::token::{ExpressionMetadata, Token, Tokenized};
 
 /// A pattern of a set: an expression, a glob, a set, tokens that were checked, or a `Result` with

@@ -21,7 +21,6 @@ mod matcher;
 mod owned;
 mod walking;
 
-use crate::error::BuildError;
 use crate::pattern::Pattern;
 pub use conflicts::Conflict;
 pub use matcher::AnyMatcher;
@@ -42,6 +41,7 @@ use wax_prefilter::CompiledTokens;
 use wax_query::diagnostics::{NoMemory, Refusal};
 use wax_query::matching::{CandidatePath, MatchedText, Program};
 use wax_query::query::{DepthVariance, TextVariance, Variance, When};
+use wax_rule::BuildError;
 use wax_rule::rule::Checked;
 use wax_token::token::{BranchKind, ExpressionMetadata, Token};
 

@@ -4,8 +4,9 @@ ghost use Rattle.wax_set.specs.Patterns.{LacksMemory};
 
 use crate::glob::Glob;
 use std::alloc::Global;
+use wax_rule::BuildError;
 use wax_rule::rule::Checked;
-use wax_set::{BuildError, Pattern};
+use wax_set::Pattern;
 use wax_token::token::{ExpressionMetadata, Token};
 
 impl<'t> Pattern for Glob<'t> {

@@ -1,6 +1,7 @@
 use Rattle.std.proofs.Common.{chars, refl, subst, sym}
 use Rattle.wax_exclude.specs.Lines.{written_of}
-use Rattle.wax_set.specs.{Expressions.Spells, Patterns.IsOnly}
+use Rattle.wax_rule.specs.Expressions.{Spells}
+use Rattle.wax_set.specs.Patterns.{IsOnly}
 use Rattle.wax.specs.Ignoring.{IsReadAs}
 use Rattle.wax.proofs.ignoring.read.Goals as goal
 
