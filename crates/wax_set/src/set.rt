@@ -3,7 +3,6 @@ ghost use Rattle.std.specs.Prelude.{◌≡◌, ◌≤◌, ◌<◌, ◌↔◌, �
 ghost use Rattle.std.specs.Prelude.{[], IfOk, IfSome, MatchOption, Some, codes, length, min};
 ghost use Rattle.wax_program.specs.{Closed.IsClosed, Machine.{Accepts, mark}, Meter.most_ticks};
 ghost use Rattle.wax_lazy.specs.Cost.{path_visits};
-ghost use Rattle.wax_query.specs.Parts.{NoLineEndsBefore};
 ghost use Rattle.wax_query.specs.{Components.{Bare, BeginsWithSlash, component_total}, Outcome.MatchBuild};
 ghost use Rattle.wax_query.specs.{Ranges.{AtMost, bounds}, Variances.text_of};
 ghost use Rattle.wax_query.specs.declared.query.when.When.TheVariants.{Always};
@@ -15,6 +14,7 @@ ghost use Rattle.wax_token.specs.{Syntax.alternation, Words.trees};
 ghost use Rattle.wax_set.specs.Sets.{AreMatches, BranchMeans, IsAlternation, IsNumbered, IsWhole, MeansText};
 ghost use Rattle.wax_set.specs.Patterns.{LacksMemory};
 
+mod borrowed;
 mod conflicts;
 mod edges;
 mod matcher;
@@ -22,8 +22,8 @@ mod owned;
 mod walking;
 
 use crate::pattern::Pattern;
+pub use borrowed::AnyMatcher;
 pub use conflicts::Conflict;
-pub use matcher::AnyMatcher;
 use matcher::MOST_NUMBERED;
 pub use owned::OwnedAnyMatcher;
 use std::alloc::Global;
@@ -254,14 +254,6 @@ impl Any<'_> {
         ensures { MeansText self.now path.now → IsTrue result }
     {
         self.compiled.may_accept(path.as_str())
-    }
-
-    /// Returns how many bytes at the beginning of a text can be passed over in a search for lines
-    /// that a pattern matches: none of them ends before so many bytes.
-    fn earliest_end(&self, text: &str) -> usize
-        ensures { NoLineEndsBefore (means_test self.now false false) text.now result }
-    {
-        self.compiled.earliest_end(text)
     }
 }
 

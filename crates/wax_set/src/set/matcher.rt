@@ -3,75 +3,109 @@ ghost use Rattle.std.specs.Prelude.{◌≡◌, ◌+◌, ◌≤◌, ◌↔◌, No
 ghost use Rattle.wax_set.specs.Sets.{AreMatches, MeansText};
 ghost use Rattle.wax_lazy.specs.Cost.{first_visits, path_visits};
 ghost use Rattle.wax_prefilter.specs.Below.{MeansBelow, goes_test, goes_tested};
-ghost use Rattle.wax_token.specs.{Cost.program_length, Decided.{means_test, means_tested}};
+ghost use Rattle.wax_query.specs.Parts.{NoLineEndsBefore};
+ghost use Rattle.wax_token.specs.{Cost.program_length, Decided.{means_test, means_tested}, Reads.Span};
+ghost use Rattle.wax_token.specs.Syntax.{Tree};
 
-use crate::set::Any;
 use std::alloc::Global;
 use std::marker::Model;
-use wax_lazy::Matcher;
-use wax_match::encode::{CompiledProgram, Meter};
-use wax_prefilter::CompiledTokens;
+use wax_match::encode::Meter;
 use wax_query::diagnostics::NoMemory;
-use wax_query::matching::{BuildMatcher, CandidatePath, PathMatcher};
+use wax_query::matching::{CandidatePath, PathMatcher};
 use wax_query::query::Verdict;
 
 /// How many bytes of earlier paths are kept at most to say which patterns match, about.
 pub(crate) const MOST_NUMBERED: usize = 16_777_216;
 
-/// A matcher of a set of patterns for many paths, which keeps what it learns from each for the next
-/// ones. Contracts see the view of its set.
-pub struct AnyMatcher<'a, 't> {
-    alloc: Global,
-    any: &'a Any<'t>,
-    matcher: Matcher<&'a CompiledTokens>,
-    /// The matcher of the program that says which of the patterns match.
-    numbered: Matcher<&'a CompiledProgram>,
+/// A set of patterns with what earlier paths led to, which decides further paths with the help of that.
+pub trait CachedSet: Drop {
+    // The alternation of the trees of the patterns.
+    ghost tree: { Self → Tree Span };
+
+    /// Returns whether one of the patterns matches the whole path.
+    fn is_match_cached(
+        &mut self,
+        _alloc: Global,
+        path: &CandidatePath<'_>,
+        meter: &mut Meter,
+    ) -> Result<bool, NoMemory>
+        ensures means { IfOk result (λ answer. IsTrue answer ↔ MeansText (tree self.old) path.now) }
+        ensures same { tree self.new ≡ tree self.old }
+        ensures above { let size = program_length (tree self.old) in
+            meter.new ≤ meter.old + path_visits size (length path.now) }
+        ensures steady { meter.old ≤ meter.new };
+
+    /// Writes the indexes of all patterns that match the whole path into a list, ascending, in place of
+    /// what was in it.
+    fn list_matches(
+        &mut self,
+        path: &CandidatePath<'_>,
+        indexes: &mut Vec<usize>,
+        meter: &mut Meter,
+    ) -> Result<(), NoMemory>
+        ensures matches { IfOk result (λ _. AreMatches (tree self.old) path.now indexes.new.items) }
+        ensures same { tree self.new ≡ tree self.old }
+        ensures above { let size = program_length (tree self.old) in
+            meter.new ≤ meter.old + path_visits size (length path.now) + size }
+        ensures steady { meter.old ≤ meter.new };
+
+    /// Returns whether one of the patterns matches the whole path, and whether one matches the path of
+    /// something below the folder with this path, at most `most` names below it if that is some number.
+    fn verdict_cached(
+        &mut self,
+        _alloc: Global,
+        path: &CandidatePath<'_>,
+        most: Option<usize>,
+        meter: &mut Meter,
+    ) -> Result<Verdict, NoMemory>
+        ensures decides { IfOk result
+            (λ verdict. verdict.is_match ≡ means_test (tree self.old) false false path.now) }
+        ensures onward { IfOk result
+            (λ verdict. verdict.goes_on ≡ goes_test (tree self.old) most path.now) }
+        ensures same { tree self.new ≡ tree self.old }
+        ensures above { let size = program_length (tree self.old) in
+            meter.new ≤ meter.old + first_visits size most + path_visits size (length path.now) }
+        ensures steady { meter.old ≤ meter.new };
+
+    /// Returns how many bytes at the beginning of a text can be passed over in a search for lines
+    /// that a pattern matches: none of them ends before so many bytes.
+    fn earliest_end(&self, text: &str) -> usize
+        ensures { NoLineEndsBefore (means_test (tree self.now) false false) text.now result };
 }
 
-impl Drop for AnyMatcher<'_, '_> {
+/// A matcher of a set of patterns for many paths, which keeps what it learns from each for the next
+/// ones. Contracts see the view of its set.
+pub struct SetMatcher<S: CachedSet> {
+    pub(crate) alloc: Global,
+    pub(crate) set: S,
+}
+
+impl<S: CachedSet> Drop for SetMatcher<S> {
     fn drop(self) {
-        let AnyMatcher {
-            alloc: _,
-            any: _,
-            matcher: _,
-            numbered: _,
-        } = self;
+        let SetMatcher { alloc: _, set: _ } = self;
     }
 }
 
-impl<'a, 't> Model for AnyMatcher<'a, 't> {
-    ghost use Rattle.wax_set.specs.Sets.{any_code, AcceptsText, IsAlternation, IsNumbered};
-    ghost use Rattle.std.specs.Prelude.{◌<◌, length};
-    ghost use Rattle.wax_token.specs.{Cost.program_length, Reads.Span, Syntax.Tree};
+impl<S: CachedSet> Model for SetMatcher<S> {
+    ghost use Rattle.wax_set.specs.Sets.{any_code};
+    ghost use Rattle.wax_token.specs.{Reads.Span, Syntax.Tree};
 
     ghost Value = { Tree Span };
 
     ghost coded = { any_code };
 
-    ghost view = { λ m. m.any.now };
-
-    ghost invariant = { λ m. AcceptsText m.matcher m.any.now × IsNumbered m.any.now m.numbered
-        × IsAlternation m.any.now × (length m.matcher < program_length m.any.now) };
+    ghost view = { λ m. S.tree m.set };
 }
 
-impl<'t> Any<'t> {
-    /// Builds a matcher, which is faster than the set for many paths if its patterns have many
-    /// branches. It keeps about 2 MiB at most, or up to 16 MiB if the set is large; and up to 16 MiB
-    /// more once it was asked which patterns match.
-    pub fn matcher<'a>(&'a self, alloc: Global) -> Result<AnyMatcher<'a, 't>, NoMemory>
-        ensures { IfOk result (λ m. m ≡ self.now) }
+impl<S: CachedSet> SetMatcher<S> {
+    /// Returns the set with what was learned.
+    pub(crate) fn into_set(self) -> S
+        ensures { S.tree result ≡ self }
     {
-        let matcher = Matcher::new(alloc, &self.compiled)?;
-        Ok(AnyMatcher {
-            alloc,
-            any: self,
-            matcher,
-            numbered: Matcher::with_most(alloc, self.numbered.holder(), MOST_NUMBERED),
-        })
+        let SetMatcher { alloc: _, set } = self;
+        set
     }
-}
 
-impl AnyMatcher<'_, '_> {
     /// Returns whether one of the patterns matches the whole path. A quick test comes first, which
     /// rejects most texts that don't match.
     ///
@@ -109,7 +143,7 @@ impl AnyMatcher<'_, '_> {
             meter.new ≤ meter.old + path_visits size (length path.now) }
         ensures steady { meter.old ≤ meter.new }
     {
-        self.matcher.is_match_metered(path.as_str(), meter)
+        self.set.is_match_cached(self.alloc, path, meter)
     }
 
     /// Returns the indexes of all patterns that match the whole path, ascending. The first pattern of
@@ -189,12 +223,7 @@ impl AnyMatcher<'_, '_> {
             meter.new ≤ meter.old + path_visits size (length path.now) + size }
         ensures steady { meter.old ≤ meter.new }
     {
-        indexes.clear();
-        if !self.any.may_match_quickly(path) {
-            return Ok(());
-        }
-        self.numbered
-            .list_numbers_metered(path.as_str(), indexes, meter)
+        self.set.list_matches(path, indexes, meter)
     }
 
     /// Returns whether something below the folder with this path can match: whether one of the
@@ -257,7 +286,7 @@ impl AnyMatcher<'_, '_> {
     }
 
     // Returns what `verdict` does, for at most `most` names below the folder, if that is some number.
-    fn judge(
+    pub(crate) fn judge(
         &mut self,
         path: &CandidatePath<'_>,
         most: Option<usize>,
@@ -271,44 +300,6 @@ impl AnyMatcher<'_, '_> {
             meter.new ≤ meter.old + first_visits size most + path_visits size (length path.now) }
         ensures steady { meter.old ≤ meter.new }
     {
-        self.matcher.verdict_metered(path.as_str(), most, meter)
-    }
-}
-
-impl PathMatcher for AnyMatcher<'_, '_> {
-    ghost decides = { λ m. means_test m false false };
-
-    ghost goes_on = { λ m. goes_test m };
-
-    ghost leads = { λ m most folder s is all h.
-        (goes_tested m most folder).1 (s, is, all, (means_tested m false false s).0 h) };
-
-    fn is_match(&mut self, path: &CandidatePath<'_>) -> Result<bool, NoMemory> {
-        self.is_match(path)
-    }
-
-    fn verdict(&mut self, path: &CandidatePath<'_>) -> Result<Verdict, NoMemory> {
-        self.verdict(path)
-    }
-
-    fn verdict_within(
-        &mut self,
-        path: &CandidatePath<'_>,
-        most: usize,
-    ) -> Result<Verdict, NoMemory> {
-        let mut meter = Meter::new();
-        self.judge(path, Some(most), &mut meter)
-    }
-
-    fn earliest_end(&self, text: &str) -> usize {
-        self.any.earliest_end(text)
-    }
-}
-
-impl<'a, 't: 'a> BuildMatcher<'a> for Any<'t> {
-    type Matcher = AnyMatcher<'a, 't>;
-
-    fn build_matcher(&'a self, alloc: Global) -> Result<AnyMatcher<'a, 't>, NoMemory> {
-        self.matcher(alloc)
+        self.set.verdict_cached(self.alloc, path, most, meter)
     }
 }
