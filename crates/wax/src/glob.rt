@@ -2,7 +2,6 @@
 ghost use Rattle.std.specs.Prelude.{◌≡◌, ◌<◌, ◌≤◌, ◌↔◌, ◌+◌, ◌*◌, ◌++◌, ◌∷◌, [], ℕ, List, IsTrue, IfOk};
 ghost use Rattle.std.specs.Prelude.{IfSome, MatchOption, Some, chars, encode_utf8_all, length, false, min};
 ghost use Rattle.wax_program.specs.Meter.{most_ticks};
-ghost use Rattle.wax_query.specs.Parts.{NoLineEndsBefore};
 ghost use Rattle.wax_query.specs.Components.{Bare, BeginsWithSlash, component_total};
 ghost use Rattle.wax_query.specs.{Ranges.{AtMost, bounds}, Variances.text_of};
 ghost use Rattle.wax_query.specs.{declared.query.when.When.TheVariants.Always, Outcome.MatchBuild};
@@ -14,6 +13,7 @@ ghost use Rattle.wax_token.specs.{Cost.program_length, Decided.{means_test, mean
 ghost use Rattle.wax_partition.specs.Partition.{spelled_rest};
 ghost use Rattle.wax.specs.{GlobView.{HasCaptures, HasSpans, IsKept, IsMeant}, Partition.as_glob};
 
+mod borrowed;
 mod matcher;
 mod owned;
 mod parts;
@@ -21,7 +21,7 @@ mod pattern;
 mod values;
 mod walking;
 
-pub use matcher::GlobMatcher;
+pub use borrowed::GlobMatcher;
 pub use owned::OwnedGlobMatcher;
 use std::alloc::Global;
 use std::borrow::CowStr;
@@ -269,14 +269,6 @@ impl<'t> Glob<'t> {
         ensures fits { program_length result.now ≤ 1048576 }
     {
         &self.checked.as_ref().token
-    }
-
-    /// Returns how many bytes at the beginning of a text can be passed over in a search for lines
-    /// that the glob matches: none of them ends before so many bytes.
-    fn earliest_end(&self, text: &str) -> usize
-        ensures { NoLineEndsBefore (means_test self.now.tree false false) text.now result }
-    {
-        self.compiled.earliest_end(text)
     }
 }
 

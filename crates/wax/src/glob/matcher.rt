@@ -1,88 +1,116 @@
 //! A matcher of one glob for many paths.
-ghost use Rattle.std.specs.Prelude.{◌≡◌, ◌+◌, ◌≤◌, ◌↔◌, None, IfOk, IsTrue, chars, false, length};
-ghost use Rattle.wax.specs.GlobView.{IsMeant};
+ghost use Rattle.std.specs.Prelude.{◌≡◌, ◌+◌, ◌≤◌, ◌↔◌, ℕ, None, IfOk, IfSome, IsTrue, List, chars, false};
+ghost use Rattle.std.specs.Prelude.{length};
+ghost use Rattle.wax.specs.GlobView.{GlobView, IsMeant};
 ghost use Rattle.wax_query.specs.Parts.{NoLineEndsBefore};
 ghost use Rattle.wax_lazy.specs.Cost.{first_visits, path_visits};
-ghost use Rattle.wax_prefilter.specs.Below.{MeansBelow, goes_test, goes_tested};
+ghost use Rattle.wax_prefilter.specs.{Below.{MeansBelow, goes_test, goes_tested}, Within.IsInFolder};
 ghost use Rattle.wax_token.specs.{Cost.program_length, Decided.{means_test, means_tested}};
 
-use crate::glob::Glob;
 use std::alloc::Global;
 use std::marker::Model;
-use wax_exclude::is_everything;
-use wax_lazy::Matcher;
-use wax_prefilter::{CompiledTokens, folder_of, is_within};
+use wax_prefilter::is_within;
 use wax_program::Meter;
 use wax_query::diagnostics::NoMemory;
-use wax_query::matching::{BuildMatcher, CandidatePath, PathMatcher};
+use wax_query::matching::{CandidatePath, PathMatcher};
 use wax_query::query::Verdict;
+
+/// A glob with what earlier paths led to, which decides further paths with the help of that.
+pub trait CachedGlob: Drop {
+    // The expression and the tree of the glob.
+    ghost glob: { Self → GlobView };
+
+    /// Returns whether the glob matches the whole path.
+    fn is_match_cached(
+        &mut self,
+        _alloc: Global,
+        path: &CandidatePath<'_>,
+        meter: &mut Meter,
+    ) -> Result<bool, NoMemory>
+        ensures means { IfOk result (λ answer. IsTrue answer ↔ IsMeant (glob self.old) path.now) }
+        ensures same { glob self.new ≡ glob self.old }
+        ensures above { let size = program_length (glob self.old).tree in
+            meter.new ≤ meter.old + path_visits size (length path.now) }
+        ensures steady { meter.old ≤ meter.new };
+
+    /// Returns whether the glob matches the whole path, and whether it matches the path of something
+    /// below the folder with this path, at most `most` names below it if that is some number.
+    fn verdict_cached(
+        &mut self,
+        _alloc: Global,
+        path: &CandidatePath<'_>,
+        most: Option<usize>,
+        meter: &mut Meter,
+    ) -> Result<Verdict, NoMemory>
+        ensures decides { IfOk result
+            (λ verdict. verdict.is_match ≡ means_test (glob self.old).tree false false path.now) }
+        ensures onward { IfOk result
+            (λ verdict. verdict.goes_on ≡ goes_test (glob self.old).tree most path.now) }
+        ensures same { glob self.new ≡ glob self.old }
+        ensures above { let size = program_length (glob self.old).tree in
+            meter.new ≤ meter.old + first_visits size most + path_visits size (length path.now) }
+        ensures steady { meter.old ≤ meter.new };
+
+    /// Returns the folder, if the glob matches exactly a folder and everything below it, as `usr/**` does.
+    fn folder(&self) -> Option<&str>
+        ensures { IfSome result (λ folder. (text : List ℕ)
+            → IsMeant (glob self.now) text ↔ IsInFolder (chars folder.now) text) };
+
+    /// Returns how many bytes at the beginning of a text can be passed over in a search for lines
+    /// that the glob matches: none of them ends before so many bytes.
+    fn earliest_end(&self, text: &str) -> usize
+        ensures { NoLineEndsBefore (means_test (glob self.now).tree false false) text.now result };
+}
 
 /// A matcher of a glob for many paths, which keeps what it learns from each for the next ones.
 /// Contracts see the view of its glob.
-pub struct GlobMatcher<'g, 't> {
-    glob: &'g Glob<'t>,
-    matcher: Matcher<&'g CompiledTokens>,
+pub struct CachedGlobMatcher<G: CachedGlob> {
+    pub(crate) alloc: Global,
+    pub(crate) held: G,
     /// True if the glob is `**`, which matches a text without a look at it.
-    matches_all: bool,
-    /// The folder, if the glob matches exactly a folder and everything below it, as `usr/**` does.
-    folder: Option<&'g str>,
+    pub(crate) matches_all: bool,
+    /// True if the glob has a folder.
+    pub(crate) has_folder: bool,
 }
 
-impl Drop for GlobMatcher<'_, '_> {
+impl<G: CachedGlob> Drop for CachedGlobMatcher<G> {
     fn drop(self) {
-        let GlobMatcher {
-            glob: _,
-            matcher: _,
+        let CachedGlobMatcher {
+            alloc: _,
+            held: _,
             matches_all: _,
-            folder: _,
+            has_folder: _,
         } = self;
     }
 }
 
-impl<'g, 't> Model for GlobMatcher<'g, 't> {
-    ghost use Rattle.std.specs.Prelude.{◌<◌, ◌↔◌, IfSome, IsTrue, List, chars, length, ℕ};
-    ghost use Rattle.wax.specs.{GlobView.{GlobView, IsMeant, glob_code}, Matching.AcceptsMeant};
-    ghost use Rattle.wax_prefilter.specs.Within.{IsInFolder};
-    ghost use Rattle.wax_token.specs.Cost.{program_length};
+impl<G: CachedGlob> Model for CachedGlobMatcher<G> {
+    ghost use Rattle.std.specs.Prelude.{IsTrue, List, ℕ};
+    ghost use Rattle.wax.specs.GlobView.{GlobView, IsMeant, glob_code};
 
     ghost Value = { GlobView };
 
     ghost coded = { glob_code };
 
-    ghost view = { λ m. m.glob.now };
+    ghost view = { λ m. G.glob m.held };
 
-    ghost invariant = { λ m. AcceptsMeant m.matcher m.glob.now
-        × (IsTrue m.matches_all → (text : List ℕ) → IsMeant m.glob.now text)
-        × IfSome m.folder (λ folder. (text : List ℕ)
-        → IsMeant m.glob.now text ↔ IsInFolder (chars folder.now) text)
-        × (length m.matcher < program_length m.glob.now.tree) };
+    ghost invariant = { λ m. IsTrue m.matches_all → (text : List ℕ) → IsMeant (G.glob m.held) text };
 }
 
-impl<'t> Glob<'t> {
-    /// Builds a matcher, which is faster than the glob for many paths if the expression has many
-    /// alternatives. It keeps about 2 MiB at most, or up to 16 MiB if the expression is long.
-    ///
-    /// ```
-    /// let glob = Glob::new(alloc, "**/{node_modules,target,build}/**")?;
-    /// let mut matcher = glob.matcher(alloc)?;
-    /// for path in ["a/target/b", "a/src/b"] {
-    ///     println!(rt; "{}", matcher.is_match(&CandidatePath::from(path))?)?; // true; false
-    /// }
-    /// ```
-    pub fn matcher<'g>(&'g self, alloc: Global) -> Result<GlobMatcher<'g, 't>, NoMemory>
-        ensures { IfOk result (λ m. m ≡ self.now) }
+impl<G: CachedGlob> CachedGlobMatcher<G> {
+    /// Returns the glob with what was learned.
+    pub(crate) fn into_held(self) -> G
+        ensures { G.glob result ≡ self }
     {
-        let matcher = Matcher::new(alloc, &self.compiled)?;
-        Ok(GlobMatcher {
-            glob: self,
-            matcher,
-            matches_all: is_everything(self.token()),
-            folder: folder_of(self.token().concatenation()),
-        })
+        let CachedGlobMatcher {
+            alloc: _,
+            held,
+            matches_all: _,
+            has_folder: _,
+        } = self;
+        held
     }
-}
 
-impl GlobMatcher<'_, '_> {
     /// Returns whether the glob matches the whole path. A quick test comes first, which rejects
     /// most texts that don't match.
     ///
@@ -125,11 +153,10 @@ impl GlobMatcher<'_, '_> {
         if self.matches_all {
             return Ok(true);
         }
-        let text = path.as_str();
-        if let Some(folder) = self.folder {
-            return Ok(is_within(text, folder));
+        if let Some(folder) = self.folder() {
+            return Ok(is_within(path.as_str(), folder));
         }
-        self.matcher.is_match_metered(text, meter)
+        self.held.is_match_cached(self.alloc, path, meter)
     }
 
     /// Returns whether something below the folder with this path can match: whether the glob matches
@@ -201,7 +228,7 @@ impl GlobMatcher<'_, '_> {
     }
 
     // Returns what `verdict` does, for at most `most` names below the folder, if that is some number.
-    fn judge(
+    pub(crate) fn judge(
         &mut self,
         path: &CandidatePath<'_>,
         most: Option<usize>,
@@ -216,13 +243,35 @@ impl GlobMatcher<'_, '_> {
             meter.new ≤ meter.old + first_visits size most + path_visits size (length path.now) }
         ensures steady { meter.old ≤ meter.new }
     {
-        self.matcher.verdict_metered(path.as_str(), most, meter)
+        self.held.verdict_cached(self.alloc, path, most, meter)
+    }
+
+    /// Returns the folder, if the glob matches exactly a folder and everything below it.
+    #[inline]
+    fn folder(&self) -> Option<&str>
+        ensures { IfSome result (λ folder. (text : List ℕ)
+            → IsMeant self.now text ↔ IsInFolder (chars folder.now) text) }
+    {
+        if !self.has_folder {
+            return None;
+        }
+        self.held.folder()
     }
 
     /// Returns how many bytes at the beginning of a text can be passed over in a search for lines
-    /// that the glob matches. Lines in a folder often follow one another, so the first line is looked
-    /// at before a search. It is a function of its own, never inlined, so that globs without a folder
-    /// cost no more.
+    /// that the glob matches: none of them ends before so many bytes.
+    pub(crate) fn earliest_end(&self, text: &str) -> usize
+        ensures { NoLineEndsBefore (means_test self.now.tree false false) text.now result }
+    {
+        match self.folder() {
+            Some(folder) => self.earliest_end_in(folder, text),
+            None => self.held.earliest_end(text),
+        }
+    }
+
+    /// Returns what `earliest_end` does, for a glob with a folder. Lines in a folder often follow one
+    /// another, so the first line is looked at before a search. It is a function of its own, never
+    /// inlined, so that globs without a folder cost no more.
     #[inline(never)]
     fn earliest_end_in(&self, folder: &str, text: &str) -> usize
         ensures { NoLineEndsBefore (means_test self.now.tree false false) text.now result }
@@ -230,48 +279,6 @@ impl GlobMatcher<'_, '_> {
         if text.as_bytes().starts_with(folder.as_bytes()) {
             return 0;
         }
-        self.glob.earliest_end(text)
-    }
-}
-
-impl PathMatcher for GlobMatcher<'_, '_> {
-    ghost decides = { λ m. means_test m.tree false false };
-
-    ghost goes_on = { λ m. goes_test m.tree };
-
-    ghost leads = { λ m most folder s is all h.
-        (goes_tested m.tree most folder).1 (s, is, all, (means_tested m.tree false false s).0 h) };
-
-    #[inline]
-    fn is_match(&mut self, path: &CandidatePath<'_>) -> Result<bool, NoMemory> {
-        self.is_match(path)
-    }
-
-    fn verdict(&mut self, path: &CandidatePath<'_>) -> Result<Verdict, NoMemory> {
-        self.verdict(path)
-    }
-
-    fn verdict_within(
-        &mut self,
-        path: &CandidatePath<'_>,
-        most: usize,
-    ) -> Result<Verdict, NoMemory> {
-        let mut meter = Meter::new();
-        self.judge(path, Some(most), &mut meter)
-    }
-
-    fn earliest_end(&self, text: &str) -> usize {
-        match self.folder {
-            Some(folder) => self.earliest_end_in(folder, text),
-            None => self.glob.earliest_end(text),
-        }
-    }
-}
-
-impl<'g, 't: 'g> BuildMatcher<'g> for Glob<'t> {
-    type Matcher = GlobMatcher<'g, 't>;
-
-    fn build_matcher(&'g self, alloc: Global) -> Result<GlobMatcher<'g, 't>, NoMemory> {
-        self.matcher(alloc)
+        self.held.earliest_end(text)
     }
 }

@@ -1,0 +1,9 @@
+use Rattle.std.proofs.Common.{false, subst}
+use Rattle.wax_query.specs.Parts.{NoLineEndsBefore}
+use Rattle.wax_token.specs.Decided.{means_test}
+use Rattle.wax.proofs.glob.matcher.CachedGlobMatcher.earliest_end_in.Goals as goal
+
+pub returns : goal.returns
+returns g c =
+    subst (λ v. NoLineEndsBefore (means_test v.tree false false) c.args.text.now c.earliest_end.result)
+    c.self.view_is c.earliest_end.ensures
