@@ -4,7 +4,7 @@ ghost use Rattle.wax.specs.GlobView.{GlobView};
 ghost use Rattle.wax_c.specs.{Captures.{Captures, CapturesAs, texts_of}, GlobOwned.glob_at};
 ghost use types.Logic.{sem};
 
-use crate::error::{CallError, answer_of};
+use crate::error::{CallError, number_of_bool};
 use crate::handle::HeldGlob;
 use crate::output::write_over;
 use std::alloc::{AllocError, Global};
@@ -56,7 +56,7 @@ fn capture_held(
     ensures { CapturesAs held.now.matcher path.now (record { bytes = texts.old; lengths = lengths.old })
         (record { bytes = texts.new; lengths = lengths.new }) count.new result }
 {
-    answer_of(&capture(alloc, held.matcher.glob(), path, texts, lengths, count))
+    number_of_bool(&capture(alloc, held.matcher.glob(), path, texts, lengths, count))
 }
 
 fn capture(

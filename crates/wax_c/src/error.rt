@@ -16,7 +16,7 @@ pub enum CallError {
 }
 
 /// Returns 1 or 0 for yes or no, and minus the number of an error.
-pub(crate) fn answer_of(outcome: &Result<bool, CallError>) -> i32
+pub(crate) fn number_of_bool(outcome: &Result<bool, CallError>) -> i32
     ensures { result ≡ answer_number outcome.now }
 {
     match outcome {

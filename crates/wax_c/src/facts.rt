@@ -6,7 +6,7 @@ ghost use Rattle.wax_c.specs.{Facts.{bound_or_greatest, when_number}, GlobOwned.
 ghost use Rattle.wax_c.specs.{Outcomes.KeepsAfterError, inner.Showing.ShowsText};
 ghost use types.Logic.{sem};
 
-use crate::error::{CallError, answer_of, status_of};
+use crate::error::{CallError, number_of_bool, status_of};
 use crate::handle::HeldGlob;
 use crate::output::put;
 use std::alloc::Global;
@@ -148,7 +148,7 @@ fn text_held(alloc: Global, held: &HeldGlob, output: &mut [u8], written: &mut us
         (record { bytes = output.new; written = written.new }) result }
 {
     let text = held.matcher.glob().text(alloc);
-    answer_of(&write_text(text, output, written))
+    number_of_bool(&write_text(text, output, written))
 }
 
 /// Writes the text to the beginning of the output, if there is one, and the number of its bytes to

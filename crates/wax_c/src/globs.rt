@@ -8,7 +8,7 @@ ghost use Rattle.wax_c.specs.Outcomes.{SaysMatch};
 ghost use types.Logic.{sem};
 
 use crate::calls::{build, decide_below, decide_cached, fill};
-use crate::error::{CallError, answer_of, status_of};
+use crate::error::{CallError, number_of_bool, status_of};
 use crate::handle::{GlobHandle, HeldGlob};
 use crate::loose::Loose;
 use std::alloc::Global;
@@ -64,7 +64,7 @@ pub unsafe extern "C" fn wax_glob_is_match(alloc: Global, glob: *mut u8, path: &
     ensures* back { sem 𝓛 (glob_at alloc glob held) }
     ensures answer { DecidesAs (SaysMatch held) path.now result }
 {
-    answer_held(alloc, &mut *(glob as *mut HeldGlob), path)
+    is_match_held(alloc, &mut *(glob as *mut HeldGlob), path)
 }
 
 /// Returns 1 if something below the folder with this path can match, that is, if the glob matches
@@ -81,7 +81,7 @@ pub unsafe extern "C" fn wax_glob_goes_on(alloc: Global, glob: *mut u8, folder: 
     ensures* back { sem 𝓛 (glob_at alloc glob held) }
     ensures answer { DecidesAs (SaysGoesOn held) folder.now result }
 {
-    answer_below(alloc, &mut *(glob as *mut HeldGlob), folder)
+    goes_on_held(alloc, &mut *(glob as *mut HeldGlob), folder)
 }
 
 /// Writes the lines of the input that the glob matches to the beginning of the output, as
@@ -165,18 +165,18 @@ pub(crate) fn place_of(outcome: &Result<(), CallError>) -> WaxSpan
     }
 }
 
-fn answer_held(_alloc: Global, held: &mut HeldGlob, path: &[u8]) -> i32
+fn is_match_held(_alloc: Global, held: &mut HeldGlob, path: &[u8]) -> i32
     ensures { DecidesAs (SaysMatch held.old.matcher) path.now result × (held.new ≡ held.old) }
 {
     let outcome = decide_cached(&mut held.matcher, path);
-    answer_of(&outcome)
+    number_of_bool(&outcome)
 }
 
-fn answer_below(_alloc: Global, held: &mut HeldGlob, folder: &[u8]) -> i32
+fn goes_on_held(_alloc: Global, held: &mut HeldGlob, folder: &[u8]) -> i32
     ensures { DecidesAs (SaysGoesOn held.old.matcher) folder.now result × (held.new ≡ held.old) }
 {
     let outcome = decide_below(&mut held.matcher, folder);
-    answer_of(&outcome)
+    number_of_bool(&outcome)
 }
 
 fn fill_held(

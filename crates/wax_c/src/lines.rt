@@ -31,7 +31,7 @@ pub unsafe extern "C" fn wax_ignore_deciding_line(
     ensures* back { sem 𝓛 (list_at alloc list held) }
     ensures line { FindsLineAs held path.now line.new result }
 {
-    tell_line(alloc, &*(list as *const IgnoreList), path, line)
+    deciding_line_held(alloc, &*(list as *const IgnoreList), path, line)
 }
 
 /// Writes the indexes of the lines that decide nothing about paths as walks have them, ascending, to the
@@ -127,11 +127,11 @@ pub unsafe extern "C" fn wax_ignore_tidy(
     )
 }
 
-fn tell_line(alloc: Global, list: &IgnoreList, path: &[u8], line: &mut usize) -> i32
+fn deciding_line_held(alloc: Global, list: &IgnoreList, path: &[u8], line: &mut usize) -> i32
     ensures { FindsLineAs list.now path.now line.new result }
 {
     let outcome = find_line(alloc, list, path);
-    tell_index(&outcome, line)
+    write_index(&outcome, line)
 }
 
 fn find_line(alloc: Global, list: &IgnoreList, path: &[u8]) -> Result<Option<usize>, CallError>
@@ -147,7 +147,7 @@ fn find_line(alloc: Global, list: &IgnoreList, path: &[u8]) -> Result<Option<usi
 }
 
 // Writes the index if there is one, or else 0. Returns 1 or 0 for that, and minus the number of an error.
-fn tell_index(outcome: &Result<Option<usize>, CallError>, line: &mut usize) -> i32
+fn write_index(outcome: &Result<Option<usize>, CallError>, line: &mut usize) -> i32
     ensures line { line.new ≡ index_or_zero outcome.now }
     ensures number { result ≡ index_number outcome.now }
 {
@@ -179,7 +179,7 @@ fn list_idle(
     ensures { ListsWithin (length list.now) (AreSure list.now most_states) lines.old lines.new count.new
         result }
 {
-    list_found(find_idle(alloc, list, most_states), lines, count)
+    number_of_found(find_idle(alloc, list, most_states), lines, count)
 }
 
 fn list_undecided(
@@ -192,7 +192,7 @@ fn list_undecided(
     ensures { ListsWithin (length list.now) (AreUnsure list.now most_states) lines.old lines.new count.new
         result }
 {
-    list_found(find_undecided(alloc, list, most_states), lines, count)
+    number_of_found(find_undecided(alloc, list, most_states), lines, count)
 }
 
 fn list_enough(
@@ -205,20 +205,24 @@ fn list_enough(
     ensures { ListsWithin (length list.now) (AreEnough list.now most_states) lines.old lines.new count.new
         result }
 {
-    list_found(find_enough(alloc, list, most_states), lines, count)
+    number_of_found(find_enough(alloc, list, most_states), lines, count)
 }
 
-// Returns the number of the outcome.
-fn list_found(found: Result<FoundLines, NoMemory>, lines: &mut [usize], count: &mut usize) -> i32
+// Writes the lines that are found, and returns the number of the outcome.
+fn number_of_found(
+    found: Result<FoundLines, NoMemory>,
+    lines: &mut [usize],
+    count: &mut usize,
+) -> i32
     ensures { (outcome : Result Bool CallError)
         × ListsFound (AreFoundLines found) lines.old lines.new count.new outcome
         × (result ≡ lines_number outcome) }
 {
-    let outcome = write_found(found, lines, count);
-    tell_lines(&outcome)
+    let outcome = write_lines(found, lines, count);
+    lines_number(&outcome)
 }
 
-fn tell_lines(outcome: &Result<bool, CallError>) -> i32
+fn lines_number(outcome: &Result<bool, CallError>) -> i32
     ensures { result ≡ lines_number outcome.now }
 {
     match outcome {
@@ -228,7 +232,7 @@ fn tell_lines(outcome: &Result<bool, CallError>) -> i32
     }
 }
 
-fn write_found(
+fn write_lines(
     found: Result<FoundLines, NoMemory>,
     lines: &mut [usize],
     count: &mut usize,

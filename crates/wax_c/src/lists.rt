@@ -7,7 +7,7 @@ ghost use Rattle.wax_c.specs.ListOwned.{list_at, maybe_list_at};
 ghost use Rattle.wax_c.specs.Outcomes.{Decides, DecidesAs, Fills, FillsWithin, KeepsAfterError};
 ghost use types.Logic.{sem};
 
-use crate::error::{CallError, answer_of, status_of};
+use crate::error::{CallError, number_of_bool, status_of};
 use crate::list_handle::ListHandle;
 use crate::loose::Loose;
 use crate::output::put;
@@ -61,7 +61,7 @@ pub unsafe extern "C" fn wax_ignore_is_ignored(alloc: Global, list: *mut u8, pat
     ensures* back { sem 𝓛 (list_at alloc list held) }
     ensures answer { DecidesAs (SaysIgnored held) path.now result }
 {
-    answer_list(alloc, &mut *(list as *mut IgnoreList), path)
+    is_ignored_held(alloc, &mut *(list as *mut IgnoreList), path)
 }
 
 /// Writes the lines of the input that the list doesn't ignore to the beginning of the output, as
@@ -111,7 +111,7 @@ pub unsafe extern "C" fn wax_ignore_excludes_below(
     ensures* back { sem 𝓛 (list_at alloc list held) }
     ensures answer { DecidesAs (SaysIgnoredBelow held) folder.now result }
 {
-    answer_below(alloc, &*(list as *const IgnoreList), folder)
+    excludes_below_held(alloc, &*(list as *const IgnoreList), folder)
 }
 
 /// Frees what the handle points to. A null handle is ignored.
@@ -161,11 +161,11 @@ fn boxed_list(alloc: Global, text: &[u8]) -> Result<Box<IgnoreList>, (CallError,
     }
 }
 
-fn answer_list(alloc: Global, list: &mut IgnoreList, path: &[u8]) -> i32
+fn is_ignored_held(alloc: Global, list: &mut IgnoreList, path: &[u8]) -> i32
     ensures { DecidesAs (SaysIgnored list.old) path.now result × (list.new ≡ list.old) }
 {
     let outcome = is_ignored(alloc, list, path);
-    answer_of(&outcome)
+    number_of_bool(&outcome)
 }
 
 fn is_ignored(alloc: Global, list: &mut IgnoreList, path: &[u8]) -> Result<bool, CallError>
@@ -228,10 +228,10 @@ fn unignored(alloc: Global, list: &mut IgnoreList, input: &[u8]) -> Result<Vec<u
     }
 }
 
-fn answer_below(alloc: Global, list: &IgnoreList, folder: &[u8]) -> i32
+fn excludes_below_held(alloc: Global, list: &IgnoreList, folder: &[u8]) -> i32
     ensures { DecidesAs (SaysIgnoredBelow list.now) folder.now result }
 {
-    answer_of(&excludes_below(alloc, list, folder))
+    number_of_bool(&excludes_below(alloc, list, folder))
 }
 
 fn excludes_below(alloc: Global, list: &IgnoreList, folder: &[u8]) -> Result<bool, CallError>

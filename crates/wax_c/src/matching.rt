@@ -3,7 +3,7 @@ ghost use Rattle.std.specs.Prelude.{◌≡◌, ◌≤◌, ◌+◌, IfErr, OnErr,
 ghost use Rattle.wax_c.specs.Outcomes.{AnswersAs, AreLines, Decides, Ends, Fills, OfExpression, SaysMatch};
 
 use crate::calls::{build, decide, fill};
-use crate::error::{CallError, answer_of, status_of};
+use crate::error::{CallError, number_of_bool, status_of};
 use std::alloc::Global;
 
 /// Returns 1 if the expression matches the path and 0 if not.
@@ -16,7 +16,7 @@ use std::alloc::Global;
 pub extern "C" fn wax_is_match(alloc: Global, expression: &[u8], path: &[u8]) -> i32
     ensures { AnswersAs expression.now (λ glob. Decides (SaysMatch glob) path.now) result }
 {
-    answer_of(&is_match(alloc, expression, path))
+    number_of_bool(&is_match(alloc, expression, path))
 }
 
 /// Writes the lines of the input that the expression matches to the beginning of the output, each

@@ -4,7 +4,7 @@ ghost use Rattle.wax.specs.Language.{Span, Tree};
 ghost use Rattle.wax_c.specs.{Facts.{AreFacts, HasTextAs}, SetOwned.set_at};
 ghost use types.Logic.{sem};
 
-use crate::error::answer_of;
+use crate::error::number_of_bool;
 use crate::facts::{WaxFacts, facts_of, write_text};
 use crate::set_handle::HeldSet;
 use std::alloc::Global;
@@ -58,5 +58,5 @@ fn text_held(alloc: Global, held: &HeldSet, output: &mut [u8], written: &mut usi
         (record { bytes = output.new; written = written.new }) result }
 {
     let text = held.matcher.any().text(alloc);
-    answer_of(&write_text(text, output, written))
+    number_of_bool(&write_text(text, output, written))
 }

@@ -7,7 +7,7 @@ ghost use Rattle.wax_c.specs.{Sets.{SaysSetGoesOn, SaysSetMatch, cut_each}, inne
 ghost use types.Logic.{sem};
 
 use crate::calls::{build, read};
-use crate::error::{CallError, answer_of, status_of};
+use crate::error::{CallError, number_of_bool, status_of};
 use crate::globs::{WaxSpan, place_of};
 use crate::loose::Loose;
 use crate::output::write_over;
@@ -70,7 +70,7 @@ pub unsafe extern "C" fn wax_set_is_match(alloc: Global, set: *mut u8, path: &[u
     ensures* back { sem 𝓛 (set_at alloc set held) }
     ensures answer { DecidesAs (SaysSetMatch held) path.now result }
 {
-    answer_held(alloc, &mut *(set as *mut HeldSet), path)
+    is_match_held(alloc, &mut *(set as *mut HeldSet), path)
 }
 
 /// Returns 1 if one of the patterns matches the path of something below the folder with this path, and
@@ -87,7 +87,7 @@ pub unsafe extern "C" fn wax_set_goes_on(alloc: Global, set: *mut u8, folder: &[
     ensures* back { sem 𝓛 (set_at alloc set held) }
     ensures answer { DecidesAs (SaysSetGoesOn held) folder.now result }
 {
-    answer_below(alloc, &mut *(set as *mut HeldSet), folder)
+    goes_on_held(alloc, &mut *(set as *mut HeldSet), folder)
 }
 
 /// Writes the indexes of all patterns that match the path, ascending, to the beginning of `which`,
@@ -264,11 +264,11 @@ fn globs_of<'e>(
     Ok(globs)
 }
 
-fn answer_held(_alloc: Global, held: &mut HeldSet, path: &[u8]) -> i32
+fn is_match_held(_alloc: Global, held: &mut HeldSet, path: &[u8]) -> i32
     ensures { DecidesAs (SaysSetMatch held.old.matcher) path.now result × (held.new ≡ held.old) }
 {
     let outcome = is_match(&mut held.matcher, path);
-    answer_of(&outcome)
+    number_of_bool(&outcome)
 }
 
 fn is_match(matcher: &mut OwnedAnyMatcher<'_>, path: &[u8]) -> Result<bool, CallError>
@@ -284,11 +284,11 @@ fn is_match(matcher: &mut OwnedAnyMatcher<'_>, path: &[u8]) -> Result<bool, Call
     }
 }
 
-fn answer_below(_alloc: Global, held: &mut HeldSet, folder: &[u8]) -> i32
+fn goes_on_held(_alloc: Global, held: &mut HeldSet, folder: &[u8]) -> i32
     ensures { DecidesAs (SaysSetGoesOn held.old.matcher) folder.now result × (held.new ≡ held.old) }
 {
     let outcome = goes_on(&mut held.matcher, folder);
-    answer_of(&outcome)
+    number_of_bool(&outcome)
 }
 
 fn goes_on(matcher: &mut OwnedAnyMatcher<'_>, folder: &[u8]) -> Result<bool, CallError>

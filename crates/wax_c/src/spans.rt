@@ -5,7 +5,7 @@ ghost use Rattle.wax_c.specs.{GlobOwned.glob_at, Outcomes.ListsAllAs};
 ghost use Rattle.wax_c.specs.Spans.{Spans, SpansAs, capturing_spans, wax_spans};
 ghost use types.Logic.{sem};
 
-use crate::error::{CallError, answer_of, status_of};
+use crate::error::{CallError, number_of_bool, status_of};
 use crate::globs::WaxSpan;
 use crate::handle::HeldGlob;
 use crate::output::{list_found, write_over};
@@ -68,7 +68,7 @@ fn spans_held(
 ) -> i32
     ensures { SpansAs held.now.matcher path.now spans.old spans.new count.new result }
 {
-    answer_of(&write_spans(alloc, held.matcher.glob(), path, spans, count))
+    number_of_bool(&write_spans(alloc, held.matcher.glob(), path, spans, count))
 }
 
 fn write_spans(

@@ -6,7 +6,7 @@ ghost use Rattle.wax_c.specs.Warnings.{SaysSemantic, SaysSemanticAs, warning_num
 ghost use Rattle.wax_c.specs.Warnings.{wax_warning, wax_warnings};
 ghost use types.Logic.{sem};
 
-use crate::error::{CallError, answer_of, status_of};
+use crate::error::{CallError, number_of_bool, status_of};
 use crate::globs::WaxSpan;
 use crate::handle::HeldGlob;
 use crate::output::list_found;
@@ -109,7 +109,7 @@ fn warning_number(warning: &Warning<'_>) -> i32
 fn semantic_held(alloc: Global, held: &HeldGlob) -> i32
     ensures { SaysSemanticAs held.now.matcher.tree result }
 {
-    answer_of(&has_semantic_literals(alloc, held.matcher.glob()))
+    number_of_bool(&has_semantic_literals(alloc, held.matcher.glob()))
 }
 
 fn has_semantic_literals(alloc: Global, glob: &Glob<'_>) -> Result<bool, CallError>

@@ -9,7 +9,7 @@ pub returns : goal.returns
 returns c =
     let list = c.args.list.now in
     let found = c.find_enough.ensures in
-    let call = c.list_found in
+    let call = c.number_of_found in
     let number = to_z-of_z w32 call.result (record { sfits = call.type_inv }) in
     lists_within (AreEnough list c.args.most_states) (length list) _ _ _ _ _ found.found found.few
     (call.ensures.0, call.ensures.1, number ∙ call.ensures.2)

@@ -6,5 +6,5 @@ use Rattle.wax_c.proofs.spans.spans_held.Goals as goal
 
 pub returns : goal.returns
 returns c =
-    let number = to_z-of_z w32 c.answer_of.result (record { sfits = c.answer_of.type_inv }) in
-    spans_as _ _ _ _ _ _ _ _ c.glob.ensures c.write_spans.ensures (number ∙ c.answer_of.ensures)
+    let number = to_z-of_z w32 c.number_of_bool.result (record { sfits = c.number_of_bool.type_inv }) in
+    spans_as _ _ _ _ _ _ _ _ c.glob.ensures c.write_spans.ensures (number ∙ c.number_of_bool.ensures)
