@@ -10,6 +10,7 @@ mod Filled
 mod Following
 mod FoundPath
 mod Freeing
+mod Generic
 mod Handles
 mod Held
 mod Lending

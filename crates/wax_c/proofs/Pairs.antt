@@ -53,9 +53,12 @@ module _ {M : Type 1} {𝓤 : Ura M} (𝓛 : Logic 𝓤) (R R' : RattleType) (A 
   both_alive α α' = sep 𝓤 (alive 𝓛 α) (sep 𝓤 (alive 𝓛 α') toks)
 
   module _ (b o α : ℕ) (γ : GName) (b' o' α' : ℕ) (γ' : GName) where
+    -- what the arguments own
+    abbrev pub Taken : Fml
+    Taken = fsep zed (fsep (mode.Ref b o α γ) (fsep (mode'.Ref b' o' α' γ') rest))
+
     abbrev pub Asks : SProp 𝓤
-    Asks = sep 𝓤 (sep 𝓤 (both_alive α α')
-        (sem 𝓛 (fsep zed (fsep (mode.Ref b o α γ) (fsep (mode'.Ref b' o' α' γ') rest))))) (emp 𝓤)
+    Asks = sep 𝓤 (sep 𝓤 (both_alive α α') (sem 𝓛 Taken)) (emp 𝓤)
 
     abbrev All : Values → Fml
     All ws = fsep ftrue (fsep (mode.last b o α γ ws.1.0) (fsep (mode'.last b' o' α' γ' ws.1.1.0)
@@ -64,9 +67,12 @@ module _ {M : Type 1} {𝓤 : Ura M} (𝓛 : Logic 𝓤) (R R' : RattleType) (A 
     abbrev Told : ℤ → Values → Type 0
     Told r ws = mode.Also (mode'.Also (Answer r ws.1.1.1) ws.1.1.0) ws.1.0
 
+    -- what is said of the number, and of the last values
+    abbrev pub Said : ℤ → SProp 𝓤
+    Said r = ex 𝓤 (λ (ws : Values). sep 𝓤 (sem 𝓛 (All ws)) (fact 𝓤 (Told r ws)))
+
     abbrev pub Leaves : Val → SProp 𝓤
-    Leaves = Gives 𝓛 i32 (both_alive α α')
-        (λ r. ex 𝓤 (λ (ws : Values). sep 𝓤 (sem 𝓛 (All ws)) (fact 𝓤 (Told r ws))))
+    Leaves = Gives 𝓛 i32 (both_alive α α') Said
 
   abbrev Left : Ptr → Ptr → ℤ → Unit {0} × (Unit {0} × (Unit {0} × W)) → SProp 𝓤
   Left p p' r ws = sep 𝓤 (sem 𝓛 (fsep ftrue (fsep ftrue (fsep ftrue (last ws.1.1.1)))))
@@ -191,7 +197,7 @@ module _ (S : Shape) (T T' : Held) (Says : (κs : Lfts (count S.args)) → T.Val
     → Denots (Rows S.args κs) → Exits S.args κs → ℤ → Type 0) where
   open S use {args as xs}
 
-  abbrev exported : Ended
+  abbrev pub exported : Ended
   exported = ended (count xs) (plain (λ _. Z) ∷ plain (λ _. RawPtr) ∷ plain (λ _. RawPtr) ∷ plain (λ _. usize)
       ∷ Params xs) (yes, (yes, (yes, (yes, kept xs)))) i32
 
@@ -202,7 +208,7 @@ module _ (S : Shape) (T T' : Held) (Says : (κs : Lfts (count S.args)) → T.Val
     abbrev at_both : Z.Denot → Ptr → Ptr → T.Value × T'.Value → SProp 𝓤 → SProp 𝓤
     at_both x p p' g P = sep 𝓤 (at_handle T x p g.0) (sep 𝓤 (at_handle T' x p' g.1) P)
 
-    abbrev promised : Clauses 𝓤 exported
+    abbrev pub promised : Clauses 𝓤 exported
     promised κs a = record {
       ghost = T.Value × T'.Value;
       requires = λ g. sep 𝓤 (at_handle T a.0 a.1.0 g.0) (at_handle T' a.0 a.1.1.0 g.1);

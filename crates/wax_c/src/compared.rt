@@ -11,6 +11,7 @@ use crate::error::{CallError, status_of};
 use crate::handle::HeldGlob;
 use crate::set_handle::HeldSet;
 use std::alloc::Global;
+use wax::Compared;
 use wax::walk::IgnoreList;
 
 /// Looks for a path, as walks have them, that both globs match. If there is one, writes a shortest one to
@@ -39,7 +40,7 @@ pub unsafe extern "C" fn wax_glob_overlap(
     ensures overlap { OverlapAs (IsMeant held.0) (IsMeant held.1) most_states output.old
         (record { bytes = output.new; written = written.new }) result }
 {
-    overlap_of_globs(
+    overlap_held(
         alloc,
         &*(first as *const HeldGlob),
         &*(second as *const HeldGlob),
@@ -72,7 +73,7 @@ pub unsafe extern "C" fn wax_glob_difference(
     ensures difference { DifferenceAs (IsMeant held.0) (IsMeant held.1) most_states output.old
         (record { bytes = output.new; written = written.new }) result }
 {
-    difference_of_globs(
+    difference_held(
         alloc,
         &*(first as *const HeldGlob),
         &*(second as *const HeldGlob),
@@ -105,7 +106,7 @@ pub unsafe extern "C" fn wax_glob_compare(
     ensures comparison { CompareAs (IsMeant held.0) (IsMeant held.1) most_states output.old
         (record { bytes = output.new; written = written.new }) result }
 {
-    comparison_of_globs(
+    comparison_held(
         alloc,
         &*(first as *const HeldGlob),
         &*(second as *const HeldGlob),
@@ -138,7 +139,7 @@ pub unsafe extern "C" fn wax_set_overlap(
     ensures overlap { OverlapAs (MeansText held.0) (MeansText held.1) most_states output.old
         (record { bytes = output.new; written = written.new }) result }
 {
-    overlap_of_sets(
+    overlap_held(
         alloc,
         &*(first as *const HeldSet),
         &*(second as *const HeldSet),
@@ -171,7 +172,7 @@ pub unsafe extern "C" fn wax_set_difference(
     ensures difference { DifferenceAs (MeansText held.0) (MeansText held.1) most_states output.old
         (record { bytes = output.new; written = written.new }) result }
 {
-    difference_of_sets(
+    difference_held(
         alloc,
         &*(first as *const HeldSet),
         &*(second as *const HeldSet),
@@ -204,7 +205,7 @@ pub unsafe extern "C" fn wax_set_compare(
     ensures comparison { CompareAs (MeansText held.0) (MeansText held.1) most_states output.old
         (record { bytes = output.new; written = written.new }) result }
 {
-    comparison_of_sets(
+    comparison_held(
         alloc,
         &*(first as *const HeldSet),
         &*(second as *const HeldSet),
@@ -237,7 +238,7 @@ pub unsafe extern "C" fn wax_ignore_overlap(
     ensures overlap { OverlapAs (Ignores held.0) (Ignores held.1) most_states output.old
         (record { bytes = output.new; written = written.new }) result }
 {
-    overlap_of_lists(
+    overlap_held(
         alloc,
         &*(first as *const IgnoreList),
         &*(second as *const IgnoreList),
@@ -270,7 +271,7 @@ pub unsafe extern "C" fn wax_ignore_difference(
     ensures difference { DifferenceAs (Ignores held.0) (Ignores held.1) most_states output.old
         (record { bytes = output.new; written = written.new }) result }
 {
-    difference_of_lists(
+    difference_held(
         alloc,
         &*(first as *const IgnoreList),
         &*(second as *const IgnoreList),
@@ -303,7 +304,7 @@ pub unsafe extern "C" fn wax_ignore_compare(
     ensures comparison { CompareAs (Ignores held.0) (Ignores held.1) most_states output.old
         (record { bytes = output.new; written = written.new }) result }
 {
-    comparison_of_lists(
+    comparison_held(
         alloc,
         &*(first as *const IgnoreList),
         &*(second as *const IgnoreList),
@@ -313,147 +314,15 @@ pub unsafe extern "C" fn wax_ignore_compare(
     )
 }
 
-fn overlap_of_globs(
+fn overlap_held<H: Compared>(
     alloc: Global,
-    first: &HeldGlob,
-    second: &HeldGlob,
+    first: &H,
+    second: &H,
     most_states: usize,
     output: &mut [u8],
     written: &mut usize,
 ) -> i32
-    ensures { OverlapAs (IsMeant first.now.matcher) (IsMeant second.now.matcher) most_states output.old
-        (record { bytes = output.new; written = written.new }) result }
-{
-    number_of_finding(write_found(
-        alloc,
-        first.matcher.glob(),
-        second.matcher.glob(),
-        Asked::Both,
-        most_states,
-        output,
-        written,
-    ))
-}
-
-fn difference_of_globs(
-    alloc: Global,
-    first: &HeldGlob,
-    second: &HeldGlob,
-    most_states: usize,
-    output: &mut [u8],
-    written: &mut usize,
-) -> i32
-    ensures { DifferenceAs (IsMeant first.now.matcher) (IsMeant second.now.matcher) most_states output.old
-        (record { bytes = output.new; written = written.new }) result }
-{
-    number_of_finding(write_found(
-        alloc,
-        first.matcher.glob(),
-        second.matcher.glob(),
-        Asked::FirstOnly,
-        most_states,
-        output,
-        written,
-    ))
-}
-
-fn comparison_of_globs(
-    alloc: Global,
-    first: &HeldGlob,
-    second: &HeldGlob,
-    most_states: usize,
-    output: &mut [u8],
-    written: &mut usize,
-) -> i32
-    ensures { CompareAs (IsMeant first.now.matcher) (IsMeant second.now.matcher) most_states output.old
-        (record { bytes = output.new; written = written.new }) result }
-{
-    number_of_finding(write_found(
-        alloc,
-        first.matcher.glob(),
-        second.matcher.glob(),
-        Asked::OneOnly,
-        most_states,
-        output,
-        written,
-    ))
-}
-
-fn overlap_of_sets(
-    alloc: Global,
-    first: &HeldSet,
-    second: &HeldSet,
-    most_states: usize,
-    output: &mut [u8],
-    written: &mut usize,
-) -> i32
-    ensures { OverlapAs (MeansText first.now.matcher) (MeansText second.now.matcher) most_states output.old
-        (record { bytes = output.new; written = written.new }) result }
-{
-    number_of_finding(write_found(
-        alloc,
-        first.matcher.any(),
-        second.matcher.any(),
-        Asked::Both,
-        most_states,
-        output,
-        written,
-    ))
-}
-
-fn difference_of_sets(
-    alloc: Global,
-    first: &HeldSet,
-    second: &HeldSet,
-    most_states: usize,
-    output: &mut [u8],
-    written: &mut usize,
-) -> i32
-    ensures { DifferenceAs (MeansText first.now.matcher) (MeansText second.now.matcher) most_states output.old
-        (record { bytes = output.new; written = written.new }) result }
-{
-    number_of_finding(write_found(
-        alloc,
-        first.matcher.any(),
-        second.matcher.any(),
-        Asked::FirstOnly,
-        most_states,
-        output,
-        written,
-    ))
-}
-
-fn comparison_of_sets(
-    alloc: Global,
-    first: &HeldSet,
-    second: &HeldSet,
-    most_states: usize,
-    output: &mut [u8],
-    written: &mut usize,
-) -> i32
-    ensures { CompareAs (MeansText first.now.matcher) (MeansText second.now.matcher) most_states output.old
-        (record { bytes = output.new; written = written.new }) result }
-{
-    number_of_finding(write_found(
-        alloc,
-        first.matcher.any(),
-        second.matcher.any(),
-        Asked::OneOnly,
-        most_states,
-        output,
-        written,
-    ))
-}
-
-fn overlap_of_lists(
-    alloc: Global,
-    first: &IgnoreList,
-    second: &IgnoreList,
-    most_states: usize,
-    output: &mut [u8],
-    written: &mut usize,
-) -> i32
-    ensures { OverlapAs (Ignores first.now) (Ignores second.now) most_states output.old
+    ensures { OverlapAs (H.selects first.now) (H.selects second.now) most_states output.old
         (record { bytes = output.new; written = written.new }) result }
 {
     number_of_finding(write_found(
@@ -467,15 +336,15 @@ fn overlap_of_lists(
     ))
 }
 
-fn difference_of_lists(
+fn difference_held<H: Compared>(
     alloc: Global,
-    first: &IgnoreList,
-    second: &IgnoreList,
+    first: &H,
+    second: &H,
     most_states: usize,
     output: &mut [u8],
     written: &mut usize,
 ) -> i32
-    ensures { DifferenceAs (Ignores first.now) (Ignores second.now) most_states output.old
+    ensures { DifferenceAs (H.selects first.now) (H.selects second.now) most_states output.old
         (record { bytes = output.new; written = written.new }) result }
 {
     number_of_finding(write_found(
@@ -489,15 +358,15 @@ fn difference_of_lists(
     ))
 }
 
-fn comparison_of_lists(
+fn comparison_held<H: Compared>(
     alloc: Global,
-    first: &IgnoreList,
-    second: &IgnoreList,
+    first: &H,
+    second: &H,
     most_states: usize,
     output: &mut [u8],
     written: &mut usize,
 ) -> i32
-    ensures { CompareAs (Ignores first.now) (Ignores second.now) most_states output.old
+    ensures { CompareAs (H.selects first.now) (H.selects second.now) most_states output.old
         (record { bytes = output.new; written = written.new }) result }
 {
     number_of_finding(write_found(

@@ -1,17 +1,25 @@
 //! Handles of globs.
 ghost use Rattle.std.specs.{Prelude.{◌≡◌, None, Option, Some}, Coded.coded_option};
-ghost use Rattle.wax.specs.GlobView.{GlobView, glob_code};
+ghost use Rattle.wax.specs.GlobView.{GlobView, IsMeant, glob_code};
 ghost use denote.RawPtr.{null_ptr};
 
 use crate::loose::Loose;
 use std::alloc::Global;
 use std::marker::Model;
-use wax::OwnedGlobMatcher;
+use wax::{Compared, OwnedGlobMatcher, Selector};
 
 /// What a handle points to: a glob with what calls learned from paths.
 #[derive(Drop)]
 pub struct HeldGlob {
     pub matcher: OwnedGlobMatcher<'static>,
+}
+
+impl Compared for HeldGlob {
+    ghost selects = { λ held. IsMeant held.matcher };
+
+    fn selector(&self) -> Selector<'_> {
+        self.matcher.glob().selector()
+    }
 }
 
 /// A handle: a pointer to a glob that it owns, or a pointer that owns nothing.

@@ -1,17 +1,25 @@
 //! Handles of sets of globs.
 ghost use Rattle.std.specs.{Prelude.{◌≡◌, None, Option, Some}, Coded.coded_option};
-ghost use Rattle.wax.specs.{Language.{Span, Tree}, Matching.any_code};
+ghost use Rattle.wax.specs.{Language.{Span, Tree}, Matching.{MeansText, any_code}};
 ghost use denote.RawPtr.{null_ptr};
 
 use crate::loose::Loose;
 use std::alloc::Global;
 use std::marker::Model;
-use wax::OwnedAnyMatcher;
+use wax::{Compared, OwnedAnyMatcher, Selector};
 
 /// What a handle points to: a set with what calls learned from paths.
 #[derive(Drop)]
 pub struct HeldSet {
     pub matcher: OwnedAnyMatcher<'static>,
+}
+
+impl Compared for HeldSet {
+    ghost selects = { λ held. MeansText held.matcher };
+
+    fn selector(&self) -> Selector<'_> {
+        self.matcher.any().selector()
+    }
 }
 
 /// A handle: a pointer to a set that it owns, or a pointer that owns nothing.

@@ -1,14 +1,19 @@
--- What lies at the handles is lent to `overlap_of_lists`, which gets the other arguments too.
-use Rattle.wax_c.proofs.{Handles.{by_shr, shr_at, list}, Pairs.{follows, passed, searching}}
-use Rattle.wax_c.proofs.{compared.overlap_of_lists.Met.met, compared.wax_ignore_overlap.Statement.statement}
-use Rattle.wax_c.specs.{Comparing.OverlapAs, ListHandles.Ignores}
+-- What lies at the handles is lent to `overlap_held`, which gets the other arguments too.
+use Rattle.std.proofs.Common.{refl}
+use Rattle.wax_c.proofs.Generic.{follows_generic, passed_generic, type_argument, type_argument_laws}
+use Rattle.wax_c.proofs.{Handles.{shr_at, list}, compared.overlap_held.Met.met}
+use Rattle.wax_c.proofs.compared.wax_ignore_overlap.Statement.{statement}
+use Rattle.wax_c.specs.{ListHandles.Ignores, Comparing.OverlapAs}
+use Rattle.wax.specs.contracts.ignoring.IgnoreListCompared.TheImpl.{ghosts, dict}
 use Rattle.wax_c.proofs.compared.wax_ignore_overlap.Code as code
+use Rattle.wax.proofs.ignoring.IgnoreListCompared.TheImpl.Met as selected
 
 pub wax_ignore_overlap_spec : {M : Type 1} → statement M
-wax_ignore_overlap_spec 𝓤 𝓛 𝓜 𝓡 wired =
-    follows searching list list (λ κs g g' n t e r.
+wax_ignore_overlap_spec {M} 𝓤 𝓛 𝓜 𝓡 wired =
+    follows_generic list (λ κs g g' n t e r.
     OverlapAs (Ignores g) (Ignores g') n t.0.now (record { bytes = e.0.now; written = e.1.0.now }) r)
-    𝓤 𝓛 𝓜 𝓡 (by_shr 𝓛 list) (by_shr 𝓛 list) _ _ (code.unfolded 𝓤 𝓛.H 𝓜 𝓡 wired)
-    (λ κs qs x n t g b o α γ b' o' α' γ'.
-    met 𝓤 𝓛 𝓜 𝓡 (code.calls-wax_c::compared::overlap_of_lists 𝓡.env wired)
-    (passed searching κs qs x n t (shr_at list b o g.0) b o α (shr_at list b' o' g.1) b' o' α'))
+    𝓤 𝓛 𝓜 𝓡 _ _ (code.unfolded 𝓤 𝓛.H 𝓜 𝓡 wired) (λ κs qs x n t g b o α γ b' o' α' γ'.
+    met 𝓤 𝓛 𝓜 𝓡 (code.calls-wax_c::compared::overlap_held 𝓡.env wired) (type_argument list)
+    (type_argument_laws list refl) ghosts dict
+    (selected.passed 𝓡.env (code.calls-wax::ignoring::IgnoreListCompared::selector 𝓡.env wired) M 𝓤 𝓛 𝓜 𝓡)
+    (passed_generic κs qs x n t (shr_at list b o g.0) b o α (shr_at list b' o' g.1) b' o' α'))
