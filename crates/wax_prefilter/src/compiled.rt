@@ -187,13 +187,31 @@ impl CompiledTokens {
     }
 
     /// Returns whether the tokens match something below the folder with this text. Finds the places
-    /// of the program that lead on, in time linear in the program, and as much again for each of the
-    /// loops that lie within one another. For many folders a matcher is faster, which finds them once.
+    /// of the program that lead on, in time linear in the program. For many folders a matcher is faster,
+    /// which finds them once.
     pub fn goes_on(&self, alloc: Global, text: &str) -> Result<bool, NoMemory>
         ensures { IfOk result (λ answer. IsTrue answer ↔ AcceptsBelow self.now.0 None (chars text.now)) }
     {
+        let mut meter = Meter::new();
+        self.goes_on_metered(alloc, text, &mut meter)
+    }
+
+    /// Returns what `goes_on` does. The meter counts the instructions that are read, to find the places
+    /// of the program that lead on, and along the text.
+    pub fn goes_on_metered(
+        &self,
+        alloc: Global,
+        text: &str,
+        meter: &mut Meter,
+    ) -> Result<bool, NoMemory>
+        ensures below { IfOk result
+            (λ answer. IsTrue answer ↔ AcceptsBelow self.now.0 None (chars text.now)) }
+        ensures above { let first = onward_visits self.now.0 None in
+            meter.new ≤ meter.old + first + match_visits self.now.0 (length (chars text.now)) }
+        ensures steady { meter.old ≤ meter.new }
+    {
         let mut matcher = Matcher::new(alloc, &self.program)?;
-        let verdict = matcher.verdict(text, None)?;
+        let verdict = matcher.verdict_metered(text, None, meter)?;
         Ok(verdict.goes_on)
     }
 
