@@ -1,13 +1,14 @@
 -- The program of a list is no longer than those of its globs together, whether they are split or not.
 use Rattle.std.proofs.Common.{◌≡◌, ◌≤◌, ◌<◌, ◌+◌, ◌∙◌, ℕ, Bool, true, false, if◌then◌else◌, List, [], ◌∷◌}
 use Rattle.std.proofs.Common.{◌++◌, ap, arith, get_or, length, map, refl, subst, sym, take}
-use Rattle.std.proofs.{lemmas.List.take_more, lemmas.List.Sums.sum_by-append}
+use Rattle.std.proofs.{lemmas.List.take_more, lemmas.List.Sums.{sum_by-append, sum_by-cons}}
 use Rattle.wax_exclude.proofs.Costs.{one_copy}
-use Rattle.wax_exclude.specs.{Ignored.Line, Length.list_length, declared.split.SplitLine.SplitLine}
+use Rattle.wax_exclude.specs.{Ignored.Line, Length.{alternatives_length, list_length}}
+use Rattle.wax_exclude.specs.declared.split.SplitLine.{SplitLine}
 use Rattle.wax_exclude.specs.declared.numbers.NumberedLines.{NumberedLines}
 use Rattle.wax_exclude.specs.inner.Numbers.{KnowsLines, alternatives_cost, split_length}
 use Rattle.wax_exclude.specs.inner.Split.{split_of}
-use Rattle.wax_facts.specs.Alternatives.{beside, is_exactly_one, joined, levels, levels_each}
+use Rattle.wax_facts.specs.Alternatives.{alternatives, beside, is_exactly_one, joined, levels, levels_each}
 use Rattle.wax_lazy.proofs.Costs.{path_within}
 use Rattle.wax_lazy.specs.Cost.{list_visits, match_visits, path_visits}
 use Rattle.wax_match.specs.{Numbered.numbered_length, declared.encode.ends.Numbered.Numbered}
@@ -53,6 +54,20 @@ mutual
   each_cost : (ts : Trees Span) → alternatives_cost (joined (levels_each ts)) ≤ branches_cost ts
   each_cost none = omega arith
   each_cost (more t ts) = omega (arith, levels_cost t, each_cost ts, beside_cost (levels t) (levels_each ts))
+
+-- ---- patterns
+counted_alike : (ts : List (Tree Span)) → alternatives_length ts ≡ alternatives_cost ts + 2
+counted_alike [] = omega arith
+counted_alike (t ∷ ts) = omega (
+  arith,
+  counted_alike ts,
+  sum_by-cons (λ u. program_length u + 1) t ts,
+  sum_by-cons (λ u. cost u + 2) t ts,
+)
+
+-- the program of a pattern is nearly as long as those of its alternatives together
+pub alternatives_shorter : (t : Tree Span) → alternatives_length (alternatives t) ≤ program_length t + 3
+alternatives_shorter t = omega (arith, counted_alike (alternatives t), levels_cost t)
 
 -- ---- lines
 pub split_shorter : (lines : List (Line Span)) → split_length (map split_of lines) < list_length lines
@@ -126,3 +141,17 @@ lines_within lines numbered text path old new knows same h =
     subst (λ n. new ≤ old + path_visits (list_length lines) n + list_length lines) (ap length same)
     (list_within numbered.matcher (list_length lines) (omega (arith, fits, split_shorter lines))
     (length text) old new h)
+
+-- of a pattern with these alternatives
+pub alternatives_within : (ts : List (Tree Span)) (line : Line Span) (numbered : NumberedLines)
+    → alternatives line.glob ≡ ts → (text path : List ℕ) (old new : ℕ)
+    → KnowsLines (split_of line ∷ []) numbered → text ≡ path
+    → new ≤ old + list_visits numbered.matcher (length text)
+    → new ≤ old + path_visits (alternatives_length ts) (length path) + alternatives_length ts
+alternatives_within ts line numbered is text path old new knows same h =
+    let fits = knows.fits in
+    let same_cost : alternatives_cost (alternatives line.glob) ≡ alternatives_cost ts =
+    ap alternatives_cost is in
+    subst (λ n. new ≤ old + path_visits (alternatives_length ts) n + alternatives_length ts) (ap length same)
+    (list_within numbered.matcher (alternatives_length ts)
+    (omega (arith, fits, same_cost, counted_alike ts)) (length text) old new h)

@@ -1,10 +1,12 @@
 //! Patterns that are excluded from a walk.
-ghost use Rattle.std.specs.Prelude.{◌≡◌, ◌↔◌, ◌<◌, ◌≤◌, ℕ, IfOk, IsTrue, List, false};
+ghost use Rattle.std.specs.Prelude.{◌≡◌, ◌↔◌, ◌<◌, ◌≤◌, ◌+◌, ℕ, IfOk, IsTrue, List, false, length};
 ghost use Rattle.wax_facts.specs.Alternatives.{alternatives};
 ghost use Rattle.wax_query.specs.{Outcome.MatchBuild, Below.IsBelow};
 ghost use Rattle.wax_token.specs.{Cost.program_length, Meaning.{Means, MeansSome}, Words.{members, trees}};
 ghost use Rattle.wax_exclude.specs.Candidates.{NoSlashAfterNames, folder_at};
 ghost use Rattle.wax_exclude.specs.Covers.{CoversSome, ends_wild, is_everything, is_unrooted};
+ghost use Rattle.wax_exclude.specs.Length.{alternatives_length};
+ghost use Rattle.wax_lazy.specs.Cost.{path_visits};
 ghost use Rattle.wax_walk.specs.Given.{with_tree};
 
 use crate::folders::{folder_candidate, is_tree};
@@ -80,6 +82,7 @@ impl Exclusion {
         ensures says { IfOk result (λ e. ⟦<Exclusion as Exclude>⟧.rule e ≡ not_mark pattern.entry) }
         ensures fits { MatchBuild result (λ _. program_length pattern.entry ≤ 1048576)
             (λ _. 1048576 < program_length pattern.entry) }
+        ensures length { IfOk result (λ e. alternatives_length e ≤ program_length pattern.entry + 3) }
     {
         let line = match IgnoreLine::new(true, pattern) {
             Ok(line) => line,
@@ -118,9 +121,33 @@ impl Exclusion {
             → IsBelow path.now s → MeansSome (trees self.now) false false s) }
     {
         let mut meter = Meter::new();
+        self.excludes_below_metered(alloc, path, &mut meter)
+    }
+
+    /// Returns what `excludes_below` does, and moves the meter by the number of instructions that the
+    /// pattern's program visits: at most its length for each character and once more at the end, or nine
+    /// times that if its length exceeds 256; and at the end at most its length once more.
+    ///
+    /// The length of the program is at most that of the programs of all alternatives together, with 1 more
+    /// for each, and 2. That is at most 3 more than the length of the program of the whole pattern.
+    pub fn excludes_below_metered(
+        &self,
+        alloc: Global,
+        path: &CandidatePath<'_>,
+        meter: &mut Meter,
+    ) -> Result<bool, NoMemory>
+        ensures says { IfOk result (λ answer. IsTrue answer
+            ↔ (⟦<Exclusion as Exclude>⟧.rule self.now (folder_at path.now) ≡ with_tree)) }
+        ensures covers { IfOk result (λ answer. IsTrue answer ↔ CoversSome self.now (folder_at path.now)) }
+        ensures below { NoSlashAfterNames path.now → IfOk result (λ answer. IsTrue answer → (s : List ℕ)
+            → IsBelow path.now s → MeansSome (trees self.now) false false s) }
+        ensures above { let size = alternatives_length self.now in
+            meter.new ≤ meter.old + path_visits size (length path.now) + size }
+        ensures steady { meter.old ≤ meter.new }
+    {
         let residue = self
             .numbered
-            .residue_once(alloc, folder_candidate(path), &mut meter)?;
+            .residue_once(alloc, folder_candidate(path), meter)?;
         Ok(is_tree(residue))
     }
 }

@@ -1,10 +1,10 @@
-use Rattle.std.proofs.Common.{◌≡◌, ◌∙◌, ◌↔◌, ◌∷◌, [], IsTrue, ap}
+use Rattle.std.proofs.Common.{◌≡◌, ◌∙◌, ◌↔◌, ◌∷◌, [], IsTrue, ap, chars}
 use Rattle.wax_walk.specs.{Candidates.in_characters, Said.mark_of}
 use Rattle.wax_exclude.proofs.Covered.{answers_covers, answers_excluded, covers_some_means}
-use Rattle.wax_exclude.proofs.Excluding.{only_line}
+use Rattle.wax_exclude.proofs.{Excluding.only_line, ListLengths.alternatives_within}
 use Rattle.wax_exclude.specs.{Candidates.folder_at, Covers.CoversSome, Excluded.excluded_mark}
 use Rattle.wax_exclude.specs.inner.Split.{split_of}
-use Rattle.wax_exclude.proofs.exclusions.Exclusion.excludes_below.Goals as goal
+use Rattle.wax_exclude.proofs.exclusions.Exclusion.excludes_below_metered.Goals as goal
 
 pub residue_once-requires : goal.residue_once-requires
 residue_once-requires c = c.self.invariant.lines.closed
@@ -38,3 +38,15 @@ returns-clause-covers c = answers c
 pub returns-clause-below : goal.returns-clause-below
 returns-clause-below c = λ ends yes s below.
     covers_some_means c.args.path.now s ends below c.args.self.now ((answers c).0 yes)
+
+pub returns-in_err-residue-clause-above : goal.returns-in_err-residue-clause-above
+returns-in_err-residue-clause-above c =
+    alternatives_within c.args.self.now c.self.inside.line c.self.inside.numbered c.self.view_is
+    (chars c.folder_candidate.result.path.now) c.args.path.now c.args.meter.now c.residue_once.new.meter
+    c.self.invariant.lines c.folder_candidate.ensures.text c.residue_once.ensures.above
+
+pub returns-clause-above : goal.returns-clause-above
+returns-clause-above c =
+    alternatives_within c.args.self.now c.self.inside.line c.self.inside.numbered c.self.view_is
+    (chars c.folder_candidate.result.path.now) c.args.path.now c.args.meter.now c.residue_once.new.meter
+    c.self.invariant.lines c.folder_candidate.ensures.text c.residue_once.ensures.above
