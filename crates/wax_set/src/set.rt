@@ -1,8 +1,8 @@
 //! Sets of patterns: the alternation of their tokens, compiled, and a program that says which of them match.
 ghost use Rattle.std.specs.Prelude.{◌≡◌, ◌≤◌, ◌<◌, ◌↔◌, ◌+◌, ◌*◌, ◌++◌, ◌∷◌, ℕ, List, IsTrue, chars, false};
-ghost use Rattle.std.specs.Prelude.{[], IfOk, IfSome, MatchOption, Some, codes, length, min};
+ghost use Rattle.std.specs.Prelude.{[], IfOk, IfSome, MatchOption, None, Some, codes, length, min};
 ghost use Rattle.wax_program.specs.{Closed.IsClosed, Machine.{Accepts, mark}, Meter.most_ticks};
-ghost use Rattle.wax_lazy.specs.Cost.{path_visits};
+ghost use Rattle.wax_lazy.specs.Cost.{first_visits, path_visits};
 ghost use Rattle.wax_query.specs.{Components.{Bare, BeginsWithSlash, component_total}, Outcome.MatchBuild};
 ghost use Rattle.wax_query.specs.{Ranges.{AtMost, bounds}, Variances.text_of};
 ghost use Rattle.wax_query.specs.declared.query.when.When.TheVariants.{Always};
@@ -232,13 +232,29 @@ impl Any<'_> {
     }
 
     /// Returns whether something below the folder with this path can match: whether one of the
-    /// patterns matches the path of something below it. Takes time linear in the set's program, and as
-    /// much again for each of the loops that lie within one another. For many folders
-    /// `AnyMatcher::goes_on` is faster.
+    /// patterns matches the path of something below it. Takes time in proportion to the set's program,
+    /// for each character and to find what leads on. For many folders `AnyMatcher::goes_on` is faster.
     pub fn goes_on(&self, alloc: Global, path: &CandidatePath<'_>) -> Result<bool, NoMemory>
         ensures { IfOk result (λ answer. IsTrue answer ↔ MeansBelow self.now path.now) }
     {
-        self.compiled.goes_on(alloc, path.as_str())
+        let mut meter = Meter::new();
+        self.goes_on_metered(alloc, path, &mut meter)
+    }
+
+    /// Returns what `goes_on` does, and moves the meter by the number of instructions that are visited to
+    /// find what leads on, and along the path. Its bound is that of `AnyMatcher::verdict_metered`.
+    pub fn goes_on_metered(
+        &self,
+        alloc: Global,
+        path: &CandidatePath<'_>,
+        meter: &mut Meter,
+    ) -> Result<bool, NoMemory>
+        ensures below { IfOk result (λ answer. IsTrue answer ↔ MeansBelow self.now path.now) }
+        ensures above { let size = program_length self.now in
+            meter.new ≤ meter.old + first_visits size None + path_visits size (length path.now) }
+        ensures steady { meter.old ≤ meter.new }
+    {
+        self.compiled.goes_on_metered(alloc, path.as_str(), meter)
     }
 
     /// Returns `false` only if no pattern matches the path, by a quick test. It doesn't allocate.
