@@ -1,6 +1,7 @@
 -- Patterns that are excluded from walks.
-use Rattle.std.specs.Prelude.{◌≡◌, ◌<◌, ◌≤◌, ◌⊎◌, false, List, map}
-use Rattle.wax_exclude.specs.{GlobRequests.IsRuleOf, Marks.not_mark, Wanted.not_meant}
+use Rattle.std.specs.Prelude.{◌≡◌, ◌<◌, ◌≤◌, ◌⊎◌, false, ℕ, List, map}
+use Rattle.wax_exclude.specs.{GlobRequests.IsRuleOf, Length.{alternatives_length, list_length}}
+use Rattle.wax_exclude.specs.{Marks.not_mark, Wanted.not_meant}
 use Rattle.wax_token.specs.{Cost.program_length, Reads.Span, Syntax.Tree}
 use Rattle.wax_walk.specs.{Candidates.Candidate, Given.Mark, Ruled.ruled_view, View.{IsSeenAs, WalkView}}
 use Rattle.wax_tree.specs.Programs.{any_mark}
@@ -56,3 +57,8 @@ abbrev pub rule_by : (List (Tree Span) → Candidate → Mark) → (IgnoreList �
     → Candidate → Mark
 rule_by not_rule ignore_rule (Not alternatives) = not_rule alternatives
 rule_by not_rule ignore_rule (Ignore list) = ignore_rule list
+
+-- how long the program of a filter may be
+abbrev pub filter_length : WalkFilter → ℕ
+filter_length (Not alternatives) = alternatives_length alternatives
+filter_length (Ignore list) = list_length list

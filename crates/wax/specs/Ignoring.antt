@@ -11,7 +11,8 @@ use Rattle.wax_rule.specs.{Expressions.{Refuses, Spells}, declared.error.build_e
 pub use Rattle.wax_exclude.specs.Deciding.{DecidingLineDecides, IsDecidingLine, IsLastMatch, LastMatchDecides}
 pub use Rattle.wax_exclude.specs.Deciding.{SaysLines, ignores_at, ignores_if}
 pub use Rattle.wax_exclude.specs.Ignored.{IgnoresBelow, Line, ignore_mark, is_ignored}
-pub use Rattle.wax_exclude.specs.{Kept.{KeepsUnignored, PlainRequest, unignored_request}, Length.list_length}
+pub use Rattle.wax_exclude.specs.Kept.{KeepsUnignored, PlainRequest, unignored_request}
+pub use Rattle.wax_exclude.specs.Length.{alternatives_length, list_length}
 pub use Rattle.wax_exclude.specs.{Lines.{written_lines, written_of}, Unignored.{GivesUnignored, LosesIgnored}}
 use Rattle.wax_rule.specs.declared.error.build_error.BuildError.TheVariants as build
 

@@ -1,6 +1,8 @@
 //! Globs: an expression with its tokens, what they are compiled to, and the pieces by which it captures.
 ghost use Rattle.std.specs.Prelude.{◌≡◌, ◌<◌, ◌≤◌, ◌↔◌, ◌+◌, ◌*◌, ◌++◌, ◌∷◌, [], ℕ, List, IsTrue, IfOk};
-ghost use Rattle.std.specs.Prelude.{IfSome, MatchOption, Some, chars, encode_utf8_all, length, false, min};
+ghost use Rattle.std.specs.Prelude.{IfSome, MatchOption, None, Some, chars, encode_utf8_all, length, false};
+ghost use Rattle.std.specs.Prelude.{min};
+ghost use Rattle.wax_lazy.specs.Cost.{first_visits, path_visits};
 ghost use Rattle.wax_program.specs.Meter.{most_ticks};
 ghost use Rattle.wax_query.specs.Components.{Bare, BeginsWithSlash, component_total};
 ghost use Rattle.wax_query.specs.{Ranges.{AtMost, bounds}, Variances.text_of};
@@ -252,12 +254,29 @@ impl<'t> Glob<'t> {
     /// }
     /// ```
     ///
-    /// Takes time linear in the program, and as much again for each of the loops that lie within one
-    /// another. For many folders `GlobMatcher::goes_on` is faster.
+    /// Takes time in proportion to the program, for each character and to find what leads on. For many
+    /// folders `GlobMatcher::goes_on` is faster.
     pub fn goes_on(&self, alloc: Global, path: &CandidatePath<'_>) -> Result<bool, NoMemory>
         ensures { IfOk result (λ answer. IsTrue answer ↔ MeansBelow self.now.tree path.now) }
     {
-        self.compiled.goes_on(alloc, path.as_str())
+        let mut meter = Meter::new();
+        self.goes_on_metered(alloc, path, &mut meter)
+    }
+
+    /// Returns what `goes_on` does, and moves the meter by the number of instructions that are visited to
+    /// find what leads on, and along the path. Its bound is that of `GlobMatcher::verdict_metered`.
+    pub fn goes_on_metered(
+        &self,
+        alloc: Global,
+        path: &CandidatePath<'_>,
+        meter: &mut Meter,
+    ) -> Result<bool, NoMemory>
+        ensures below { IfOk result (λ answer. IsTrue answer ↔ MeansBelow self.now.tree path.now) }
+        ensures above { let size = program_length self.now.tree in
+            meter.new ≤ meter.old + first_visits size None + path_visits size (length path.now) }
+        ensures steady { meter.old ≤ meter.new }
+    {
+        self.compiled.goes_on_metered(alloc, path.as_str(), meter)
     }
 }
 

@@ -1,16 +1,18 @@
 //! Filters of walks: patterns and ignore lists.
-ghost use Rattle.std.specs.Prelude.{◌≡◌, ◌↔◌, ℕ, IfOk, IsTrue, List, MatchResult, true};
+ghost use Rattle.std.specs.Prelude.{◌≡◌, ◌↔◌, ◌≤◌, ◌+◌, ℕ, IfOk, IsTrue, List, MatchResult, length, true};
 ghost use Rattle.wax_exclude.specs.{Candidates.{NoSlashAfterNames, folder_at}, GlobRequests.IsRuleOf};
 ghost use Rattle.wax_exclude.specs.{Walked.ExcludesBelow, Wanted.{Filter, excludes, not_ignored}};
+ghost use Rattle.wax_lazy.specs.Cost.{path_visits};
 ghost use Rattle.wax_query.specs.Below.{IsBelow};
 ghost use Rattle.wax_token.specs.Reads.{Span};
 ghost use Rattle.wax_walk.specs.Given.{with_tree};
-ghost use Rattle.wax.specs.Exclusions.{IsNotRule, NoExclusion};
+ghost use Rattle.wax.specs.Exclusions.{IsNotRule, NoExclusion, filter_length};
 
 use crate::exclusions::exclusion_of;
 use crate::ignoring::IgnoreList;
 use std::alloc::Global;
 use wax_exclude::Exclusion;
+use wax_match::encode::Meter;
 use wax_query::diagnostics::NoMemory;
 use wax_query::matching::CandidatePath;
 use wax_rule::BuildError;
@@ -70,9 +72,33 @@ impl WalkFilter {
             → IsRuleOf x (⟦<WalkFilter as Exclude>⟧.rule self.now) → IsTrue answer → (s : List ℕ)
             → IsBelow path.now s → excludes x s ≡ true) }
     {
+        let mut meter = Meter::new();
+        self.excludes_below_metered(alloc, path, &mut meter)
+    }
+
+    /// Returns what `excludes_below` does, and moves the meter as `Exclusion::excludes_below_metered` or
+    /// `IgnoreList::ignores_below_metered` does.
+    pub fn excludes_below_metered(
+        &self,
+        alloc: Global,
+        path: &CandidatePath<'_>,
+        meter: &mut Meter,
+    ) -> Result<bool, NoMemory>
+        ensures says { IfOk result (λ answer. IsTrue answer
+            ↔ (⟦<WalkFilter as Exclude>⟧.rule self.now (folder_at path.now) ≡ with_tree)) }
+        ensures covers { IfOk result (λ answer. (x : Filter Span)
+            → IsRuleOf x (⟦<WalkFilter as Exclude>⟧.rule self.now)
+            → IsTrue answer ↔ ExcludesBelow x (folder_at path.now)) }
+        ensures below { NoSlashAfterNames path.now → IfOk result (λ answer. (x : Filter Span)
+            → IsRuleOf x (⟦<WalkFilter as Exclude>⟧.rule self.now) → IsTrue answer → (s : List ℕ)
+            → IsBelow path.now s → excludes x s ≡ true) }
+        ensures above { let size = filter_length self.now in
+            meter.new ≤ meter.old + path_visits size (length path.now) + size }
+        ensures steady { meter.old ≤ meter.new }
+    {
         match self {
-            WalkFilter::Not(exclusion) => exclusion.excludes_below(alloc, path),
-            WalkFilter::Ignore(list) => list.ignores_below(alloc, path),
+            WalkFilter::Not(exclusion) => exclusion.excludes_below_metered(alloc, path, meter),
+            WalkFilter::Ignore(list) => list.ignores_below_metered(alloc, path, meter),
         }
     }
 }

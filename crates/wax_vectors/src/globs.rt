@@ -42,6 +42,7 @@ fn of_glob(
         GlobFact::Matcher => add_answers(alloc, glob, row.input(1), made),
         GlobFact::Visits => add_visits(alloc, glob, row, made),
         GlobFact::Metered => add_metered(alloc, glob, row, made),
+        GlobFact::MeteredGoesOn => add_metered_goes_on(alloc, glob, row, made),
         GlobFact::MeteredMatcher => add_metered_matcher(alloc, glob, row, made),
         GlobFact::GoesOn => add_goes_on(alloc, glob, row.input(1), made),
         GlobFact::Verdicts => add_verdicts(alloc, glob, row.input(1), made),
@@ -215,6 +216,19 @@ fn add_metered(
     Ok(())
 }
 
+fn add_metered_goes_on(
+    alloc: Global,
+    glob: &Glob<'_>,
+    row: &DataRow,
+    made: &mut Answer,
+) -> Result<(), NoMemory> {
+    let mut meter = Meter::new();
+    let path = CandidatePath::from(row.input(1));
+    let goes_on = glob.goes_on_metered(alloc, &path, &mut meter)?;
+    add_visited(goes_on, meter.ticks(), row.input(2), made);
+    Ok(())
+}
+
 /// Adds what a matcher says of a path, and then of the same path again: whether the path matches, by
 /// `is_match` and by `verdict`, and whether the visits are within bounds.
 fn add_metered_matcher(
@@ -238,17 +252,17 @@ fn add_metered_matcher(
     Ok(())
 }
 
-/// Adds whether a path matched, and whether the meter moved within bounds.
-pub fn add_moved(is_match: bool, meter: &Meter, bounds: &str, made: &mut Answer) {
-    made.digit(is_match);
+/// Adds what was decided about a path, and whether the meter moved within bounds.
+pub fn add_moved(answer: bool, meter: &Meter, bounds: &str, made: &mut Answer) {
+    made.digit(answer);
     made.add(" ");
     made.within(meter.ticks(), bounds);
     made.add(";");
 }
 
-/// Adds whether a path matched, and whether the number of visits is within bounds.
-pub fn add_visited(is_match: bool, visits: u128, bounds: &str, made: &mut Answer) {
-    made.digit(is_match);
+/// Adds what was decided about a path, and whether the number of visits is within bounds.
+pub fn add_visited(answer: bool, visits: u128, bounds: &str, made: &mut Answer) {
+    made.digit(answer);
     made.tab();
     made.within(visits, bounds);
 }

@@ -20,6 +20,8 @@ pub enum Kind {
     Idle,
     ExcludedBelow,
     IgnoredBelow,
+    MeteredExcludedBelow,
+    MeteredIgnoredBelow,
     Unignored,
     Unknown,
 }
@@ -38,6 +40,7 @@ pub enum SetFact {
     Matches,
     Verdicts,
     Metered,
+    MeteredGoesOn,
     Conflicts,
     Facts,
     Length,
@@ -70,6 +73,7 @@ pub enum GlobFact {
     MatchTwice,
     Visits,
     Metered,
+    MeteredGoesOn,
     MeteredMatcher,
     GoesOn,
     Verdicts,
@@ -130,6 +134,7 @@ static KINDS: &[(&str, usize, Kind)] = &[
     ("match_twice", 2, Kind::Glob(GlobFact::MatchTwice)),
     ("visits", 3, Kind::Glob(GlobFact::Visits)),
     ("metered", 3, Kind::Glob(GlobFact::Metered)),
+    ("metered_goes_on", 3, Kind::Glob(GlobFact::MeteredGoesOn)),
     ("metered_matcher", 4, Kind::Glob(GlobFact::MeteredMatcher)),
     ("goes_on", 2, Kind::Glob(GlobFact::GoesOn)),
     ("verdicts", 2, Kind::Glob(GlobFact::Verdicts)),
@@ -163,6 +168,7 @@ static KINDS: &[(&str, usize, Kind)] = &[
     ("sets_is_match", 2, Kind::Set(SetFact::SetsIsMatch)),
     ("set_matcher", 2, Kind::Set(SetFact::Matcher)),
     ("set_metered", 3, Kind::Set(SetFact::Metered)),
+    ("set_metered_goes_on", 3, Kind::Set(SetFact::MeteredGoesOn)),
     ("set_goes_on", 2, Kind::Set(SetFact::GoesOn)),
     ("set_matches", 2, Kind::Set(SetFact::Matches)),
     ("set_verdicts", 2, Kind::Set(SetFact::Verdicts)),
@@ -183,6 +189,8 @@ static KINDS: &[(&str, usize, Kind)] = &[
     ("idle", 2, Kind::Idle),
     ("excluded_below", 2, Kind::ExcludedBelow),
     ("ignored_below", 2, Kind::IgnoredBelow),
+    ("metered_excluded_below", 3, Kind::MeteredExcludedBelow),
+    ("metered_ignored_below", 3, Kind::MeteredIgnoredBelow),
     ("filter_unignored", 3, Kind::Unignored),
 ];
 
@@ -205,6 +213,8 @@ impl RowKind for Kind {
             Kind::Idle => comparisons::add_idle(alloc, row, made),
             Kind::ExcludedBelow => belows::add_excluded(alloc, text, row.input(1), made),
             Kind::IgnoredBelow => belows::add_ignored(alloc, text, row.input(1), made),
+            Kind::MeteredExcludedBelow => belows::add_excluded_metered(alloc, row, made),
+            Kind::MeteredIgnoredBelow => belows::add_ignored_metered(alloc, row, made),
             Kind::Unignored => lines::add_unignored(alloc, row, made),
             Kind::Unknown => {
                 made.add("no such kind");

@@ -49,6 +49,7 @@ fn built(alloc: Global, fact: SetFact, patterns: &str) -> Result<Set, BuildError
         | SetFact::Matches
         | SetFact::Verdicts
         | SetFact::Metered
+        | SetFact::MeteredGoesOn
         | SetFact::Conflicts
         | SetFact::Facts => set_of(alloc, patterns),
     }
@@ -84,6 +85,7 @@ fn of_set(
             add_visited(is_match, meter.ticks(), row.input(2), made);
             Ok(())
         }
+        SetFact::MeteredGoesOn => add_metered_goes_on(alloc, set, row, made),
         SetFact::Conflicts => comparisons::add_conflicts(alloc, set, row, made),
         SetFact::Empty => add_is_match(alloc, set, row.input(0), made),
         SetFact::Facts => {
@@ -108,6 +110,19 @@ fn add_goes_on(alloc: Global, set: &Set, paths: &str, made: &mut Answer) -> Resu
     for path in paths.split(' ') {
         made.digit(matcher.goes_on(&CandidatePath::from(path))?);
     }
+    Ok(())
+}
+
+fn add_metered_goes_on(
+    alloc: Global,
+    set: &Set,
+    row: &DataRow,
+    made: &mut Answer,
+) -> Result<(), NoMemory> {
+    let mut meter = Meter::new();
+    let path = CandidatePath::from(row.input(1));
+    let goes_on = set.goes_on_metered(alloc, &path, &mut meter)?;
+    add_visited(goes_on, meter.ticks(), row.input(2), made);
     Ok(())
 }
 
